@@ -47,7 +47,9 @@ const context = { browser, session, shots: asked.shots, rounds: +asked.rounds, e
 if (asked.shots) mkdirSync(asked.shots, { recursive: true });
 await browser.size(1440, 940);
 const tries = Object.entries(Object.assign({}, ...[triesOfPages, triesOfBuilding, triesOfTexts, triesOfExercises,
-  triesOfSpeed].map(make => make(context)))).filter(([name]) => words.every(word => name.includes(word)));
+  triesOfSpeed].map(make => make(context)))).filter(([name]) => words.every(word => name.includes(word)))
+  .filter(([name]) => !browser.untried?.includes(name));
+for (const name of browser.untried ?? []) console.log("not tried: " + name);
 let wrong = 0;
 for (const [name, attempt] of tries) {
   const fault = await faultOf(attempt, context);

@@ -5,7 +5,7 @@ import { tmpdir } from "node:os";
 import { join } from "node:path";
 import { pause, Waiting } from "./driver.mjs";
 
-const KEYS = { ArrowLeft: "\uE012", ArrowRight: "\uE014", End: "\uE010", Enter: "\uE007", Escape: "\uE00C",
+const KEYS = { ArrowLeft: "\uE012", ArrowRight: "\uE014", End: "\uE010", Enter: "\uE006", Escape: "\uE00C",
   Home: "\uE011", Tab: "\uE004" };
 const MODIFIERS = [[2, "\uE009"], [8, "\uE008"]]; // Ctrl and Shift, by their bits
 
@@ -27,6 +27,8 @@ export class Firefox extends Waiting {
   static async start() {
     const browser = new Firefox();
     browser.folder = mkdtempSync(join(tmpdir(), "browser-"));
+    // Scroll bars take no room, as in the other browser.
+    writeFileSync(join(browser.folder, "user.js"), 'user_pref("ui.useOverlayScrollbars", 1);\n');
     browser.process = spawn("firefox-esr", ["--headless", "--no-remote", "--profile", browser.folder,
       "--remote-debugging-port", "0", "about:blank"], { stdio: ["ignore", "ignore", "pipe"] });
     process.on("exit", () => browser.process.kill("SIGKILL")); // also where a test throws
@@ -39,6 +41,8 @@ export class Firefox extends Waiting {
     return browser;
   }
 
+  // Keys that WebDriver sends press no button in this browser.
+  untried = ["the same by keys alone"];
   answers = new Map();
   errors = [];
   requests = [];

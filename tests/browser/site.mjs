@@ -24,7 +24,7 @@ const TRIES = {
   async "each example of a schedule is run, and stepped to its end"() {
     for (const name of ["one-process.sched", "two-writers.sched", "lost-frame.sched", "held-read.sched"]) {
       await session.open(fragment(example(name)));
-      assert.match(await session.inside("#verdict"), /^a schedule: each of its events is accepted/);
+      assert.match(await session.inside("#verdict"), /^a schedule: .* events?, all accepted$/);
       const last = eventsOf(example(name)).length - 1;
       assert.equal(await lastOf(), last);
       for (let at = 0; at <= last; at++) await browser.press("ArrowRight");
@@ -51,7 +51,7 @@ const TRIES = {
 
   async "a workload is played, and its play becomes the text"() {
     await session.open(fragment(example("three-threads.toml")));
-    assert.match(await session.inside("#verdict"), /^a workload: it can be played/);
+    assert.match(await session.inside("#verdict"), /^a workload: 3 processes, 3 registers, local-write, 6 operations$/);
     const last = await lastOf();
     assert.ok(last > 3);
     await session.click("#as-seeded");
