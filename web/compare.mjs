@@ -61,9 +61,12 @@ function told(command, text) {
 const isSame = (one, other) => one.status === other.status && one.stdout.equals(other.stdout) &&
   one.stderr.equals(other.stderr);
 
-/** Both refuse a workload, each by a line of its own: the module's reader of workloads has no clause. */
-const areRefused = (text, one, other) => engine.kindOf(new Uint8Array(text)) === "workload" &&
-  [one, other].every(({ status, stdout }) => status === 1 && !stdout.length);
+/**
+ * Both refuse a workload, each by a line of its own: the module's reader of workloads has no clause. `why` alone writes
+ * that line as its answer.
+ */
+const areRefused = (command, text, one, other) => engine.kindOf(new Uint8Array(text)) === "workload" &&
+  [one, other].every(({ status, stdout }) => status === 1 && (command === "why" || !stdout.length));
 
 function compare(command, name, text) {
   const [program_name, ...words] = WORDS[command];
@@ -72,7 +75,7 @@ function compare(command, name, text) {
   if (command === "why") native.stdout = firstLine(native.stdout);
   const own = told(command, text);
   if (isSame(own, native)) tally.same++;
-  else if (areRefused(text, own, native)) tally.refused++;
+  else if (areRefused(command, text, own, native)) tally.refused++;
   else {
     tally.other++;
     console.log(`${command} ${name}: not the same\n  module  ${firstOf(own)}\n  program ${firstOf(native)}`);

@@ -92,6 +92,7 @@ export class Firefox extends Waiting {
     await this.perform({ type: "key", id: "keys", actions: [...down, ...up] });
   }
 
+  /** Clicks at a place of the page, with keys held. */
   async pressAt([x, y], modifiers) {
     const held = MODIFIERS.filter(([bit]) => modifiers & bit).map(([, value]) => value);
     const keys = type => held.map(value => ({ type, value }));

@@ -66,6 +66,7 @@ export function triesOfLesson({ browser, address, shots }) {
       let count = 0;
       for (let number = 1; number <= chapters; number++) {
         await open(number);
+        await beside(browser);
         for (const [shown, printed] of await browser.value(RUN_ALL)) {
           const [command, ...lines] = shown.trimEnd().split("\n");
           assert.ok(isShownAs(printed.trimEnd().split("\n"), lines), `${number}: ${command}\n${printed}`);

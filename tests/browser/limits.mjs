@@ -1,7 +1,7 @@
 // The limits of a run where there is no server: a thread that takes too long is ended, by the clock or by a button, and
 // the next run has a new one. A browser without 64-bit memories is told so.
 import assert from "node:assert/strict";
-import { cpSync, mkdtempSync, readFileSync, rmSync, writeFileSync } from "node:fs";
+import { cpSync, mkdtempSync, readFileSync, readdirSync, rmSync, writeFileSync } from "node:fs";
 import { tmpdir } from "node:os";
 import { join } from "node:path";
 import { example, fragment, serveFolder } from "./session.mjs";
@@ -21,6 +21,29 @@ function narrowed(folder) {
   writeFileSync(path, changed);
   return copy;
 }
+
+const kilobytes = (status, word) => +(new RegExp(`^${word}:\\s+(\\d+)`, "m").exec(status)?.[1] ?? 0);
+
+/** The memory that a process and those below it hold, in megabytes. */
+function heldBy(top) {
+  const all = readdirSync("/proc").filter(name => /^\d+$/.test(name)).flatMap(name => {
+    try {
+      const status = readFileSync(`/proc/${name}/status`, "utf8");
+      return [{ own: +name, parent: kilobytes(status, "PPid"), size: kilobytes(status, "VmRSS") / 1024 }];
+    } catch {
+      return []; // it has ended
+    }
+  });
+  const sum = process => process.size + all.filter(({ parent }) => parent === process.own)
+    .reduce((size, child) => size + sum(child), 0);
+  return sum(all.find(({ own }) => own === top));
+}
+
+const MANY_RUNS = `(async () => {
+  const { ask } = ${SERVER}, answers = new Set();
+  for (let i = 0; i < 10000; i++) answers.add((await ask("data", ${JSON.stringify(example("stale-read.sched"))})).output);
+  return answers.size;
+})()`;
 
 export function triesOfLimits({ browser, session, folder }) {
   return {
@@ -49,6 +72,18 @@ export function triesOfLimits({ browser, session, folder }) {
       assert.match(await session.inside("#output"), /stopped/);
       await session.retype(example("two-writers.sched"));
       assert.match(await session.inside("#verdict"), /^a schedule/);
+    },
+
+    async "a page left open for 30,000 runs holds its memory"() {
+      await session.open();
+      const before = heldBy(browser.process.pid), held = [];
+      for (let i = 0; i < 3; i++) {
+        assert.equal(await browser.value(MANY_RUNS), 1);
+        held.push(heldBy(browser.process.pid));
+      }
+      // A run of these takes some 40 KB that aren't lent again: an instance has 256 MB for that, and an old one may stay
+      // for a while.
+      assert.ok(Math.max(...held) - before < 700, `${before} MB, then ${held.join(", ")} MB`);
     },
 
     async "a browser without 64-bit memories is told so in a sentence"() {

@@ -1,15 +1,17 @@
-// The page with no server, as tools/web laid it in a folder, in a headless Chromium: what a person does with schedules
+// The page with no server, as tools/web laid it in a folder, in a headless browser: what a person does with schedules
 // and reports there. `tools/web --look` runs it; any server of files does, here Python's.
 import assert from "node:assert/strict";
 import { mkdirSync } from "node:fs";
 import { join } from "node:path";
 import { Browser } from "./driver.mjs";
+import { Firefox } from "./firefox.mjs";
 import { triesOfFirstPage, triesOfLesson } from "./lesson.mjs";
 import { triesOfLimits } from "./limits.mjs";
 import { Session, example, fragment, linesOf, schedule, serveFolder } from "./session.mjs";
 
-const [folder, shots] = process.argv.slice(2);
-const { address, stop } = await serveFolder(folder), browser = await Browser.start();
+const [folder, which, shots] = process.argv.slice(2);
+const { address, stop } = await serveFolder(folder);
+const browser = await (which === "firefox" ? Firefox : Browser).start();
 const session = new Session(browser, address + "playground.html");
 if (shots) mkdirSync(shots, { recursive: true });
 await browser.size(1440, 940);
