@@ -11,8 +11,8 @@ import { Random, decoded, randomText } from "./random_texts.mjs";
 
 const WORDS = {
   "replay": ["awreg", "replay"], "check": ["awreg", "check"], "play": ["awreg", "play"],
-  "play-fair": ["awreg", "play", "--fair"], "trace": ["awshow", "trace"], "draw": ["awshow", "draw"],
-  "data": ["awshow", "data"], "page": ["awshow", "page"], "rest": ["awshow", "rest"], "verify": ["awshow", "verify"],
+  "play-fair": ["awreg", "play", "--fair"], "trace": ["awshow", "trace", "--whole"], "draw": ["awshow", "draw", "--whole"],
+  "data": ["awshow", "data"], "page": ["awshow", "page", "--whole"], "rest": ["awshow", "rest"], "verify": ["awshow", "verify"],
   "find-serial": ["awshow", "find", "serial"], "find-points": ["awshow", "find", "points"],
   "schedule": ["awshow", "schedule"], "schedule-fair": ["awshow", "schedule", "--fair"],
   "short": ["awshow", "schedule", "--short"], "short-fair": ["awshow", "schedule", "--fair", "--short"],
