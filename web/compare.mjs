@@ -97,6 +97,43 @@ function compareRandom() {
   return Object.entries(kinds).sort().map(([kind, many]) => `${many} ${kind}`).join("; ");
 }
 
+// What is told where memory is refused: of the line a first part may come, and where there was none for all of the
+// answer, a first part of that.
+const REFUSALS = ["out of memory\n", "output: write\n"];
+
+/**
+ * Runs a command in rooms of more and more bytes, until one is enough: in each the answer is that memory was refused, or
+ * the one that it has in a large room. Gives how many rooms were too small.
+ */
+function refusedRooms(command, text) {
+  const whole = told(command, text), step = 64;
+  for (let room = 0; ; room += step) {
+    const answer = engine.within(instance => {
+      const { end } = instance, bytes = new Uint8Array(text);
+      instance.end = instance.free + Math.ceil(bytes.length / 16) * 16 + room;
+      try {
+        return instance.run(instance.exports["tellwydar_" + command], bytes);
+      } finally {
+        instance.end = end;
+      }
+    });
+    const isPart = whole.stdout.subarray(0, answer.output.length).equals(answer.output);
+    const isRefused = answer.status === 1 && isPart && REFUSALS.some(line => line.startsWith(decoded(answer.error)));
+    if (isRefused && answer.output.length + answer.error.length < whole.stdout.length + whole.stderr.length) continue;
+    if (answer.status !== whole.status || !Buffer.from(answer.output).equals(whole.stdout)) {
+      tally.other++;
+      console.log(`${command} in a room of ${room} bytes: ${answer.status} ${decoded(answer.error)}`);
+    }
+    return room / step;
+  }
+}
+
+let rooms = 0;
+for (const [command, name] of [["replay", "stale-read.sched"], ["trace", "swap-lock.sched"], ["page", "one-process.sched"],
+  ["rest", "lost-frame.sched"], ["check", "stale-linear.report"]]) {
+  rooms += refusedRooms(command, readFileSync(join(TOP, "examples", name)));
+}
+console.log(`memory is refused in each of ${rooms} rooms that are too small`);
 for (const { name, text } of texts()) for (const command of commands) compare(command, name, text);
 const say = what => console.log(`${what}: ${tally.same} answers the same, ${tally.refused} refused by another line, ` +
   `${tally.other} not`);
