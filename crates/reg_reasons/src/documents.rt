@@ -1,8 +1,9 @@
 //! Why a text is no workload.
 use crate::forms::{FRONTS, KEYS, OP};
-use crate::lines_at::{bytes_of, kept_at, line_of_place};
+use crate::hints::put_hint;
+use crate::lines_at::line_of_place;
 use crate::saying::Notes;
-use crate::scanning::{after, misfit_of, place_of, token_of};
+use crate::scanning::{after, misfit_of, place_of};
 use crate::toml_places::{Item, item_place, key_place, open_array};
 use crate::wanting::{NAME_FORM, NAME_TAKEN, Range, Rules};
 use reg_base::is_name;
@@ -13,11 +14,6 @@ use reg_inputs::{Key, WorkloadFault};
 use std::alloc::{AllocError, Allocator, Global};
 use toml::de::Error;
 use toml::{Table, Value, table_from_str};
-
-/// The words with which lines of a schedule begin.
-const OF_A_SCHEDULE: &[&str] = &["processes", "registers", "front", "call", "take", "tick"];
-
-const OF_A_REPORT: &[&str] = &["awreg"];
 
 /// What a key may be.
 fn kind_of_key(key: Key) -> &'static str {
@@ -70,27 +66,6 @@ fn put_error<A: Allocator + Copy>(
         notes.put_with("an array of line {} is still open here\n", &[line.number]);
     }
     Ok(())
-}
-
-/// Puts what a text is, if it begins like one of another command, or its first word begins a line of a schedule or of a
-/// report, or is written like one.
-fn put_hint<A: Allocator + Copy>(notes: &mut Notes<'_, A>, text: &[u8]) {
-    if text.starts_with(b"{") {
-        notes.put(&["a history in lines of JSON is judged by awshow judge\n"]);
-        return;
-    }
-    if text.starts_with(b"tellwydar record ") {
-        notes.put(&["a record of processes that ran apart is judged by awshow verify\n"]);
-        return;
-    }
-    let line = bytes_of(kept_at(text, 0));
-    let word = token_of(line);
-    let is_key = line.contains(&b'=');
-    if !is_key && notes.near(word, OF_A_SCHEDULE).is_some() {
-        notes.put(&["a schedule begins with processes and a number, as in processes 2\n"]);
-    } else if notes.near(word, OF_A_REPORT).is_some() {
-        notes.put(&["a report begins with awreg report 2\n"]);
-    }
 }
 
 /// The items of an array, and none of what is no array or not there.

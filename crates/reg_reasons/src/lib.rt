@@ -12,6 +12,7 @@ mod events;
 mod explaining;
 mod first_lines;
 mod forms;
+mod hints;
 mod lines_at;
 mod orders;
 mod refusals;
