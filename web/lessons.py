@@ -12,6 +12,8 @@ COMMANDS = {
     "awshow schedule --fair": "schedule-fair", "awshow outcomes --all": "outcomes-all",
     "awshow find serial": "find-serial", "awshow find points": "find-points", "awshow verify": "verify",
 }
+# Both programs have these.
+COMMANDS |= {words.replace("awreg", "awshow"): name for words, name in COMMANDS.items() if words.startswith("awreg")}
 # A text that the playground shows: a schedule, a report or a workload.
 TEXT = re.compile(r"(?:#.*\n|\n)*(?:processes \d|awreg report|front = )")
 PICTURE = re.compile(r"!\[([^]]*)\]\(([^)]+)\)")
