@@ -11,8 +11,9 @@ import { Random, decoded, randomText } from "./random_texts.mjs";
 
 const WORDS = {
   "replay": ["awreg", "replay"], "check": ["awreg", "check"], "play": ["awreg", "play"],
-  "play-fair": ["awreg", "play", "--fair"], "trace": ["awshow", "trace", "--whole"], "draw": ["awshow", "draw", "--whole"],
-  "data": ["awshow", "data"], "page": ["awshow", "page", "--whole"], "rest": ["awshow", "rest"], "verify": ["awshow", "verify"],
+  "play-fair": ["awreg", "play", "--fair"], "trace": ["awshow", "trace", "--whole"],
+  "draw": ["awshow", "draw", "--whole"], "data": ["awshow", "data"], "page": ["awshow", "page", "--whole"],
+  "rest": ["awshow", "rest"], "verify": ["awshow", "verify"],
   "find-serial": ["awshow", "find", "serial"], "find-points": ["awshow", "find", "points"],
   "schedule": ["awshow", "schedule"], "schedule-fair": ["awshow", "schedule", "--fair"],
   "short": ["awshow", "schedule", "--short"], "short-fair": ["awshow", "schedule", "--fair", "--short"],
@@ -22,7 +23,8 @@ const FOLDERS = ["examples", "examples/litmus", "examples/exercises", "examples/
 
 // What is asked of a random text of a kind; a thousand plays of each would take hours.
 const ASKED = {
-  workload: ["play", "play-fair", "schedule", "schedule-fair", "short", "short-fair", "outcomes-all", "data", "trace", "why"],
+  workload: ["play", "play-fair", "schedule", "schedule-fair", "short", "short-fair", "outcomes-all", "data", "trace",
+    "why"],
   schedule: ["replay", "trace", "draw", "data", "page", "rest", "why"],
   report: ["check", "find-serial", "find-points", "why"],
   record: ["verify"],
