@@ -40,7 +40,10 @@ async function faultOf(attempt, { browser, session, shots }) {
   return faults.map(fault => fault.slice(0, 2000)).join("\n");
 }
 
-const { address, stop } = asked.site ? await serveFolder(asked.site) : await startServer();
+const { address, stop } = await (asked.site ? serveFolder(asked.site) : startServer()).catch(error => {
+  console.error(`tools/pages: ${error.message}`);
+  process.exit(1);
+});
 const browser = await (asked.firefox ? Firefox : Browser).start();
 const session = new Session(browser, asked.site ? address + "playground.html" : address);
 const context = { browser, session, shots: asked.shots, rounds: +asked.rounds, explains: !asked.site };
