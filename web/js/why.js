@@ -28,12 +28,15 @@ function ofWorkload(layout) {
   return `a workload: ${shape(scripts.length, value("registers").length, value("front"))}, ${operations}\n`;
 }
 
+/** What `awshow why` says of a report that has no points. */
+const NO_POINTS = "no points, so real time is not judged: awshow find points looks for some";
+
 function ofReport(text, verdicts) {
   const word = name => new RegExp(`^${name} (.*)$`, "m").exec(text)[1];
   const names = text.startsWith("awreg report 1\n") ? word("registers").split(" ").length : word("registers");
   const entries = count(word("history"), "entry", "entries");
-  return `a report: ${shape(word("processes"), names, word("front"))}, ${entries}; ` +
-    `${verdicts.trimEnd().split("\n").join("; ")}\n`;
+  const told = verdicts.trimEnd().split("\n"), said = told.length > 1 ? told : [...told, NO_POINTS];
+  return `a report: ${shape(word("processes"), names, word("front"))}, ${entries}; ${said.join("; ")}\n`;
 }
 
 /** The line of a text that a refusal speaks of, with its number, or nothing. */
