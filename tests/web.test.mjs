@@ -19,11 +19,11 @@ const scripts = files.filter(path => path.endsWith(".js"));
 const chapters = readFileSync(join(TOP, "docs", "TUTORIAL.md"), "utf8").match(/^## \d+\. .*$/gm);
 const pages = ["index.html", "playground.html", ...chapters.map((_, at) => `lesson/${at + 1}.html`)];
 
-test("each file that a page names lies in the folder, by a path that holds anywhere", () => {
+test("each file that the page names lies in the folder, by a path that holds anywhere", () => {
   for (const page of pages) {
     const named = [...read(page).matchAll(/(?:href|src)="([^"#]+)[^"]*"/g)].map(([, path]) => path)
       .filter(path => !path.startsWith("data:"));
-    assert.ok(named.length > 5, page);
+    assert.ok(named.length > (page.startsWith("lesson/") ? 5 : 10), page);
     for (const path of named) {
       assert.ok(!path.startsWith("/") && existsSync(join(folder, dirname(page), path)), `${page}: ${path}`);
     }
@@ -51,7 +51,8 @@ test("each chapter has the text of the tutorial: its blocks of code as they stan
 });
 
 test("what a chapter lets run is in the module", () => {
-  const source = ["texts.rt", "plays.rt"].map(name => readFileSync(join(TOP, "crates/reg_web/src", name), "utf8")).join("");
+  const code = name => readFileSync(join(TOP, "crates/reg_web/src", name), "utf8");
+  const source = code("texts.rt") + code("plays.rt");
   const steps = pages.flatMap(page => [...read(page).matchAll(/data-steps="([^"]+)"/g)]
     .flatMap(([, words]) => words.split(" ")));
   assert.ok(steps.length > 15);
@@ -67,7 +68,7 @@ test("each script that a script names lies in the folder", () => {
   }
 });
 
-test("each page has a policy, and no script asks for a page or a run of a server", () => {
+test("the page has a policy, and no script asks for a page or a run of a server", () => {
   for (const page of pages) {
     assert.match(read(page), /http-equiv="Content-Security-Policy" content="default-src 'none'; script-src 'self'/);
   }

@@ -104,8 +104,8 @@ function compareRandom() {
 const REFUSALS = ["out of memory\n", "output: write\n"];
 
 /**
- * Runs a command in rooms of more and more bytes, until one is enough: in each the answer is that memory was refused, or
- * the one that it has in a large room. Gives how many rooms were too small.
+ * Runs a command in rooms of more and more bytes, until one is enough: in each the answer is that memory was refused,
+ * or the one that it has in a large room. Gives how many rooms were too small.
  */
 function refusedRooms(command, text) {
   const whole = told(command, text), step = 64;
@@ -131,8 +131,8 @@ function refusedRooms(command, text) {
 }
 
 let rooms = 0;
-for (const [command, name] of [["replay", "stale-read.sched"], ["trace", "swap-lock.sched"], ["page", "one-process.sched"],
-  ["rest", "lost-frame.sched"], ["check", "stale-linear.report"]]) {
+for (const [command, name] of [["replay", "stale-read.sched"], ["trace", "swap-lock.sched"],
+  ["page", "one-process.sched"], ["rest", "lost-frame.sched"], ["check", "stale-linear.report"]]) {
   rooms += refusedRooms(command, readFileSync(join(TOP, "examples", name)));
 }
 console.log(`memory is refused in each of ${rooms} rooms that are too small`);

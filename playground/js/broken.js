@@ -25,7 +25,8 @@ function rowsOf(broken, right) {
   const none = { call: "", answer: "not called" };
   return [...new Set([...broken.keys(), ...right.keys()])].map(key => {
     const one = broken.get(key) || none, other = right.get(key) || none, isOther = one.answer !== other.answer;
-    return html("tr", { class: isOther ? "late" : "" }, html("th", { scope: "row" }, `${key} ${one.call || other.call}`),
+    const called = `${key} ${one.call || other.call}`;
+    return html("tr", { class: isOther ? "late" : "" }, html("th", { scope: "row" }, called),
       html("td", {}, one.answer), html("td", {}, other.answer));
   });
 }

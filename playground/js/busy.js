@@ -10,7 +10,7 @@ function show() {
   byId("busy-for").textContent = `The program has run for ${Math.round((performance.now() - since) / 1000)} s`;
 }
 
-/** Waits for an answer, and says so where it takes long. @template T @param {Promise<T>} answer @returns {Promise<T>} */
+/** Waits for an answer, and says so if it takes long. @template T @param {Promise<T>} answer @returns {Promise<T>} */
 export async function waiting(answer) {
   if (!globalThis.document) return answer;
   if (underWay++ === 0) {

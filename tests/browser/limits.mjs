@@ -41,7 +41,8 @@ function heldBy(top) {
 
 const MANY_RUNS = `(async () => {
   const { ask } = ${SERVER}, answers = new Set();
-  for (let i = 0; i < 10000; i++) answers.add((await ask("data", ${JSON.stringify(example("stale-read.sched"))})).output);
+  const text = ${JSON.stringify(example("stale-read.sched"))};
+  for (let i = 0; i < 10000; i++) answers.add((await ask("data", text)).output);
   return answers.size;
 })()`;
 
@@ -81,8 +82,8 @@ export function triesOfLimits({ browser, session, folder }) {
         assert.equal(await browser.value(MANY_RUNS), 1);
         held.push(heldBy(browser.process.pid));
       }
-      // A run of these takes some 40 KB that aren't lent again: an instance has 256 MB for that, and an old one may stay
-      // for a while.
+      // A run of these takes some 40 KB that aren't lent again: an instance has 256 MB for that, and an old one may
+      // stay for a while.
       assert.ok(Math.max(...held) - before < 700, `${before} MB, then ${held.join(", ")} MB`);
     },
 

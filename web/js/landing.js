@@ -9,7 +9,8 @@ listenToTheme();
 const solved = keptNames(), exercises = [...document.querySelectorAll("#exercises [data-exercise]")];
 const done = exercises.filter(exercise => solved.has(/** @type {HTMLElement} */ (exercise).dataset.exercise));
 for (const exercise of done) exercise.classList.add("solved");
-/** @type {HTMLElement} */ (document.getElementById("solved")).textContent = `${done.length} of ${exercises.length} solved`;
+/** @type {HTMLElement} */ (document.getElementById("solved")).textContent =
+  `${done.length} of ${exercises.length} solved`;
 const fault = /** @type {HTMLElement} */ (document.getElementById("fault"));
 if (!isWide()) {
   fault.textContent = NARROW;
