@@ -1,3 +1,4 @@
 pub mod FirstLines
+pub mod Records
 pub mod Tellings
 pub mod TextFaults

@@ -18,6 +18,7 @@ use Rattle.reg_commands.specs.Replays.{start_of, run_by}
 use Rattle.reg_commands.specs.declared.command.Command.{Command}
 use Rattle.reg_commands.specs.declared.command.Command.TheVariants.{Replay, Check, Play}
 use Rattle.reg_reasons.specs.FirstLines.{first_no, subject_text}
+use Rattle.reg_reasons.specs.Records.{TellsRecord, begins_record}
 use Rattle.reg_commands.specs.Kinds.{kind_of}
 use Rattle.reg_commands.specs.declared.kinds.Kind.{Kind}
 use Rattle.reg_commands.specs.declared.kinds.Kind.TheVariants.{Report, Schedule, Workload as WorkloadKind}
@@ -100,9 +101,14 @@ Tells Schedule false answer text = Refuses Replay answer text
 Tells WorkloadKind true answer text = IsWorkload answer text
 Tells WorkloadKind false answer text = Refuses (Play false) answer text
 
+-- the same of any text: of one that begins as records do, and of another one by its kind
+abbrev pub TellsAny : Bool → Bool → List ℕ → List ℕ → Type 0
+TellsAny true is_accepted answer text = TellsRecord is_accepted answer text
+TellsAny false is_accepted answer text = Tells (kind_of text) is_accepted answer text
+
 -- the text got the answer of its kind: `Wrote` says how it was written
 abbrev pub Answers : Bool → (List ℕ → Type 0) → List ℕ → Type 0
-Answers is_accepted Wrote text = (answer : List ℕ) × Tells (kind_of text) is_accepted answer text × Wrote answer
+Answers is_accepted Wrote text = (answer : List ℕ) × TellsAny (begins_record text) is_accepted answer text × Wrote answer
 
 -- a first part of it
 abbrev pub AnswersAny : (List ℕ → Type 0) → List ℕ → Type 0

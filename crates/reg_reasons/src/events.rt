@@ -20,7 +20,11 @@ fn word_at(line: &[u8], place: usize) -> usize {
 }
 
 /// Puts that a process is not there.
-fn put_processes<A: Allocator + Copy>(notes: &mut Notes<'_, A>, process: u8, processes: u32) {
+pub(crate) fn put_processes<A: Allocator + Copy>(
+    notes: &mut Notes<'_, A>,
+    process: u8,
+    processes: u32,
+) {
     let text = match processes {
         1 => "there is no process {}: the process is 0\n",
         _ => "there is no process {}: the processes are 0 to {}\n",

@@ -3,7 +3,7 @@
 use crate::documents::explain_workload;
 use crate::entries::explain_entry;
 use crate::events::explain_event;
-use crate::forms::{EVENT_LINE, HEAD};
+use crate::forms::{EVENT_LINE, HEAD, RECORD_HEAD, RECORD_STEP};
 use crate::lines_at::{Line, bytes_of, kept_at, kept_before, line_at, parts_between};
 use crate::orders::explain_list;
 use crate::report_lines::{Part, Walk, number_on, walk_to};
@@ -18,14 +18,18 @@ use std::alloc::{AllocError, Allocator, Global};
 /// The line of a report that tells its registers, or how many they are.
 const LINE_OF_REGISTERS: u64 = 4;
 
+/// What a step of a record is.
+const RECORDED: &str =
+    "a step, as in 0 call write x 5, 1 take 0 and a frame, or 0 tick, with = and a reply if it has one";
+
 const TOO_EARLY: &str = "the text ends before a line that it needs: ";
 
 /// Where a text is refused: the number of a line of it, which it may end before, and why.
 #[derive(Clone, Copy)]
-struct RefusedLine<'a> {
-    text: &'a [u8],
-    number: u64,
-    why: ReadWhy,
+pub(crate) struct RefusedLine<'a> {
+    pub(crate) text: &'a [u8],
+    pub(crate) number: u64,
+    pub(crate) why: ReadWhy,
 }
 
 impl RefusedLine<'_> {
@@ -87,6 +91,21 @@ impl RefusedLine<'_> {
                 notes.put(&[TOO_EARLY, wanted, "\n"]);
                 Ok(())
             }
+        }
+    }
+
+    /// Puts why this line of a record is refused.
+    pub(crate) fn explain_in_record<A: Allocator + Copy>(&self, notes: &mut Notes<'_, A>) {
+        let place = self.number.saturating_sub(1) as usize;
+        let (wanted, form) = RECORD_HEAD
+            .get(place)
+            .copied()
+            .unwrap_or((RECORDED, RECORD_STEP));
+        let Some(line) = line_at(self.text, self.number) else {
+            return notes.put(&[TOO_EARLY, wanted, "\n"]);
+        };
+        if !self.put_misfit(notes, line, form, self.rules(&[], false)) {
+            notes.put(&["expected ", wanted, "\n"]);
         }
     }
 

@@ -1,10 +1,9 @@
 //! The first line of an answer: what an accepted text is, and what is told of a refused one.
 ghost use Rattle.std.specs.Prelude.{◌≡◌, ◌++◌, IfOk};
 ghost use Rattle.reg_text.specs.Writing.{Puts};
-ghost use Rattle.reg_commands.specs.FaultLines.{fault_line};
 ghost use Rattle.reg_reasons.specs.FirstLines.{counted, subject_text, first_no};
 
-use reg_commands::{Fault, Refusal, Verdict, Verdicts, put_points, put_serial};
+use reg_commands::{Refusal, Verdict, Verdicts, put_points, put_serial};
 use reg_text::{Sink, put_number};
 use std::alloc::{AllocError, Allocator};
 use std::io::Write;
@@ -70,8 +69,11 @@ pub fn line_of_subject<A: Allocator + Copy>(
 }
 
 /// The line of a fault.
-pub fn line_of_fault<A: Allocator + Copy>(alloc: A, fault: Fault) -> Result<Vec<u8, A>, AllocError>
-    ensures { IfOk result (λ v. v.items ≡ fault_line fault) }
+pub fn line_of_fault<A: Allocator + Copy, R: Refusal>(
+    alloc: A,
+    fault: R,
+) -> Result<Vec<u8, A>, AllocError>
+    ensures { IfOk result (λ v. v.items ≡ R.line fault) }
 {
     let mut line = Vec::new(alloc);
     if fault.write_line(&mut line).is_err() {

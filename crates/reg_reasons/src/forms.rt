@@ -192,6 +192,30 @@ const TAKE: Form = &[
     Step::End,
 ];
 
+/// The lines of a record before its steps: what each says, and its form.
+pub const RECORD_HEAD: &[(&str, Form)] = &[
+    ("tellwydar record 1", RECORD_VERSION),
+    ("front and one of linear, local-read and local-write", FRONT),
+    ("processes and a number, as in processes 2", PROCESSES),
+    ("registers and their names, as in registers x y", NAMES),
+];
+
+const RECORD_VERSION: Form = &[
+    word!("tellwydar"),
+    Step::Space,
+    word!("record"),
+    Step::Space,
+    word!("1"),
+    Step::End,
+];
+
+/// The begin of a step of a record.
+pub const RECORD_STEP: Form = &[
+    Step::Number(Quantity::Process),
+    Step::Space,
+    word!("call" "take" "tick"),
+];
+
 /// The first line of a report.
 pub const VERSION: Form = &[
     word!("awreg"),

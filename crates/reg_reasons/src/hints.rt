@@ -16,10 +16,6 @@ pub(crate) fn put_hint<A: Allocator + Copy>(notes: &mut Notes<'_, A>, text: &[u8
         notes.put(&["a history in lines of JSON is judged by awshow judge\n"]);
         return;
     }
-    if text.starts_with(b"tellwydar record ") {
-        notes.put(&["a record of processes that ran apart is judged by awshow verify\n"]);
-        return;
-    }
     let line = bytes_of(kept_at(text, 0));
     let word = token_of(line);
     let is_key = line.contains(&b'=');

@@ -15,10 +15,12 @@ mod forms;
 mod hints;
 mod lines_at;
 mod orders;
+mod records;
 mod refusals;
 mod report_lines;
 mod saying;
 mod scanning;
+mod steps;
 mod toml_places;
 mod wanting;
 

@@ -10,11 +10,13 @@ ghost use Rattle.reg_commands.specs.FaultLines.{fault_line};
 ghost use Rattle.reg_commands.specs.Verdicts.{Judges, all_yes as all_yes_of};
 ghost use Rattle.reg_reasons.specs.FirstLines.{subject_text};
 ghost use Rattle.reg_reasons.specs.TextFaults.{is_of_text as is_of_text_fault};
-ghost use Rattle.reg_commands.specs.Kinds.{command_of as command_of_kind, kind_of as kind_of_text};
-ghost use Rattle.reg_reasons.specs.Tellings.{Agrees, Disagrees, Halts, Refuses, Tells};
+ghost use Rattle.reg_commands.specs.Kinds.{command_of as command_of_kind};
+ghost use Rattle.reg_reasons.specs.Records.{begins_record};
+ghost use Rattle.reg_reasons.specs.Tellings.{Agrees, Disagrees, Halts, Refuses, Tells, TellsAny};
 
 use crate::explaining::{explain_fault, explain_verdicts};
 use crate::first_lines::{Subject, line_of_fault, line_of_no, line_of_subject};
+use crate::records::tell_record;
 use reg_base::Op;
 use reg_commands::{
     Fault, Kind, Ran, Verdicts, all_yes, command_of, judge, kind_of, read_report_text,
@@ -35,7 +37,10 @@ pub struct Explanation<A: Allocator + Copy> {
 }
 
 /// The first line of an answer with what explains it.
-fn joined<A: Allocator + Copy>(line: Vec<u8, A>, notes: &[u8]) -> Result<Explanation<A>, AllocError>
+pub(crate) fn joined<A: Allocator + Copy>(
+    line: Vec<u8, A>,
+    notes: &[u8],
+) -> Result<Explanation<A>, AllocError>
     ensures { IfOk result (λ t. (t.answer.items ≡ line.items ++ notes.now) × (t.is_accepted ≡ false)) }
 {
     let mut answer = line;
@@ -47,7 +52,7 @@ fn joined<A: Allocator + Copy>(line: Vec<u8, A>, notes: &[u8]) -> Result<Explana
 }
 
 /// The answer for an accepted text.
-fn accepted<A: Allocator + Copy>(
+pub(crate) fn accepted<A: Allocator + Copy>(
     alloc: A,
     subject: Subject<'_>,
     tail: &str,
@@ -77,7 +82,7 @@ fn refused<A: Allocator + Copy>(
 }
 
 /// Whether a fault is one of a text: of a line, an event or a document.
-fn is_of_text(fault: Fault) -> bool
+pub(crate) fn is_of_text(fault: Fault) -> bool
     ensures { result ≡ is_of_text_fault fault }
 {
     match fault {
@@ -317,7 +322,7 @@ fn tell_report<A: Allocator + Copy>(
     }
 }
 
-/// What is told of a text, by its kind.
+/// What is told of a text, by its kind: a record by how it begins.
 ///
 /// # Errors
 ///
@@ -328,10 +333,13 @@ pub fn tell<A: Allocator + Copy>(
     global: Global,
     text: &str,
 ) -> Result<Explanation<A>, Fault>
-    ensures told { IfOk result (λ t. Tells (kind_of_text text.now) t.is_accepted t.answer.items text.now) }
+    ensures told { IfOk result (λ t. TellsAny (begins_record text.now) t.is_accepted t.answer.items text.now) }
     ensures why { IfErr result (λ f. Halts f text.now) }
     ensures kind { IfErr result (λ f. (f ≢ Fault.Output) × (f ≢ Fault.Unread)) }
 {
+    if text.as_bytes().starts_with(b"tellwydar record ") {
+        return tell_record(alloc, text);
+    }
     match kind_of(text.as_bytes()) {
         Kind::Report => tell_report(alloc, global, text),
         Kind::Schedule => tell_schedule(alloc, global, text),

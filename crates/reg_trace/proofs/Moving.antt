@@ -1,6 +1,5 @@
 -- Which events of a world make a step, and which are refused.
-use Rattle.std.proofs.Common.{ℕ, ◌≡◌, ◌≢◌, ◌+◌, ◌<◌, ◌≤◌, true, false, List, [], ◌∷◌, ◌++◌, length, Option, None, Some, refl, sym, ap, ◌∙◌, arith, append_assoc, length-append}
-use Rattle.std.specs.Option.{is_some}
+use Rattle.std.proofs.Common.{ℕ, ◌≡◌, ◌≢◌, ◌+◌, ◌<◌, ◌≤◌, List, [], ◌∷◌, ◌++◌, length, Option, None, Some, refl, sym, ap, ◌∙◌, arith, append_assoc, length-append}
 use Rattle.std.specs.Prelude.{◌==◌, ◌&&◌, not, nat_lt, slice_get}
 use Rattle.std.proofs.lemmas.Bool.{and_parts, cond_both, ltb-true}
 use Rattle.std.proofs.lemmas.Option.{none-some}
@@ -14,10 +13,8 @@ use Rattle.reg_world.specs.declared.faults.WorldFault.{WorldFault}
 use Rattle.reg_world.specs.declared.faults.WorldFault.TheVariants.{Failed, TooManyEvents, NoProcess, Busy, NoRegister, TooManyOperations, NoFrame, OutOfMemory}
 use Rattle.reg_world.specs.Histories.{process_of}
 use Rattle.reg_world.specs.Nodes.{Nodes, step_of, take_step}
-use Rattle.reg_world.specs.World.{World, move_of, moved, happens, run, world_fault}
-use Rattle.reg_world.specs.Worlds.{Made, Refuses, refusal, run_in}
-use Rattle.reg_world.proofs.one_memory.Refusals.{refused_by_fault}
-use Rattle.reg_world.proofs.run.Along.{move_is}
+use Rattle.reg_world.specs.World.{World, move_of, moved, happens, run}
+use Rattle.reg_world.specs.Worlds.{Made, Refuses, refusal}
 
 step_grows : (start : Op → ℕ → Start) (w : World) (e : Event) (m : Option (ℕ × Step)) → length (moved start w e m).accepted ≤ length w.accepted + 1
 step_grows start w e None = omega arith

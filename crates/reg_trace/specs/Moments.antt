@@ -1,5 +1,5 @@
 -- What the events of a run do, by the runs before and after each of them.
-use Rattle.std.specs.Prelude.{ℕ, zero, suc, ◌≡◌, ◌+◌, ◌==◌, ◌&&◌, not, nat_lt, cond, List, [], ◌∷◌, ◌++◌, length, map, take, drop, Option, None, Some, slice_get, slice_index}
+use Rattle.std.specs.Prelude.{ℕ, zero, suc, ◌+◌, ◌==◌, ◌&&◌, not, nat_lt, cond, List, [], ◌∷◌, ◌++◌, length, map, take, drop, Option, None, Some, slice_get, slice_index}
 use Rattle.reg_base.specs.Shape.{Extent}
 use Rattle.reg_base.specs.Memory.{Memory, after, register_of}
 use Rattle.reg_base.specs.declared.memory.Op.{Op}

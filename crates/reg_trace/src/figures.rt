@@ -1,12 +1,14 @@
 //! What a drawing of a run joins: operations from call to answer, and frames from the event that put them to the one
 //! that takes them.
-ghost use Rattle.std.specs.Prelude.{◌≡◌, ◌==◌, ◌&&◌, IfOk};
+ghost use Rattle.std.specs.Prelude.{◌≡◌, IfOk};
+ghost use Rattle.std.specs.BTreeMap.{get};
 ghost use Rattle.std.specs.List.{list_any};
-ghost use Rattle.reg_trace.specs.declared.moments.Sent.{Sent as AnySent};
-ghost use Rattle.reg_trace.specs.Figures.{arrows_of, bars_of, end_of, is_put, putter, takes_from};
+ghost use Rattle.reg_trace.specs.Figures.{arrows_of, bars_of, end_of, takes_from};
 ghost use Rattle.reg_trace.specs.Moments.{Fact};
+ghost use Rattle.reg_trace.specs.Putters.{wire_place_cmp};
 
-use crate::moments::{Moment, Sent};
+use crate::moments::Moment;
+use crate::putters::{Putters, WirePlace, putters_of};
 use reg_base::{Answer, Op, OpId};
 use reg_checkers::Entry;
 use reg_world::Event;
@@ -85,33 +87,21 @@ pub fn bars<A: Allocator + Copy>(alloc: A, entries: &[Entry]) -> Result<Vec<Bar,
     Ok(bars)
 }
 
-/// Whether the frame at this place of the wire to a process is among these.
-fn is_sent(sent: &[Sent], to: u8, place: u32) -> bool
-    ensures { result ≡ list_any (λ (s : AnySent). (s.to == to) && (s.place == place)) sent.now }
-{
-    sent.iter()
-        .any(|sent| sent.to == to && sent.place == place as usize)
-}
-
-/// Whether an event put the frame at this place of a wire.
-fn has_put<A: Allocator + Copy>(moment: &Moment<A>, from: u8, to: u8, place: u32) -> bool
-    ensures { result ≡ is_put from to place moment.now }
-{
-    moment.process == from && is_sent(&moment.sent, to, place)
-}
-
-/// The number of the event that put the frame at this place of a wire.
+/// The number of the first event that put the frame at this place of a wire.
 fn putter_of<A: Allocator + Copy>(
-    moments: &[Moment<A>],
+    putters: &Putters<A>,
     from: u8,
     to: u8,
     place: u32,
 ) -> Option<usize>
-    ensures { result ≡ putter from to place moments.now }
+    ensures { result ≡ get wire_place_cmp putters.now (record { from = from; to = to; place = place }) }
 {
-    moments
-        .iter()
-        .position(|moment| has_put(moment, from, to, place))
+    let at = WirePlace {
+        from,
+        to,
+        place: place as usize,
+    };
+    putters.get(&at).copied()
 }
 
 /// An arrow for each take whose frame one of the moments put, in order of the takes: of the moments of a run, for each
@@ -126,10 +116,11 @@ pub fn arrows<A: Allocator + Copy>(
 ) -> Result<Vec<Arrow, A>, AllocError>
     ensures { IfOk result (λ v. v.items ≡ arrows_of moments.now) }
 {
+    let putters = putters_of(alloc, moments)?;
     let mut arrows = Vec::new(alloc);
     for (takes, moment) in moments.iter().enumerate() {
         if let Event::Take { from, to, number } = moment.event {
-            if let Some(puts) = putter_of(moments, from, to, number) {
+            if let Some(puts) = putter_of(&putters, from, to, number) {
                 arrows.push(Arrow {
                     from,
                     to,

@@ -4,6 +4,7 @@
 mod figures;
 pub mod laws;
 mod moments;
+mod putters;
 mod rooms;
 mod told;
 mod trace_text;

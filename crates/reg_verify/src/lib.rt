@@ -8,4 +8,4 @@ mod verifying;
 
 pub use faults::VerifyFault;
 pub use reg_log::{Record, RecordFault, Recorded, parse_record};
-pub use verifying::Verify;
+pub use verifying::{Verify, read_record_text, report_by_front};

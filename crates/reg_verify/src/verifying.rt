@@ -25,7 +25,11 @@ use std::io::Write;
 const FIRST_STEP: u64 = 5;
 
 /// The record that a text spells.
-fn read_record_text<A: Allocator + Copy>(alloc: A, text: &str) -> Result<Record<A>, Fault>
+///
+/// # Errors
+///
+/// `Line` names the first line with which no record goes on, and why; or `OutOfMemory`.
+pub fn read_record_text<A: Allocator + Copy>(alloc: A, text: &str) -> Result<Record<A>, Fault>
     ensures read { IfOk result (λ r. SpellsAccount text.now r × IsAccount r) }
     ensures why { IfErr result (λ f. BlamesText f text.now) }
     ensures kind { IfErr result (λ f. (f ≢ Fault.Output) × (f ≢ Fault.Unread)) }
@@ -101,7 +105,11 @@ fn report_of<F: NamedFront, A: Allocator + Copy>(
 }
 
 /// The report of a record, by its front end.
-fn report_by_front<A: Allocator + Copy>(
+///
+/// # Errors
+///
+/// `Unfaithful` names the first step with which the steps are no run; or there was no memory.
+pub fn report_by_front<A: Allocator + Copy>(
     alloc: A,
     account: Record<A>,
 ) -> Result<Report<A>, VerifyFault>

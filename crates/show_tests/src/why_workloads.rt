@@ -2,16 +2,11 @@
 use crate::why::Row;
 
 /// A text, whether it is accepted, and what is told of it, worked out by hand.
-const ROWS: [Row; 28] = [
+const ROWS: [Row; 27] = [
     (
         "{\"process\": 0, \"type\": \"invoke\", \"f\": \"read\", \"key\": \"x\"}\n",
         false,
         "toml\n1 | {\"process\": 0, \"type\": \"invoke\", \"f\": \"read\", \"key\": \"x\"}\n  | ^\ninvalid key, expected letters, numbers, `-`, `_` or a quoted key\na history in lines of JSON is judged by awshow judge\n",
-    ),
-    (
-        "tellwydar record 1\nfront linear\n",
-        false,
-        "toml\n1 | tellwydar record 1\n  |           ^\nkey with no value, expected `=`\na record of processes that ran apart is judged by awshow verify\n",
     ),
     (
         "front = \"local-write\"\nregisters = [\"x\"]\nscripts = [[\"write x 5\", \"read x\"], [\"read x\"]]\n",

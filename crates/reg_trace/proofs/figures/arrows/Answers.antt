@@ -1,10 +1,12 @@
 use Rattle.std.proofs.Common.{ℕ, ◌≡◌, ◌+◌, ◌<◌, List, [], ◌++◌, length, drop, get_or, Option, None, Some, refl, sym, ap, ◌∙◌, append_assoc, append-nil, arith}
+use Rattle.std.specs.BTreeMap.{get}
 use Rattle.std.proofs.lemmas.List.{at_drop_more, at_drop_all}
 use Rattle.reg_process.specs.declared.events.Event.{Event}
 use Rattle.reg_process.specs.declared.events.Event.TheVariants.{Call, Take, Tick}
 use Rattle.reg_trace.specs.declared.figures.Arrow.{Arrow}
 use Rattle.reg_trace.specs.Figures.{arrow_from, arrow_of, arrows_in, arrows_of, putter}
 use Rattle.reg_trace.specs.Moments.{Fact}
+use Rattle.reg_trace.specs.Putters.{wire_place_cmp}
 use Rattle.reg_trace.proofs.figures.arrows.Goals as goal
 use Rattle.reg_trace.proofs.figures.arrows.Goals.{in-Take+in-Some+in_ok-push, in-Take+in_default-putter_of, in_default}
 
@@ -30,17 +32,18 @@ loop-takes-preserved g c =
     let f : Fact = c.index-moments-takes.result in
     let old : List Arrow = c.loop-takes.arrows.items in
     let new : List Arrow = c.match-moment.arrows.items in
+    let put : (from to place : ℕ) → get wire_place_cmp c.in_ok-putters.putters (record { from = from; to = to; place = place }) ≡ putter from to place all = λ from to place. c.in_ok-putters.ensures (record { from = from; to = to; place = place }) in
     let same : f.event ≡ c.moment.inside.event = ap (λ (x : Fact). x.event) (sym c.moment.view_is) in
     elim c.match-moment.branch [
       | in-Take+in-Some+in_ok-push w ↦
           let t = w.in-Take in
           one_more all k f old new (arrow_from k t.from t.to t.number (Some w.in-Some.puts)) c.loop-takes-test.true c.index-moments-takes.is
-          (taken all k f.event t.from t.to t.number w.putter_of.result (Some w.in-Some.puts) (same ∙ t.is) w.putter_of.ensures w.in-Some.is)
+          (taken all k f.event t.from t.to t.number w.putter_of.result (Some w.in-Some.puts) (same ∙ t.is) (w.putter_of.ensures ∙ put t.from t.to t.number) w.in-Some.is)
           (ap (λ v. v.items) w.arrows-is ∙ w.in_ok-push.ensures.items) c.loop-takes.invariant
       | in-Take+in_default-putter_of w ↦
           let t = w.in-Take in
           one_more all k f old new [] c.loop-takes-test.true c.index-moments-takes.is
-          (taken all k f.event t.from t.to t.number w.putter_of.result None (same ∙ t.is) w.putter_of.ensures w.in_default-putter_of.is)
+          (taken all k f.event t.from t.to t.number w.putter_of.result None (same ∙ t.is) (w.putter_of.ensures ∙ put t.from t.to t.number) w.in_default-putter_of.is)
           (ap (λ v. v.items) w.arrows-is ∙ sym (append-nil old)) c.loop-takes.invariant
       | in_default w ↦
           one_more all k f old new [] c.loop-takes-test.true c.index-moments-takes.is

@@ -1,6 +1,5 @@
 use Rattle.std.proofs.Common.{ap, ap₂, ◌∙◌, unwrap_or}
-use Rattle.std.specs.Prelude.{slice_index, slice_get}
-use Rattle.reg_base.specs.Memory.{Memory, after, register_of}
+use Rattle.std.specs.Prelude.{slice_index}
 use Rattle.reg_trace.proofs.Behind.{value_is}
 use Rattle.reg_trace.proofs.moments.deliver.Goals as goal
 

@@ -1,4 +1,3 @@
-use Rattle.std.proofs.Common.{◌≡◌, ◌++◌, ◌∷◌, [], arith, rules, refl}
 use Rattle.reg_trace.specs.Moments.{deliveries_of}
 use Rattle.reg_trace.proofs.Behind.{one_delivered, all_delivered}
 use Rattle.reg_trace.proofs.moments.deliveries.Goals as goal

@@ -1,4 +1,4 @@
-use Rattle.std.proofs.Common.{List, ◌≡◌, ◌++◌, ◌∷◌, [], ◌∙◌, ap, ap₂, arith, length, refl, rules, subst, take}
+use Rattle.std.proofs.Common.{List, ◌≡◌, ◌++◌, ◌∷◌, [], ◌∙◌, ap, ap₂, arith, refl, rules, subst, take}
 use Rattle.std.proofs.lemmas.List.{take_all}
 use Rattle.reg_process.specs.declared.events.Event.{Event}
 use Rattle.reg_world.specs.Worlds.{Made, after_events, run_in}
