@@ -5,7 +5,7 @@
 const decoder = new TextDecoder();
 
 /** The command whose answer says whether a text is accepted. */
-const JUDGES = { schedule: "replay", workload: "layout", report: "check" };
+const JUDGES = { schedule: "replay", workload: "layout", report: "check", record: "verify" };
 
 const count = (number, one, many = one + "s") => `${number} ${+number === 1 ? one : many}`;
 const shape = (processes, registers, front) =>
@@ -39,6 +39,11 @@ function ofReport(text, verdicts) {
   return `a report: ${shape(word("processes"), names, word("front"))}, ${entries}; ${said.join("; ")}\n`;
 }
 
+function ofRecord(text) {
+  const [, front, processes, registers, ...steps] = text.trimEnd().split("\n").map(line => line.split(" "));
+  return `a record: ${shape(processes[1], registers.length - 1, front[1])}, ${count(steps.length, "step")}, a run\n`;
+}
+
 /** The line of a text that a refusal speaks of, with its number, or nothing. */
 function lineOf(told, text, kind) {
   const lines = text.split("\n"), line = /^line (\d+): /.exec(told), event = /^event (\d+): /.exec(told);
@@ -51,8 +56,8 @@ function lineOf(told, text, kind) {
  * @returns {{status: number, output: string, error: string}}
  */
 export function why(engine, bytes) {
-  const kind = engine.kindOf(bytes), answer = engine.run(JUDGES[kind], bytes), text = decoder.decode(bytes);
-  const told = decoder.decode(answer.output), { status } = answer;
+  const text = decoder.decode(bytes), kind = text.startsWith("tellwydar record ") ? "record" : engine.kindOf(bytes);
+  const answer = engine.run(JUDGES[kind], bytes), told = decoder.decode(answer.output), { status } = answer;
   if (answer.error.length) {
     const refusal = decoder.decode(answer.error);
     if (/^(input: |out of memory)/.test(refusal)) return { status, output: "", error: refusal };
@@ -60,6 +65,7 @@ export function why(engine, bytes) {
   }
   if (kind === "schedule") return { status, output: ofSchedule(text), error: "" };
   if (kind === "workload") return { status, output: ofWorkload(told), error: "" };
+  if (kind === "record") return { status, output: ofRecord(text), error: "" };
   const denied = told.split("\n").find(line => / no: /.test(line));
   return { status, output: denied ? denied + "\n" : ofReport(text, told), error: "" };
 }

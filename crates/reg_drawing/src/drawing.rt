@@ -4,12 +4,13 @@ ghost use Rattle.reg_drawing.specs.Drawings.{IsDrawing};
 
 use crate::layout::{BELOW, LEADING, Label, Layout, NUMBERS, TITLE, TOP};
 use crate::legend::{Legend, ROW, show_head};
+use crate::pictures::is_never_taken;
 use crate::shapes::{Diamond, Node, Span, Spot, Stub, Way};
 use crate::words::{CastText, IdText, TakeText};
 use reg_base::Names;
 use reg_checkers::Point;
 use reg_frames::{Body, Frame};
-use reg_trace::{Arrow, Bar, Delivery, Moment, Sent, is_taken};
+use reg_trace::{Arrow, Bar, Delivery, Moment, Sent};
 use std::alloc::{AllocError, Allocator};
 use std::fmt;
 
@@ -78,6 +79,9 @@ impl<A: Allocator + Copy> Drawing<'_, A> {
             f,
             "xmlns=\"http://www.w3.org/2000/svg\" class=\"awshow\" width=\"{width}\" height=\"{height}\" viewBox=\"0 0 {width} {height}\" role=\"img\">"
         )?;
+        let title = self.title.as_str();
+        writeln!(f, "<title>Space-time diagram: {title}</title>")?;
+        self.show_description(f)?;
         show_head(f)?;
         writeln!(
             f,
@@ -175,16 +179,11 @@ impl<A: Allocator + Copy> Drawing<'_, A> {
         false
     }
 
-    /// Whether a frame is drawn: a count isn't where counts are left out.
-    fn is_drawn(&self, frame: Frame) -> bool {
-        !self.legend.counts_left_out || !matches!(frame, Frame::Got { .. })
-    }
-
     /// Shows an arrow for each frame that is taken.
     fn show_arrows<W: fmt::Write>(&self, f: &mut fmt::Formatter<W>) -> fmt::Result {
         for arrow in &self.arrows {
             match self.frame_taken(arrow.takes) {
-                Some(frame) if self.is_drawn(frame) => self.show_arrow(f, arrow, frame)?,
+                Some(frame) if self.legend.draws(frame) => self.show_arrow(f, arrow, frame)?,
                 _ => {}
             }
         }
@@ -203,13 +202,7 @@ impl<A: Allocator + Copy> Drawing<'_, A> {
             class: class_of(sent.frame),
             span,
         };
-        let take = TakeText {
-            names: self.names,
-            from: process,
-            to: sent.to,
-            place: sent.place,
-            frame: sent.frame,
-        };
+        let take = TakeText::of(self.names, process, sent);
         writeln!(f, "<g><title>never taken: {take}</title>{stub}</g>")
     }
 
@@ -220,9 +213,7 @@ impl<A: Allocator + Copy> Drawing<'_, A> {
             let from = self.spot(number, process);
             let mut shift = 12u32;
             for sent in &moment.sent {
-                if !self.is_drawn(sent.frame)
-                    || is_taken(self.moments, process, sent.to, sent.place)
-                {
+                if !is_never_taken(&self.legend, self.moments, process, sent) {
                     continue;
                 }
                 let to = from.beside(shift, sent.to > process);

@@ -1,11 +1,11 @@
-//! The head of a drawing, and the legend of its signs.
+//! The colours of a drawing, and the legend of its signs.
 use crate::layout::width_of;
 use crate::shapes::{Diamond, Node, Soft, Span, Spot, Stub};
+use reg_frames::Frame;
 use std::fmt;
 
-/// The title and the colours, on light and on dark pages.
+/// The colours, on light and on dark pages.
 const HEAD: &str = "\
-<title>Space-time diagram of a run</title>
 <style>
 .awshow{font:12px ui-monospace,'DejaVu Sans Mono',Menlo,Consolas,monospace;font-variant-ligatures:none}
 .awshow .page{fill:#ffffff}
@@ -58,7 +58,7 @@ fn show_tips<W: fmt::Write>(f: &mut fmt::Formatter<W>) -> fmt::Result {
     Ok(())
 }
 
-/// Shows the head: the title, the colours, and how arrows end.
+/// Shows the head: the colours, and how arrows end.
 pub(crate) fn show_head<W: fmt::Write>(f: &mut fmt::Formatter<W>) -> fmt::Result {
     f.write_str(HEAD)?;
     show_tips(f)?;
@@ -187,6 +187,11 @@ fn show_sign<W: fmt::Write>(
 }
 
 impl Legend {
+    /// Whether a frame is drawn: a count isn't if counts are left out.
+    pub(crate) fn draws(&self, frame: Frame) -> bool {
+        !self.counts_left_out || !matches!(frame, Frame::Got { .. })
+    }
+
     /// Each sign, with its words, and whether it is there.
     fn signs(&self) -> [(bool, Sign, &'static str); 8] {
         [

@@ -1,6 +1,7 @@
 //! Drawings of runs.
 #![tactic(auto)]
 
+mod description;
 mod drawing;
 mod layout;
 mod legend;

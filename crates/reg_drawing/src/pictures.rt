@@ -88,14 +88,13 @@ fn note(legend: &mut Legend, frame: Frame) {
 }
 
 /// Whether a frame that was put is drawn as one that is never taken.
-fn is_never_taken<A: Allocator + Copy>(
+pub(crate) fn is_never_taken<A: Allocator + Copy>(
     legend: &Legend,
     moments: &[Moment<A>],
     from: u8,
     sent: &Sent,
 ) -> bool {
-    let is_left_out = legend.counts_left_out && matches!(sent.frame, Frame::Got { .. });
-    !is_left_out && !is_taken(moments, from, sent.to, sent.place)
+    legend.draws(sent.frame) && !is_taken(moments, from, sent.to, sent.place)
 }
 
 /// Notes the lines of the frames that are never taken.

@@ -3,7 +3,7 @@ use reg_base::{Answer, Names, OpId};
 use reg_frames::Frame;
 use reg_process::Delivered;
 use reg_text::{Sink, put_answer};
-use reg_trace::{put_cast, put_frame};
+use reg_trace::{Sent, put_cast, put_frame};
 use std::alloc::Allocator;
 use std::io::{self, ErrorKind, Write};
 use std::{fmt, str};
@@ -74,6 +74,19 @@ pub struct TakeText<'a, A: Allocator + Copy> {
     /// Its place on its wire.
     pub place: usize,
     pub frame: Frame,
+}
+
+impl<A: Allocator + Copy> TakeText<'_, A> {
+    /// The take of a frame that a process put.
+    pub fn of<'a>(names: &'a Names<A>, from: u8, sent: &Sent) -> TakeText<'a, A> {
+        TakeText {
+            names,
+            from,
+            to: sent.to,
+            place: sent.place,
+            frame: sent.frame,
+        }
+    }
 }
 
 impl<A: Allocator + Copy> fmt::Display for TakeText<'_, A> {

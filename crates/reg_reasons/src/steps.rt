@@ -9,7 +9,7 @@ use reg_commands::Fault;
 use reg_frames::Frame;
 use reg_front::{FrontEnd, by_front};
 use reg_history::Entry;
-use reg_log::{Recorded, parse_record, recorded_line};
+use reg_log::{Record, Recorded, parse_record, recorded_line};
 use reg_process::{Reply, Step};
 use reg_records::LogEntry;
 use reg_verify::VerifyFault;
@@ -73,14 +73,14 @@ fn have_one_number(frame: Frame, other: Frame) -> bool {
 
 /// A step that its process doesn't make after these steps.
 #[derive(Drop)]
-struct WrongStep<'a, A: Allocator + Copy> {
+struct WrongStep<'n, 's, A: Allocator + Copy> {
     shape: Shape,
-    names: &'a Names<A>,
-    before: &'a [Recorded],
+    names: &'n Names<A>,
+    before: &'s [Recorded],
     step: Recorded,
 }
 
-impl<A: Allocator + Copy> WrongStep<'_, A> {
+impl<A: Allocator + Copy> WrongStep<'_, '_, A> {
     /// The world after the steps before it. They are a run, each with its reply, so there is one unless there is no
     /// memory.
     fn world<F: FrontEnd>(&self, alloc: A) -> Result<World<F, A>, AllocError> {
@@ -214,17 +214,23 @@ fn explain_step<A: Allocator + Copy>(
     let Ok(record) = parse_record(notes.alloc, text) else {
         return Err(AllocError);
     };
+    let Record {
+        front,
+        shape,
+        names,
+        steps,
+    } = record;
     let place = number.saturating_sub(FIRST_STEP) as usize;
-    let Some((before, [step, ..])) = record.steps.as_slice().split_at_checked(place) else {
+    let Some((before, [step, ..])) = steps.as_slice().split_at_checked(place) else {
         return Ok(());
     };
     let wrong = WrongStep {
-        shape: record.shape,
-        names: &record.names,
+        shape,
+        names: &names,
         before,
         step: *step,
     };
-    by_front!(record.front, wrong.explain::<_>(notes))
+    by_front!(front, wrong.explain::<_>(notes))
 }
 
 /// What explains the fault that `verify` tells of a record.

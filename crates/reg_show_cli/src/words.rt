@@ -61,7 +61,7 @@ usage: awshow replay                 reads a schedule, prints the report of its 
        awshow page [--whole]         reads the same, prints a page that steps through the run
        awshow data                   reads the same, prints the run as JSON
        awshow rest                   reads the same, prints the schedule with the events that bring the run to rest
-       awshow why                    reads any of the three texts, prints what is wrong with it, and where
+       awshow why                    reads any of these texts but JSON, prints what is wrong with it, and where
        awshow verify                 reads a record of processes that ran apart, prints the report of their run
        awshow judge                  reads a history as JSON lines, prints whether it is linearizable, key by key
        awshow judge --first VALUE    the same of registers that have this first value, as JSON has it
