@@ -5,11 +5,11 @@ use Rattle.std.specs.BTreeMap.{BTreeMap, get}
 use Rattle.reg_base.specs.declared.memory.Op.{Op}
 use Rattle.reg_outcomes.specs.declared.told.ToldAnswer.{ToldAnswer}
 use Rattle.reg_outcomes.specs.Interleavings.{AreAll, CountsStages, HasMoreStages, Interleaving}
-use Rattle.reg_outcomes.specs.declared.tallies.Tally.{Tally}
+use Rattle.reg_outcomes.specs.declared.tables.tallies.Tally.{Tally}
 use Rattle.reg_outcomes.specs.PlayTables.{HasOutcome, Nothing, Seen}
 use Rattle.reg_outcomes.specs.Counts.{IsCounted, TellsOf, key_cmp}
 use Rattle.reg_outcomes.specs.Outcomes.{CountsUndrawn, TellsUndrawn, WasDrawn}
-use Rattle.reg_outcomes.specs.declared.undrawn.TheConstants.{MOST_COUNTED_STAGES}
+use Rattle.reg_outcomes.specs.declared.tables.undrawn.TheConstants.{MOST_COUNTED_STAGES}
 use Rattle.reg_outcomes.proofs.Those.{those_at, those_more, those_same}
 
 module _ {K : Type 0} (items : K → List ToldAnswer) (plays : List Seen) (told : BTreeMap K Tally) (unfinished : ℕ) (counted : IsCounted items plays told unfinished) (key : K) (i : Interleaving) (is : items key ≡ i.told) where

@@ -9,7 +9,7 @@ use Rattle.std.proofs.lemmas.Option.{same_Some, slice_get_within}
 use Rattle.reg_checkers.specs.History.{IsAt}
 use Rattle.reg_checkers.proofs.Pushing.{at_push}
 use Rattle.reg_outcomes.specs.declared.told.ToldAnswer.{ToldAnswer}
-use Rattle.reg_outcomes.specs.declared.tallies.Tally.{Tally}
+use Rattle.reg_outcomes.specs.declared.tables.tallies.Tally.{Tally}
 use Rattle.reg_outcomes.specs.PlayTables.{Seen, HasOutcome, IsFirst, IsNoShorter, IsTally, IsTallyOf, Nothing}
 use Rattle.reg_outcomes.specs.Counts.{IsShorter, IsShortest, TellsOf, key_cmp, IsCounted, HasRoom}
 use Rattle.reg_outcomes.proofs.Those.{at_front, at_new, at_cases, those_more, those_same, no_those, those_few}

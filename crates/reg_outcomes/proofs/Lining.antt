@@ -13,7 +13,7 @@ use Rattle.std.proofs.lemmas.Map.Keys.{IsDistinct-from_sorted, IsDistinct-IsPerm
 use Rattle.reg_checkers.specs.History.{IsAt}
 use Rattle.reg_checkers.proofs.Places.{IsAt-map, at_map}
 use Rattle.reg_outcomes.specs.declared.told.ToldAnswer.{ToldAnswer}
-use Rattle.reg_outcomes.specs.declared.tallies.Tally.{Tally}
+use Rattle.reg_outcomes.specs.declared.tables.tallies.Tally.{Tally}
 use Rattle.reg_outcomes.specs.PlayTables.{Seen, Line, IsTallyOf, IsTable, StandsBefore}
 use Rattle.reg_outcomes.specs.Counts.{TellsOf, IsCounted, key_cmp, line_cmp, line_of}
 use Rattle.reg_outcomes.proofs.Elements.{has_at}

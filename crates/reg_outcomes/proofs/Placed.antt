@@ -17,8 +17,8 @@ use Rattle.reg_checkers.proofs.Histories.{call_is}
 use Rattle.reg_world.proofs.lists.Members.{map_append}
 use Rattle.reg_outcomes.specs.declared.faults.InterleavingFault.{InterleavingFault}
 use Rattle.reg_outcomes.specs.declared.faults.InterleavingFault.TheVariants.{TooManyStages, OutOfMemory}
-use Rattle.reg_outcomes.specs.declared.kinds.OrderKind.{OrderKind}
-use Rattle.reg_outcomes.specs.declared.kinds.OrderKind.TheVariants.{Points}
+use Rattle.reg_outcomes.specs.declared.orders.kinds.OrderKind.{OrderKind}
+use Rattle.reg_outcomes.specs.declared.orders.kinds.OrderKind.TheVariants.{Points}
 use Rattle.reg_outcomes.specs.Finding.{ArePlacedBefore, IsFindFault, MayCome, MayFollow, Next, Nothing, Places, placed_after}
 use Rattle.reg_outcomes.specs.Interleavings.{Stage, first_stage}
 use Rattle.reg_outcomes.specs.Layers.{Adds, IsAfterSome, IsFirstOf, IsSomeOf, Refuses}

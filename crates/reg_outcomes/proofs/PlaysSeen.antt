@@ -15,7 +15,7 @@ use Rattle.reg_checkers.specs.declared.entries.Entry.{Entry}
 use Rattle.reg_checkers.specs.History.{IsAt}
 use Rattle.reg_checkers.proofs.Places.{get_push_other, same_at}
 use Rattle.reg_outcomes.specs.declared.told.ToldAnswer.{ToldAnswer}
-use Rattle.reg_outcomes.specs.declared.tallies.Tally.{Tally}
+use Rattle.reg_outcomes.specs.declared.tables.tallies.Tally.{Tally}
 use Rattle.reg_outcomes.specs.Told.{outcome_of}
 use Rattle.reg_outcomes.specs.PlayTables.{Seen}
 use Rattle.reg_outcomes.specs.Counts.{IsCounted}
@@ -29,8 +29,8 @@ use Rattle.reg_world.specs.RealTime.{KeepsRealTime}
 use Rattle.reg_world.specs.World.{run_of, whole}
 use Rattle.reg_outcomes.specs.declared.faults.InterleavingFault.{InterleavingFault}
 use Rattle.reg_outcomes.specs.declared.faults.InterleavingFault.TheVariants.{TooManyStages, OutOfMemory}
-use Rattle.reg_outcomes.specs.declared.kinds.OrderKind.TheVariants.{Points}
-use Rattle.reg_outcomes.specs.declared.outcomes.TheConstants.{MOST_STAGES}
+use Rattle.reg_outcomes.specs.declared.orders.kinds.OrderKind.TheVariants.{Points}
+use Rattle.reg_outcomes.specs.declared.interleavings.outcomes.TheConstants.{MOST_STAGES}
 use Rattle.reg_outcomes.specs.Finishing.{AllAnswered}
 use Rattle.reg_outcomes.proofs.Answering.{used_where_answered}
 use Rattle.reg_outcomes.specs.Finding.{IsFindFault, IsWiderSearch}

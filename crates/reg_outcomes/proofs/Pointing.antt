@@ -21,8 +21,8 @@ use Rattle.reg_outcomes.proofs.Elements.{take_at as first_and_next}
 use Rattle.reg_world.proofs.lists.Members.{map_append}
 use Rattle.reg_outcomes.specs.declared.faults.InterleavingFault.{InterleavingFault}
 use Rattle.reg_outcomes.specs.declared.faults.InterleavingFault.TheVariants.{TooManyStages, OutOfMemory}
-use Rattle.reg_outcomes.specs.declared.kinds.OrderKind.{OrderKind}
-use Rattle.reg_outcomes.specs.declared.kinds.OrderKind.TheVariants.{Serial, Points}
+use Rattle.reg_outcomes.specs.declared.orders.kinds.OrderKind.{OrderKind}
+use Rattle.reg_outcomes.specs.declared.orders.kinds.OrderKind.TheVariants.{Serial, Points}
 use Rattle.reg_outcomes.specs.Finding.{IsFindFault, Next, Nothing, Places}
 use Rattle.reg_outcomes.specs.Interleavings.{Stage}
 use Rattle.reg_outcomes.specs.Placing.{ArePointsOf, IsOrder, KeepsRealTime}

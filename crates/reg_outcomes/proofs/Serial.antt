@@ -27,8 +27,8 @@ use Rattle.reg_outcomes.proofs.Elements.{none_at_first, take_at as first_and_nex
 use Rattle.reg_world.proofs.lists.Bodies.{place_first, place_last}
 use Rattle.reg_world.proofs.lists.Members.{at_in}
 use Rattle.reg_world.proofs.one_memory.Replicas.{memory-append}
-use Rattle.reg_outcomes.specs.declared.kinds.OrderKind.{OrderKind}
-use Rattle.reg_outcomes.specs.declared.kinds.OrderKind.TheVariants.{Serial, Points}
+use Rattle.reg_outcomes.specs.declared.orders.kinds.OrderKind.{OrderKind}
+use Rattle.reg_outcomes.specs.declared.orders.kinds.OrderKind.TheVariants.{Serial, Points}
 use Rattle.reg_outcomes.specs.Finding.{MayCome, MayFollow, Next, Nothing, Places, placed_after}
 use Rattle.reg_outcomes.specs.Interleavings.{Stage, first_stage}
 use Rattle.reg_outcomes.specs.Placing.{IsComplete, IsOrder, IsOrderBy, KeepsRealTime, KeepsTime, ids_along}

@@ -7,8 +7,8 @@ use Rattle.std.proofs.lemmas.Option.{slice_get_within, same_Some}
 use Rattle.reg_base.specs.declared.memory.Op.{Op}
 use Rattle.reg_base.specs.Order.{In}
 use Rattle.reg_checkers.specs.History.{IsAt}
-use Rattle.reg_outcomes.specs.declared.layers.GrowingLayer.{GrowingLayer}
-use Rattle.reg_outcomes.specs.declared.stages.Stage.{Stage as Held}
+use Rattle.reg_outcomes.specs.declared.interleavings.layers.GrowingLayer.{GrowingLayer}
+use Rattle.reg_outcomes.specs.declared.interleavings.stages.Stage.{Stage as Held}
 use Rattle.reg_outcomes.specs.Interleavings.{Stage, script_of, stage_after}
 use Rattle.reg_outcomes.specs.Layers.{Adds, IsAfterSome, IsFirstOf, IsFirstStep, IsNext, IsReady, IsSomeOf, IsStep, entries_of, reached}
 

@@ -7,7 +7,7 @@ use Rattle.reg_base.specs.declared.memory.Answer.TheVariants.{Done, Value, Unequ
 use Rattle.reg_base.specs.declared.memory.Op.{Op}
 use Rattle.reg_text.specs.Lines.{text_of}
 use Rattle.reg_outcomes.specs.declared.told.ToldAnswer.{ToldAnswer}
-use Rattle.reg_outcomes.specs.declared.nevers.TheConstants.{MOST_NEVERS}
+use Rattle.reg_outcomes.specs.declared.interleavings.nevers.TheConstants.{MOST_NEVERS}
 use Rattle.reg_outcomes.specs.Interleavings.{AreAll, CountsStages, Interleaving}
 use Rattle.reg_outcomes.specs.Nevers.{TellsNevers, tells}
 

@@ -15,7 +15,7 @@ use Rattle.reg_outcomes.specs.declared.told.ToldAnswer.{ToldAnswer}
 use Rattle.reg_outcomes.specs.Told.{told_cmp}
 use Rattle.reg_outcomes.specs.declared.faults.InterleavingFault.{InterleavingFault}
 use Rattle.reg_outcomes.specs.declared.faults.InterleavingFault.TheVariants.{TooManyStages, OutOfMemory}
-use Rattle.reg_outcomes.specs.declared.stages.Stage.{Stage as Held}
+use Rattle.reg_outcomes.specs.declared.interleavings.stages.Stage.{Stage as Held}
 use Rattle.reg_outcomes.specs.Interleavings.{Interleaving, Stage, Leads, script_of, stage_after}
 
 -- the stage that a value of the code stands for

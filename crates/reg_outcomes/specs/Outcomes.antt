@@ -18,13 +18,13 @@ use Rattle.reg_world.specs.World.{run_of}
 use Rattle.reg_world.specs.Worlds.{Made, run_in}
 use Rattle.reg_outcomes.specs.declared.faults.InterleavingFault.{InterleavingFault}
 use Rattle.reg_outcomes.specs.declared.faults.InterleavingFault.TheVariants.{TooManyStages, OutOfMemory}
-use Rattle.reg_outcomes.specs.declared.kinds.OrderKind.TheVariants.{Points}
-use Rattle.reg_outcomes.specs.declared.outcomes.TheConstants.{MOST_STAGES}
+use Rattle.reg_outcomes.specs.declared.orders.kinds.OrderKind.TheVariants.{Points}
+use Rattle.reg_outcomes.specs.declared.interleavings.outcomes.TheConstants.{MOST_STAGES}
 use Rattle.reg_outcomes.specs.Finding.{IsWiderSearch}
 use Rattle.reg_outcomes.specs.Finishing.{AllAnswered}
 use Rattle.reg_outcomes.specs.Interleavings.{AreAll, CountsStages, HasMoreStages, Interleaving}
 use Rattle.reg_outcomes.specs.Told.{outcome_of}
-use Rattle.reg_outcomes.specs.declared.undrawn.TheConstants.{MOST_COUNTED_STAGES}
+use Rattle.reg_outcomes.specs.declared.tables.undrawn.TheConstants.{MOST_COUNTED_STAGES}
 use Rattle.reg_outcomes.specs.PlayTables.{AreThose, CountsUnfinished, HasOutcome, IsTable, Line, Seen}
 
 -- the play of a workload by the words of PCG32 from this seed

@@ -11,10 +11,10 @@ use Rattle.reg_checkers.specs.declared.entries.Point.{Point}
 use Rattle.reg_checkers.specs.History.{IsAnswered, IsAt, IsCalled, IsFinished}
 use Rattle.reg_checkers.specs.Orders.{IsSerial}
 use Rattle.reg_checkers.specs.Progress.{op_of}
-use Rattle.reg_outcomes.specs.declared.finding.Search.{Search}
-use Rattle.reg_outcomes.specs.declared.finding.Search.TheVariants.{Found, Open}
-use Rattle.reg_outcomes.specs.declared.kinds.OrderKind.{OrderKind}
-use Rattle.reg_outcomes.specs.declared.kinds.OrderKind.TheVariants.{Serial, Points}
+use Rattle.reg_outcomes.specs.declared.orders.finding.Search.{Search}
+use Rattle.reg_outcomes.specs.declared.orders.finding.Search.TheVariants.{Found, Open}
+use Rattle.reg_outcomes.specs.declared.orders.kinds.OrderKind.{OrderKind}
+use Rattle.reg_outcomes.specs.declared.orders.kinds.OrderKind.TheVariants.{Serial, Points}
 use Rattle.reg_outcomes.specs.Finding.{MayCome, MayFollow, placed_after}
 use Rattle.reg_outcomes.specs.Interleavings.{Stage}
 use Rattle.reg_outcomes.specs.Layers.{Adds, IsAfterSome, entries_of}

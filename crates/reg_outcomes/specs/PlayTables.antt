@@ -5,7 +5,7 @@ use Rattle.std.specs.Cmp.Lexicographic.{slice_cmp}
 use Rattle.reg_checkers.specs.History.{IsAt}
 use Rattle.reg_outcomes.specs.declared.told.ToldAnswer.{ToldAnswer}
 use Rattle.reg_outcomes.specs.Told.{told_cmp}
-use Rattle.reg_outcomes.specs.declared.tallies.Tally.{Tally}
+use Rattle.reg_outcomes.specs.declared.tables.tallies.Tally.{Tally}
 
 -- What is known of a play: the seed of its words, whether it is finished, the number of its events, what its operations
 -- told, and whether its history is linearizable.

@@ -2,7 +2,7 @@
 use Rattle.std.specs.Prelude.{ℕ, List}
 use Rattle.reg_base.specs.Shape.{Extent}
 use Rattle.reg_checkers.specs.declared.entries.Entry.{Entry}
-use Rattle.reg_outcomes.specs.declared.kinds.OrderKind.{OrderKind}
+use Rattle.reg_outcomes.specs.declared.orders.kinds.OrderKind.{OrderKind}
 
 -- what is looked for: an order of this kind, of this history, where the same number of operations leads to no more
 -- stages than the limit

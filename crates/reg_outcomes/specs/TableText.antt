@@ -5,7 +5,7 @@ use Rattle.std.specs.Fmt.{decimal}
 use Rattle.reg_text.specs.Columns.{to_right}
 use Rattle.reg_text.specs.Lines.{text_of}
 use Rattle.reg_outcomes.specs.AllText.{told_text}
-use Rattle.reg_outcomes.specs.declared.tallies.Tally.{Tally}
+use Rattle.reg_outcomes.specs.declared.tables.tallies.Tally.{Tally}
 use Rattle.reg_outcomes.specs.PlayTables.{Line}
 
 -- `late` where no play is linearizable

@@ -10,9 +10,9 @@ ghost use Rattle.reg_outcomes.specs.Interleavings.{ArePlayable, IsInterleaving};
 ghost use Rattle.reg_outcomes.specs.Showing.{IsRunOf, IsTurnsFault};
 ghost use Rattle.reg_outcomes.specs.Turning.{IsTurn, MayTurn};
 
-use crate::layers::count_operations;
-use crate::outcomes::Outcome;
-use crate::stages::Stage;
+use crate::interleavings::layers::count_operations;
+use crate::interleavings::outcomes::Outcome;
+use crate::interleavings::stages::Stage;
 use reg_base::limits::MOST_EVENTS;
 use reg_base::{Op, Shape};
 use reg_front::FrontEnd;

@@ -10,7 +10,7 @@ use Rattle.reg_commands.proofs.WithinReport.{in_range}
 use Rattle.reg_history.specs.Reports.{Contents, IsReport, IsReportFault, SpellsReport, report_text}
 use Rattle.reg_history.specs.declared.report_faults.ReportFault.{ReportFault}
 use Rattle.reg_history.specs.declared.report_faults.ReportFault.TheVariants.{Front as FrontFault, Names as NamesFault, Range as RangeFault}
-use Rattle.reg_outcomes.specs.declared.kinds.OrderKind.{OrderKind}
+use Rattle.reg_outcomes.specs.declared.orders.kinds.OrderKind.{OrderKind}
 use Rattle.reg_show.specs.declared.faults.ShowFault.{ShowFault}
 use Rattle.reg_show.specs.Finding.{BlamesFind, Finds, HasNone, IsReordered, IsUnfound, none_text, with_order}
 

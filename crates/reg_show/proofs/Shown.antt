@@ -4,7 +4,7 @@ use Rattle.std.specs.Prelude.{IfErr, IfOk, IsErrOf, MatchResult}
 use Rattle.std.specs.List.{sum_by}
 use Rattle.reg_base.specs.declared.memory.Op.{Op}
 use Rattle.reg_outcomes.specs.declared.told.ToldAnswer.{ToldAnswer}
-use Rattle.reg_outcomes.specs.declared.nevers.TheConstants.{MOST_NEVERS}
+use Rattle.reg_outcomes.specs.declared.interleavings.nevers.TheConstants.{MOST_NEVERS}
 use Rattle.reg_outcomes.specs.AllText.{ShowsAll, all_text}
 use Rattle.reg_outcomes.specs.Interleavings.{AreAll, CountsStages, Interleaving}
 use Rattle.reg_outcomes.specs.Nevers.{TellsNevers, tells}

@@ -14,7 +14,7 @@ use Rattle.reg_commands.specs.declared.faults.Fault.TheVariants.{OutOfMemory, Ou
 use Rattle.reg_outcomes.specs.Finishing.{HasRoom}
 use Rattle.reg_outcomes.specs.Interleavings.{Interleaving, IsWider}
 use Rattle.reg_outcomes.specs.Showing.{IsRunOf}
-use Rattle.reg_outcomes.specs.declared.outcomes.TheConstants.{MOST_STAGES}
+use Rattle.reg_outcomes.specs.declared.interleavings.outcomes.TheConstants.{MOST_STAGES}
 use Rattle.reg_show.specs.OneOutcome.{Lacks, SendsRun, StopsOutcome}
 use Rattle.reg_show.specs.declared.faults.ShowFault.{ShowFault}
 use Rattle.reg_show.specs.declared.faults.ShowFault.TheVariants.{Command, NoSuchOutcome, TooManyEvents, TooManyStages, TooManyToDraw, TooManyToRest, TooManyToShorten}

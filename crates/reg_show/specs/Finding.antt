@@ -9,9 +9,9 @@ use Rattle.reg_commands.specs.Answers.{Blames}
 use Rattle.reg_commands.specs.declared.command.Command.TheVariants.{Check}
 use Rattle.reg_commands.specs.declared.faults.Fault.TheVariants.{OutOfMemory}
 use Rattle.reg_history.specs.Reports.{Contents, SpellsReport, report_text}
-use Rattle.reg_outcomes.specs.declared.kinds.OrderKind.{OrderKind}
-use Rattle.reg_outcomes.specs.declared.kinds.OrderKind.TheVariants.{Serial, Points}
-use Rattle.reg_outcomes.specs.declared.outcomes.TheConstants.{MOST_STAGES}
+use Rattle.reg_outcomes.specs.declared.orders.kinds.OrderKind.{OrderKind}
+use Rattle.reg_outcomes.specs.declared.orders.kinds.OrderKind.TheVariants.{Serial, Points}
+use Rattle.reg_outcomes.specs.declared.interleavings.outcomes.TheConstants.{MOST_STAGES}
 use Rattle.reg_outcomes.specs.Finding.{IsWiderSearch}
 use Rattle.reg_show.specs.declared.faults.ShowFault.{ShowFault}
 use Rattle.reg_show.specs.declared.faults.ShowFault.TheVariants.{Command, TooManyStages}

@@ -10,7 +10,7 @@ use Rattle.reg_inputs.specs.ScheduleText.{IsScheduleText, schedule_text}
 use Rattle.reg_outcomes.specs.Finishing.{HasRoom}
 use Rattle.reg_outcomes.specs.Interleavings.{AreAll, Interleaving, IsWider}
 use Rattle.reg_outcomes.specs.Showing.{IsRunOf}
-use Rattle.reg_outcomes.specs.declared.outcomes.TheConstants.{MOST_STAGES}
+use Rattle.reg_outcomes.specs.declared.interleavings.outcomes.TheConstants.{MOST_STAGES}
 use Rattle.reg_show.specs.declared.faults.ShowFault.{ShowFault}
 use Rattle.reg_show.specs.declared.faults.ShowFault.TheVariants.{Command, NoSuchOutcome, TooManyEvents, TooManyStages}
 use Rattle.reg_world.specs.Worlds.{Made}

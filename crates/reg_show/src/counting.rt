@@ -3,7 +3,7 @@ ghost use Rattle.std.specs.Prelude.{◌≡◌, ◌≢◌, ◌≤◌, IfOk, IfErr
 ghost use Rattle.std.specs.Io.KnownBytes.{Appends};
 ghost use Rattle.reg_text.specs.Writing.{AppendsPart};
 ghost use Rattle.reg_commands.specs.Replays.{start_of};
-ghost use Rattle.reg_outcomes.specs.declared.plays.TheConstants.{MOST_PLAYS};
+ghost use Rattle.reg_outcomes.specs.declared.tables.plays.TheConstants.{MOST_PLAYS};
 ghost use Rattle.reg_outcomes.specs.TableText.{table_text};
 ghost use Rattle.reg_show.specs.Outcomes.{ShowsOutcomes, StopsPlays};
 ghost use Rattle.reg_show.specs.Seeds.{IsSeed, reseeded};

@@ -5,7 +5,7 @@ ghost use Rattle.std.specs.Io.KnownBytes.{Appends};
 ghost use Rattle.reg_text.specs.Writing.{AppendsPart};
 ghost use Rattle.reg_outcomes.specs.AllText.{ShowsAll, all_text};
 ghost use Rattle.reg_outcomes.specs.Interleavings.{IsWider};
-ghost use Rattle.reg_outcomes.specs.declared.outcomes.TheConstants.{MOST_STAGES};
+ghost use Rattle.reg_outcomes.specs.declared.interleavings.outcomes.TheConstants.{MOST_STAGES};
 ghost use Rattle.reg_show.specs.AllOutcomes.{StopsAll};
 
 use crate::faults::ShowFault;

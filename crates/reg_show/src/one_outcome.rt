@@ -6,7 +6,7 @@ ghost use Rattle.reg_commands.specs.Replays.{start_of};
 ghost use Rattle.reg_outcomes.specs.Finishing.{HasRoom};
 ghost use Rattle.reg_outcomes.specs.Interleavings.{AreAll, IsInterleaving, IsWider};
 ghost use Rattle.reg_outcomes.specs.Showing.{IsRunOf};
-ghost use Rattle.reg_outcomes.specs.declared.outcomes.TheConstants.{MOST_STAGES};
+ghost use Rattle.reg_outcomes.specs.declared.interleavings.outcomes.TheConstants.{MOST_STAGES};
 ghost use Rattle.reg_show.specs.OneOutcome.{Lacks, SendsRun, ShowsOutcome, StopsOutcome};
 
 use crate::faults::ShowFault;

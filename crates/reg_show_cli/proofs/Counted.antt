@@ -5,11 +5,11 @@ use Rattle.std.specs.Str.{bytes_eq}
 use Rattle.std.proofs.lemmas.Slice.Eq.{bytes_eq-Decides}
 use Rattle.std.proofs.lemmas.Option.{same_Some}
 use Rattle.reg_args.specs.Lines.{Text}
-use Rattle.reg_outcomes.specs.declared.plays.TheConstants.{MOST_PLAYS}
+use Rattle.reg_outcomes.specs.declared.tables.plays.TheConstants.{MOST_PLAYS}
 use Rattle.reg_show_cli.specs.declared.words.Asked.{Asked}
 use Rattle.reg_show_cli.specs.declared.words.Asked.TheVariants.{AllOutcomes, Find, Help, Judge, Outcome, Outcomes, Schedule, ShortSchedule, Show, Text as OfText, Verify, Version, Why}
-use Rattle.reg_outcomes.specs.declared.kinds.OrderKind.{OrderKind}
-use Rattle.reg_outcomes.specs.declared.kinds.OrderKind.TheVariants.{Serial, Points}
+use Rattle.reg_outcomes.specs.declared.orders.kinds.OrderKind.{OrderKind}
+use Rattle.reg_outcomes.specs.declared.orders.kinds.OrderKind.TheVariants.{Serial, Points}
 use Rattle.reg_show.specs.declared.Player.{Player}
 use Rattle.reg_show_cli.specs.Lines.{IsAllLine, IsFindLine, IsHelpLine, IsJudgeLine, IsLineOf, IsOneOutcomeLine, IsOutcomesLine, IsScheduleLine, IsShortLine, IsShowLine, IsVerifyLine, IsVersionLine, IsWhyLine, NumbersFit, SaysPlays, text_line}
 use Rattle.reg_show.specs.declared.showing.View.{View}

@@ -5,7 +5,7 @@ use Rattle.std.specs.Fmt.{decimal}
 use Rattle.std.proofs.lemmas.Fmt.{decimal_injective}
 use Rattle.reg_args.specs.Lines.{Text}
 use Rattle.reg_base.specs.declared.limits.TheConstants.{LAST_SEED}
-use Rattle.reg_outcomes.specs.declared.plays.TheConstants.{MOST_PLAYS}
+use Rattle.reg_outcomes.specs.declared.tables.plays.TheConstants.{MOST_PLAYS}
 use Rattle.reg_show.specs.Seeds.{IsSeed}
 use Rattle.reg_show_cli.specs.declared.flags.Plays.{Plays}
 use Rattle.reg_show_cli.specs.Lines.{IsOneOutcomeLine, IsOutcomesLine, SaysPlays, SaysSeed, plays_words, seed_words}

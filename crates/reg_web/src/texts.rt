@@ -4,7 +4,7 @@ ghost use Rattle.std.specs.Prelude.{◌≡◌};
 ghost use Rattle.reg_commands.specs.Kinds.{kind_of as kind_of_text};
 ghost use Rattle.reg_commands.specs.Lent.{Fills};
 ghost use Rattle.reg_commands.specs.declared.command.Command.{Command};
-ghost use Rattle.reg_outcomes.specs.declared.kinds.OrderKind.{OrderKind as AnyOrder};
+ghost use Rattle.reg_outcomes.specs.declared.orders.kinds.OrderKind.{OrderKind as AnyOrder};
 ghost use Rattle.reg_show.specs.declared.showing.Showing.{Showing as AnyShowing};
 ghost use Rattle.reg_web.specs.Texts.{IsAnswer, IsFound, IsShown, IsVerified, kind_number};
 

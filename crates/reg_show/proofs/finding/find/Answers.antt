@@ -3,7 +3,7 @@ use Rattle.std.specs.Io.KnownBytes.{Appends}
 use Rattle.std.proofs.lemmas.Result.{err_from_is_err_and}
 use Rattle.reg_text.specs.Writing.{AppendsPart}
 use Rattle.reg_history.specs.Reports.{Contents, SpellsReport}
-use Rattle.reg_outcomes.specs.declared.kinds.OrderKind.{OrderKind}
+use Rattle.reg_outcomes.specs.declared.orders.kinds.OrderKind.{OrderKind}
 use Rattle.reg_show.specs.Finding.{HasNone, IsReordered}
 use Rattle.reg_show.proofs.Reordering.{blamed, found_any, none_any}
 use Rattle.reg_show.proofs.finding.find.Goals as goal

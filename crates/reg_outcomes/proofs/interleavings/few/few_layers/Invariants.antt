@@ -1,0 +1,8 @@
+use Rattle.std.proofs.Common.{map}
+use Rattle.reg_outcomes.specs.Layers.{entries_of}
+use Rattle.reg_outcomes.proofs.Layering.{IsFewSoFar}
+use Rattle.reg_outcomes.proofs.interleavings.few.few_layers.Given as goal
+
+-- the layer after the turns so far
+abbrev pub invariant-loop-turn : goal.invariant-loop-turn
+invariant-loop-turn g l = IsFewSoFar (map (λ v. v.items) l.scripts) l.registers l.most l._turn (entries_of l.layer) l.stages

@@ -1,6 +1,0 @@
-use Rattle.std.proofs.Common.{◌≡◌, ◌++◌}
-use Rattle.reg_outcomes.proofs.nevers.listed_within.Given as goal
-
--- the combinations so far, and those that are left
-abbrev pub invariant-loop-combination : goal.invariant-loop-combination
-invariant-loop-combination g l = l.list.items ++ l.combination-iterator ≡ l.fn.combinations.keys
