@@ -1,6 +1,5 @@
 -- What is told of a record of processes that ran apart.
-use Rattle.std.specs.Prelude.{ℕ, ◌≡◌, Bool, true, false, List, [], ◌∷◌, ◌++◌, length, codes}
-use Rattle.std.specs.Cmp.{nat_eq}
+use Rattle.std.specs.Prelude.{ℕ, ◌≡◌, Bool, true, false, List, [], ◌∷◌, ◌++◌, length, codes, nat_eq}
 use Rattle.std.specs.List.{starts_with}
 use Rattle.reg_front.specs.Table.{front_name}
 use Rattle.reg_commands.specs.Replays.{start_of}

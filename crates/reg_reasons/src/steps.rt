@@ -106,11 +106,9 @@ impl<A: Allocator + Copy> WrongStep<'_, '_, A> {
             },
         };
         if let Ok(line) = recorded_line(notes.alloc, self.names, &right) {
-            notes.put(&[
-                "after the lines before it, this one is ",
-                line.as_str(),
-                "\n",
-            ]);
+            notes.put(&["after the lines before it, this one is "]);
+            notes.sink.put(line.as_bytes());
+            notes.put(&["\n"]);
         }
     }
 
