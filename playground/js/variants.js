@@ -47,7 +47,10 @@ function namesOf({ start, varies = [] }, seed) {
 
 const inNumbers = (text, rename) => text.replace(/\d+/g, rename);
 const inLetters = (text, rename) => text.replace(/\b[a-z]\b/g, rename);
-/** Where names stand, in texts and in prose. @type {Place[]} */
+/**
+ * Where names stand, in texts and in prose.
+ * @type {Place[]}
+ */
 const PLACES = [
   ["\\b(?:call |tick |[Pp]rocess |p)\\d+", (found, { processes }) => inNumbers(found, processes)],
   ["\\btake \\d+ \\d+ \\d+", (found, { processes }) => found.replace(/\d+ \d+/, wire => inNumbers(wire, processes))],
@@ -56,7 +59,10 @@ const PLACES = [
   ["\\bvalue \\d+", (found, { values }) => inNumbers(found, values)],
   ["^registers .*$|^[a-z]$", (found, { registers }) => inLetters(found, registers)],
 ];
-/** In prose any other number is a value, and any other letter that stands alone a register. @type {Place[]} */
+/**
+ * In prose any other number is a value, and any other letter that stands alone a register.
+ * @type {Place[]}
+ */
 const IN_PROSE = [...PLACES, ["(?<!#)\\b\\d+\\b", (found, { values }) => values(found)],
   ["(?<!')\\b[a-z]\\b", (found, { registers }) => registers(found)]];
 
