@@ -74,9 +74,11 @@ const seedFor = (student, { variant = "", "by-name": isByName }) => isByName ? `
 function variantsWithStarts() {
   const known = new Map();
   return (exercise, seed) => {
-    const key = JSON.stringify([exercise.name, seed]), variant = variantOf(exercise, seed);
-    const start = () => variant.head === "free" ? null : seenOf(variant.start, { rest: false, check: false }).run;
-    if (!known.has(key)) known.set(key, { variant, start: start() });
+    const key = JSON.stringify([exercise.name, seed]);
+    if (!known.has(key)) {
+      const variant = variantOf(exercise, seed), isFree = variant.head === "free";
+      known.set(key, { variant, start: isFree ? null : seenOf(variant.start, { rest: false, check: false }).run });
+    }
     return known.get(key);
   };
 }
