@@ -49,7 +49,7 @@ export function triesOfSlides({ browser, shots }) {
         await browser.press("Home");
         assert.equal((await browser.value(SLIDE)).heading, headings[0]);
         await browser.press("End");
-        await browser.press("PageUp");
+        await browser.press("ArrowLeft");
         assert.equal((await browser.value(SLIDE)).heading, headings.at(-2));
       }
       await browser.size(1440, 940);
