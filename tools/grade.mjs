@@ -1,15 +1,16 @@
 // Grades students' texts by what the exercises want of them. Run as tools/grade.
 import { spawnSync } from "node:child_process";
-import { closeSync, lstatSync, mkdirSync, openSync, readdirSync, readSync, writeFileSync } from "node:fs";
+import { closeSync, lstatSync, mkdirSync, openSync, readdirSync, readFileSync, readSync, writeFileSync } from "node:fs";
 import { join, parse } from "node:path";
 import { parseArgs } from "node:util";
-import { asksFor, isSolved, judge } from "../playground/js/judge.js";
+import { asksFor, judge } from "../playground/js/judge.js";
+import { variantOf } from "../playground/js/variants.js";
 import { exercises, program, seenOf } from "./programs.mjs";
 
 const USAGE = `Grades the texts of a class.
 
-usage: tools/grade FOLDER [--exercise NAME] [--csv] [--memory MIB]     at the top of the repository
-       tools/grade --handout FOLDER
+usage: tools/grade FOLDER [--exercise NAME] [--variant SEED [--by-name]] [--csv] [--memory MIB]
+       tools/grade --handout FOLDER [--variant SEED [--students FILE]]     at the top of the repository
 
 FOLDER has a file for each student, named by the student, if --exercise says which exercise all of them are of; or a
 folder for each student, whose files are named by their exercises, as 08-the-lock.sched or 08.sched. Each text is judged
@@ -18,7 +19,10 @@ is not solved each thing that is missing is told. --csv prints rows for a gradeb
 64 KiB, are not read; a program that takes more than five seconds, or more memory than --memory says, is stopped. That
 is 4,096, and 0 for no limit, as a program built by rt try needs it.
 
---handout writes for each exercise its task, and the text that it starts with, and no solution.
+--handout writes for each exercise its task, what is judged, and the text that it starts with, and no solution.
+
+--variant renames values, registers and processes, by any word as SEED: all students have the same variant. With
+--by-name each has another one, by SEED and the student's name; --students writes a folder of it for each line of FILE.
 `;
 
 const MOST_BYTES = 1 << 16, SECONDS = 5;
@@ -34,14 +38,14 @@ const limited = mebibytes => (name, words, input) => {
   return { status, output: stdout, error: stderr };
 };
 
-/** The text of a student's file. */
+/** The text of a student's file, with the ends of lines that it has in the playground. */
 function textOf(path) {
   const told = lstatSync(path);
   if (!told.isFile()) throw new Refused("is no file");
   if (told.size > MOST_BYTES) throw new Refused(`has more than ${MOST_BYTES} bytes`);
   const bytes = Buffer.alloc(MOST_BYTES), file = openSync(path, "r");
   try {
-    return bytes.toString("utf8", 0, readSync(file, bytes));
+    return bytes.toString("utf8", 0, readSync(file, bytes)).replace(/^\ufeff/, "").replace(/\r\n?/g, "\n");
   } finally {
     closeSync(file);
   }
@@ -63,12 +67,28 @@ function filesIn(folder, all, only) {
   });
 }
 
+/** The seed of a student's variants. */
+const seedFor = (student, { variant = "", "by-name": isByName }) => isByName ? `${variant}/${student}` : variant;
+
+/** What gives the variant of an exercise by a seed, and the run of its start. Each is made once. */
+function variantsWithStarts() {
+  const known = new Map();
+  return (exercise, seed) => {
+    const key = JSON.stringify([exercise.name, seed]);
+    if (!known.has(key)) {
+      const variant = variantOf(exercise, seed), isFree = variant.head === "free";
+      known.set(key, { variant, start: isFree ? null : seenOf(variant.start, { rest: false, check: false }).run });
+    }
+    return known.get(key);
+  };
+}
+
 /** What is missing of an exercise: nothing where it is solved. */
-function missingOf({ exercise, path }, starts, make) {
+function missingOf({ exercise, path }, variantFor, make) {
   if (!exercise) return ["no exercise has this name"];
   try {
-    const seen = seenOf(textOf(path), asksFor(exercise), make);
-    const told = judge(exercise, starts.get(exercise.name), seen);
+    const { variant, start } = variantFor(exercise), seen = seenOf(textOf(path), asksFor(variant), make);
+    const told = judge(variant, start, seen);
     const first = seen.kind === "refused" ? [`refused: ${seen.why.split("\n")[0]}`] : [];
     return [...first, ...told.filter(({ isMet }) => !isMet).map(({ say }) => say)];
   } catch (fault) {
@@ -82,15 +102,15 @@ const plain = text => text.replace(/[\x00-\x1f\x7f-\x9f]/g, "?");
 /** A cell that no spreadsheet takes for a formula. */
 const cell = text => `"${plain(text).replace(/^[=+\-@]/, "'$&").replace(/"/g, '""')}"`;
 
-function grade(folder, { exercise: only, csv: isCsv, memory }) {
-  const make = limited(Number(memory));
+function grade(folder, asked) {
+  const { exercise: only, csv: isCsv, memory } = asked;
+  const make = limited(Number(memory)), variantOfSeed = variantsWithStarts();
   const all = exercises(), set = only ? exerciseOf(all, only) : null;
   if (only && !set) throw new Refused(`no exercise is named ${only}`);
-  const starts = new Map(all.map(exercise =>
-    [exercise.name, exercise.head === "free" ? null : seenOf(exercise.start, { rest: false, check: false }).run]));
   if (isCsv) console.log("student,exercise,solved,missing");
   for (const file of filesIn(folder, all, set)) {
-    const missing = missingOf(file, starts, make), name = file.exercise ? file.exercise.name : parse(file.path).base;
+    const missing = missingOf(file, exercise => variantOfSeed(exercise, seedFor(file.student, asked)), make);
+    const name = file.exercise ? file.exercise.name : parse(file.path).base;
     if (isCsv) {
       console.log([file.student, name, missing.length ? "no" : "yes", missing.join("; ")].map(cell).join(","));
     } else {
@@ -100,26 +120,43 @@ function grade(folder, { exercise: only, csv: isCsv, memory }) {
   }
 }
 
-/** Writes what students get: tasks and starts. */
-function handOut(folder) {
+/** Writes what students get, of the variants by a seed: tasks, what is judged, and starts. */
+function handOut(folder, seed) {
   mkdirSync(folder, { recursive: true });
-  for (const { name, title, task, hint, start } of exercises()) {
+  for (const { name, title, task, hint, start, wants } of exercises().map(exercise => variantOf(exercise, seed))) {
     const end = start.startsWith("awreg report") ? "report" : start.includes("scripts =") ? "toml" : "sched";
-    const told = [`# ${title}`, task.trim(), ...(hint ? [`Hint: ${hint.trim()}`] : [])];
+    const judged = ["What is judged:", "", ...wants.map(({ say }) => `- ${say}`)].join("\n");
+    const told = [`# ${title}`, task.trim(), judged, ...(hint ? [`Hint: ${hint.trim()}`] : [])];
     writeFileSync(join(folder, `${name}.md`), told.join("\n\n") + "\n");
     writeFileSync(join(folder, `${name}.${end}`), start.trimStart());
   }
 }
 
+/** Writes a folder for each student whose name is a line of a file, with variants of the student's own. */
+function handOutEach(folder, { variant, students }) {
+  const names = readFileSync(students, "utf8").split("\n").map(line => line.trim()).filter(Boolean);
+  const odd = names.find(name => /^\.|[/\x00-\x1f]/.test(name));
+  if (odd) throw new Refused(`no folder can have the name ${plain(odd)}`);
+  for (const name of names) handOut(join(folder, name), seedFor(name, { variant, "by-name": true }));
+}
+
+/** Whether the flags fit each other, and the folder that is graded. */
+function fits({ handout, variant, students, "by-name": isByName }, folders) {
+  return folders.length === (handout ? 0 : 1) && variant !== "" && (!isByName || variant && !handout) &&
+    (!students || variant && handout);
+}
+
 try {
   const { values, positionals } = parseArgs({ allowPositionals: true, options: {
     exercise: { type: "string" }, csv: { type: "boolean" }, memory: { type: "string", default: "4096" },
-    handout: { type: "string" },
+    handout: { type: "string" }, variant: { type: "string" }, "by-name": { type: "boolean" },
+    students: { type: "string" },
     help: { type: "boolean", short: "h" } } });
   if (values.help) console.log(USAGE.trimEnd());
-  else if (values.handout && !positionals.length) handOut(values.handout);
-  else if (positionals.length === 1 && !values.handout) grade(positionals[0], values);
-  else throw new Refused("see tools/grade --help");
+  else if (!fits(values, positionals)) throw new Refused("see tools/grade --help");
+  else if (!values.handout) grade(positionals[0], values);
+  else if (values.students) handOutEach(values.handout, values);
+  else handOut(values.handout, values.variant || "");
 } catch (fault) {
   console.error(`tools/grade: ${fault.message}`);
   process.exitCode = 2;

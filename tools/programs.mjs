@@ -59,5 +59,5 @@ export function seenOf(text, asks = { rest: true, check: true }, make = made) {
   const eventsToRest = run && asks.rest ? events(make("awshow", ["rest"], schedule).output) - events(schedule) :
     Infinity;
   const report = () => kind === "report" ? text : make("awreg", ["replay"], schedule).output;
-  return { run, kind, why, eventsToRest, check: asks.check ? make("awreg", ["check"], report()).output : "" };
+  return { text, run, kind, why, eventsToRest, check: asks.check ? make("awreg", ["check"], report()).output : "" };
 }

@@ -3,6 +3,7 @@ import { byId, html } from "../../page/js/elements.js";
 import { showBroken } from "./broken.js";
 import { textOf } from "./links.js";
 import { headOfSchedule } from "./texts.js";
+import { variantOf } from "./variants.js";
 
 export const START = headOfSchedule(2, "x", "linear");
 const option = (value, text, title = null) => html("option", { value, title }, text);
@@ -12,7 +13,8 @@ export class Choices {
   constructor(playground, examples, exercises) {
     this.playground = playground;
     this.examples = examples;
-    this.exercises = exercises;
+    this.given = exercises;
+    this.exercises = exercises; // those given, or their variants
     playground.exercise.onChoose = name => this.chooseExercise(name);
     playground.exercise.onSolved = () => this.fillExercises();
     this.fillExamples();
@@ -52,6 +54,14 @@ export class Choices {
     byId("exercises").value = exercise.name;
   }
 
+  /** Sets an exercise, and has all of them in the variants by the seed of an address, if it has one. */
+  chooseVariant(name, address) {
+    const seed = address.get("variant") || "";
+    this.exercises = this.given.map(exercise => variantOf(exercise, seed));
+    this.playground.exercise.list = this.exercises;
+    return this.chooseExercise(name);
+  }
+
   /** Begins with a text, and with an exercise or none. */
   async begin(text, { exercise = "", at = Infinity } = {}) {
     const { playground } = this;
@@ -72,7 +82,7 @@ export class Choices {
     if (theme) this.playground.theme.choose(theme[1]);
     const event = /[#&]event=(start|\d+)/.exec(location.hash);
     if (text !== null) await this.begin(text, { at: !event ? Infinity : event[1] === "start" ? -1 : +event[1] });
-    else if (exercise) await this.chooseExercise(exercise[1]);
+    else if (exercise) await this.chooseVariant(exercise[1], new URLSearchParams(location.hash.slice(1)));
     return text !== null || exercise !== null;
   }
 }

@@ -2,6 +2,8 @@
 import assert from "node:assert/strict";
 import { join } from "node:path";
 import { example } from "./session.mjs";
+import { exercises } from "../../tools/programs.mjs";
+import { renamingOf, variantOf } from "../../playground/js/variants.js";
 
 /** A try by clicks, and one that types the solution and the near misses of each. */
 export function triesOfExercises({ session }) {
@@ -20,6 +22,23 @@ export function triesOfExercises({ session }) {
       await session.click("#next-exercise");
       await session.shown();
       assert.match(await session.inside("#exercise h3"), /Lost/);
+    },
+
+    async "a variant by its address, the next one, and the exercise itself"() {
+      const [exercise, next] = ["12", "13"].map(number => exercises().find(({ name }) => name.startsWith(number)));
+      const seed = "autumn/Zo\u00eb", solution = example(join("exercises", "tries", `${exercise.name}.solution`));
+      await session.open(`#exercise=${exercise.name}&variant=${encodeURIComponent(seed)}`);
+      assert.equal(await session.text(), variantOf(exercise, seed).start);
+      await session.retype(solution);
+      assert.equal(await session.isSolved(), false);
+      await session.retype(renamingOf(exercise, seed)(solution));
+      assert.equal(await session.isSolved(), true);
+      await session.click("#next-exercise");
+      await session.shown();
+      assert.equal(await session.text(), variantOf(next, seed).start);
+      await session.open(`#exercise=${exercise.name}`);
+      await session.retype(solution);
+      assert.equal(await session.isSolved(), true);
     },
 
     async "every exercise's solution is solved here too, and its near misses aren't"() {

@@ -1,0 +1,34 @@
+// The slides are those of their Markdown, in one file. Run by `node --test tests`.
+import { test } from "node:test";
+import assert from "node:assert/strict";
+import { spawnSync } from "node:child_process";
+import { mkdtempSync, readFileSync, rmSync } from "node:fs";
+import { tmpdir } from "node:os";
+import { join } from "node:path";
+import { TOP } from "../tools/programs.mjs";
+
+const source = join("docs", "slides", "slides.md");
+const made = readFileSync(join(TOP, "docs", "slides", "slides.html"), "utf8");
+const isAtHand = spawnSync("pandoc", ["--version"]).status === 0;
+
+/** The words that a page shows. */
+const wordsOf = html => html.replace(/^[^]*<main>|<\/main>[^]*$/g, "").replace(/<[^>]*>/g, " ").split(/\s+/).join(" ");
+
+test("each heading is a slide, each picture is in the file, and nothing is loaded", () => {
+  const text = readFileSync(join(TOP, source), "utf8");
+  const headings = [...made.matchAll(/<h1[^>]*>(.*?)<\/h1>/gs)].map(([, words]) => words.replace(/\s+/g, " "));
+  assert.deepEqual(headings, text.match(/^# .*$/gm).map(line => line.slice(2).replace(/ \{.*\}$/, "")));
+  assert.equal(made.match(/<img src="data:image\/svg\+xml;base64,/g).length, text.match(/^!\[/gm).length);
+  assert.doesNotMatch(made, /<link|<script src|https?:|url\(/);
+});
+
+test("pandoc makes the same words of the Markdown", { skip: isAtHand ? false : "no pandoc" }, () => {
+  const folder = mkdtempSync(join(tmpdir(), "slides-")), file = join(folder, "slides.html");
+  try {
+    const { status, stderr } = spawnSync(join(TOP, "tools", "slides"), [source, file], { cwd: TOP, encoding: "utf8" });
+    assert.equal(status, 0, stderr);
+    assert.equal(wordsOf(readFileSync(file, "utf8")), wordsOf(made));
+  } finally {
+    rmSync(folder, { recursive: true });
+  }
+});
