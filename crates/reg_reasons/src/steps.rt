@@ -37,7 +37,7 @@ fn event_of<F: FrontEnd, A: Allocator + Copy>(
             Some(Event::Take {
                 from,
                 to: process,
-                number: place as u32,
+                number: u32::try_from(place).ok()?,
             })
         }
     }

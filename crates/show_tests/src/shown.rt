@@ -221,6 +221,24 @@ fn is_drawn(alloc: Global, count: u32) -> bool {
     status == 0 && errors.is_empty() && output.as_slice().starts_with(b"<svg ")
 }
 
+/// A write that nobody heard of, and what its drawing says in words.
+const LOST: &str = "processes 2\nregisters x\nfront linear\ncall 0 write x 5\n";
+
+const LOST_IN_WORDS: &str = "<title>Space-time diagram: linear, registers x</title>
+<desc>
+p0 #0, from event 0 on, not answered: write x 5.
+Never taken: take 0 1 0: data 0: cast (1, 0) write x 5.
+</desc>
+";
+
+#[test]
+fn a_drawing_says_in_words_what_it_shows(rt: HostRuntime) {
+    let (status, output, errors) = shown(rt.alloc(), Showing::Draw, LOST.as_bytes());
+    let drawing = str::from_utf8(output.as_slice()).unwrap_or("");
+    assert!(rt; status == 0 && errors.is_empty());
+    assert!(rt; drawing.contains(LOST_IN_WORDS), "{drawing}");
+}
+
 const TOO_MANY: &str =
     "too many events to draw: a page has room for 2000, and trace for all; schedule --short and --fair make fewer\n";
 
