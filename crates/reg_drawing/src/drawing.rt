@@ -6,6 +6,7 @@ use crate::layout::{BELOW, LEADING, Label, Layout, NUMBERS, TITLE, TOP};
 use crate::legend::{Legend, ROW, show_head};
 use crate::pictures::is_never_taken;
 use crate::shapes::{Diamond, Node, Span, Spot, Stub, Way};
+use crate::sizes::Size;
 use crate::words::{CastText, IdText, TakeText};
 use reg_base::Names;
 use reg_checkers::Point;
@@ -26,6 +27,7 @@ pub(crate) struct Drawing<'a, A: Allocator + Copy> {
     pub(crate) layout: Layout<A>,
     pub(crate) title: String<A>,
     pub(crate) legend: Legend,
+    pub(crate) size: Size,
 }
 
 /// The class of a frame's lines.
@@ -75,9 +77,10 @@ impl<A: Allocator + Copy> Drawing<'_, A> {
     /// Shows the attributes of the element, its head and the page.
     fn show_page<W: fmt::Write>(&self, f: &mut fmt::Formatter<W>) -> fmt::Result {
         let (width, height) = (self.layout.width, self.height());
+        let (wide, high) = (self.size.of(width), self.size.of(height));
         writeln!(
             f,
-            "xmlns=\"http://www.w3.org/2000/svg\" class=\"awshow\" width=\"{width}\" height=\"{height}\" viewBox=\"0 0 {width} {height}\" role=\"img\">"
+            "xmlns=\"http://www.w3.org/2000/svg\" class=\"awshow\" width=\"{wide}\" height=\"{high}\" viewBox=\"0 0 {width} {height}\" role=\"img\">"
         )?;
         let title = self.title.as_str();
         writeln!(f, "<title>Space-time diagram: {title}</title>")?;

@@ -5,6 +5,7 @@ ghost use Rattle.reg_drawing.specs.Drawings.{IsDrawing};
 use crate::drawing::Drawing;
 use crate::layout::{Label, bar_label, lay_out, width_of};
 use crate::legend::Legend;
+use crate::sizes::Size;
 use reg_base::Names;
 use reg_frames::{Body, Frame};
 use reg_front::Front;
@@ -144,6 +145,7 @@ fn drawing_of<'a, A: Allocator + Copy>(
     alloc: A,
     told: &'a TracedRun<A>,
     more: &str,
+    size: Size,
 ) -> Result<Drawing<'a, A>, AllocError> {
     let moments = told.moments.as_slice();
     let bars = bars(alloc, told.history.entries())?;
@@ -167,6 +169,7 @@ fn drawing_of<'a, A: Allocator + Copy>(
         layout,
         title,
         legend,
+        size,
     })
 }
 
@@ -181,8 +184,9 @@ pub fn draw_told<A: Allocator + Copy>(
     alloc: A,
     told: &TracedRun<A>,
     more: &str,
+    size: Size,
 ) -> Result<String<A>, AllocError>
     ensures { IfOk result (λ s. IsDrawing (string_bytes s)) }
 {
-    drawing_of(alloc, told, more)?.text(alloc)
+    drawing_of(alloc, told, more, size)?.text(alloc)
 }

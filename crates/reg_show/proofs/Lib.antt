@@ -8,3 +8,4 @@ pub mod Reordering
 pub mod Beginnings
 pub mod Shortened
 pub mod ShortPlays
+pub mod Drawn

@@ -17,7 +17,7 @@ use Rattle.reg_show.specs.declared.faults.ShowFault.TheVariants.{Command, TooMan
 use Rattle.reg_show.specs.declared.showing.Form.{Form}
 use Rattle.reg_show.specs.declared.showing.Form.TheVariants.{Short, Whole}
 use Rattle.reg_show.specs.declared.showing.Showing.{Showing}
-use Rattle.reg_show.specs.declared.showing.Showing.TheVariants.{Trace, Draw, Data, Page, Rest}
+use Rattle.reg_show.specs.declared.showing.Showing.TheVariants.{Trace, Draw, DrawLarge, Data, Page, Rest}
 use Rattle.reg_show.specs.declared.showing.TheConstants.{SHORT_FORM}
 use Rattle.reg_show.specs.declared.showing.View.{View}
 use Rattle.reg_page.specs.declared.head.TheConstants.{HEAD}
@@ -35,6 +35,7 @@ use Rattle.reg_front.specs.declared.starts.Start.{Start}
 abbrev pub ShowsPlan : Showing → Notes → (List ℕ → Type 0) → Plan → Type 0
 ShowsPlan Trace notes Wrote p = TellsRun notes.title Wrote p
 ShowsPlan Draw notes Wrote p = DrawsRun Wrote p
+ShowsPlan DrawLarge notes Wrote p = DrawsRun Wrote p
 ShowsPlan Data notes Wrote p = ShowsData [] (10 ∷ []) notes Wrote p
 ShowsPlan Page notes Wrote p = ShowsData HEAD.now TAIL.now notes Wrote p
 ShowsPlan Rest notes Wrote p = WritesRest (start_of p.front) Wrote p
@@ -43,6 +44,7 @@ ShowsPlan Rest notes Wrote p = WritesRest (start_of p.front) Wrote p
 abbrev pub StopsShowing : Showing → Plan → ShowFault → Type 0
 StopsShowing showing p (Command fault) = StopsRun p fault
 StopsShowing Draw p TooManyToDraw = MOST_DRAWN < length p.events
+StopsShowing DrawLarge p TooManyToDraw = MOST_DRAWN < length p.events
 StopsShowing Data p TooManyToDraw = MOST_TOLD < length p.events
 StopsShowing Page p TooManyToDraw = MOST_TOLD < length p.events
 StopsShowing Rest p TooManyToRest = LacksRoom (start_of p.front) p

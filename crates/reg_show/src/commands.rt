@@ -11,7 +11,7 @@ use crate::showing::Showing;
 use crate::telling::tell_schedule;
 use reg_base::Names;
 use reg_commands::{Fault, write_answer};
-use reg_drawing::draw_told;
+use reg_drawing::{Size, draw_told};
 use reg_trace::{Moment, TracedRun, write_trace};
 use reg_workload::Schedule;
 use std::alloc::Allocator;
@@ -73,6 +73,7 @@ pub(crate) fn draw<A: Allocator + Copy, W: Write>(
     alloc: A,
     schedule: Schedule<A>,
     title: &str,
+    size: Size,
     writer: &mut W,
 ) -> Result<(), ShowFault>
     ensures ok { IfOk result (λ _. DrawsRun (Appends (W.contents writer.old) (W.contents writer.new)) schedule) }
@@ -81,7 +82,7 @@ pub(crate) fn draw<A: Allocator + Copy, W: Write>(
     ensures part { IsErrOf result (ShowFault.Command Fault.Output) → DrawsRun (AppendsPart (W.contents writer.old) (W.contents writer.new)) schedule }
 {
     let told = told_to_draw(alloc, schedule)?;
-    let drawing = draw_told(alloc, &told, title)?;
+    let drawing = draw_told(alloc, &told, title, size)?;
     write_answer(writer, drawing.as_str().as_bytes())?;
     Ok(())
 }

@@ -14,6 +14,7 @@ use crate::resting::rest;
 use crate::showing::{Showing, View};
 use reg_commands::{Fault, Kind, TextCommand, kind_of, read_schedule, read_workload};
 use reg_data::{Notes, read_notes};
+use reg_drawing::Size;
 use reg_page::{HEAD, TAIL};
 use reg_workload::{Schedule, Workload};
 use std::alloc::{AllocError, Allocator, Global};
@@ -30,6 +31,7 @@ const LINE: Ends<'static> = Ends {
 };
 
 /// Shows the run of a schedule, with these notes.
+#[tactic(auto, using(crate::proofs::Drawn::stops_large))]
 fn show_schedule<A: Allocator + Copy, W: Write>(
     alloc: A,
     showing: Showing,
@@ -45,7 +47,8 @@ fn show_schedule<A: Allocator + Copy, W: Write>(
 {
     match showing {
         Showing::Trace => trace(alloc, schedule, notes.title(), writer),
-        Showing::Draw => draw(alloc, schedule, notes.title(), writer),
+        Showing::Draw => draw(alloc, schedule, notes.title(), Size::Usual, writer),
+        Showing::DrawLarge => draw(alloc, schedule, notes.title(), Size::Large, writer),
         Showing::Data => write_run(alloc, schedule, notes, LINE, writer),
         Showing::Page => write_run(alloc, schedule, notes, PAGE, writer),
         Showing::Rest => rest(alloc, schedule, writer),
@@ -62,7 +65,9 @@ fn notes_to_show<A: Allocator + Copy>(
 {
     match showing {
         Showing::Data | Showing::Page => read_notes(alloc, text),
-        Showing::Trace | Showing::Draw | Showing::Rest => Ok(Notes::none(alloc)),
+        Showing::Trace | Showing::Draw | Showing::DrawLarge | Showing::Rest => {
+            Ok(Notes::none(alloc))
+        }
     }
 }
 

@@ -7,6 +7,8 @@ pub enum Showing {
     Trace,
     /// The space-time diagram of the run of a schedule.
     Draw,
+    /// The same, large enough for a projector.
+    DrawLarge,
     /// The run of a schedule as data.
     Data,
     /// The run of a schedule as a page that one steps through.

@@ -9,7 +9,7 @@ use Rattle.reg_show.specs.declared.showing.Form.{Form}
 use Rattle.reg_show.specs.declared.showing.Form.TheVariants.{Short, Whole}
 use Rattle.reg_show.specs.declared.showing.View.{View}
 use Rattle.reg_show.specs.declared.Showing.{Showing}
-use Rattle.reg_show.specs.declared.Showing.TheVariants.{Data, Draw, Page, Rest, Trace}
+use Rattle.reg_show.specs.declared.Showing.TheVariants.{Data, Draw, DrawLarge, Page, Rest, Trace}
 use Rattle.reg_show.specs.Seeds.{IsSeed, seed_of}
 use Rattle.reg_show.specs.declared.Player.{Player}
 use Rattle.reg_show.specs.declared.Player.TheVariants.{Fair, Seeded}
@@ -20,13 +20,14 @@ use Rattle.reg_show_cli.specs.declared.flags.TheConstants.{USUAL_PLAYS}
 use Rattle.reg_show_cli.specs.declared.words.Asked.{Asked}
 use Rattle.reg_show_cli.specs.declared.words.Asked.TheVariants.{AllOutcomes, Find, Help, Judge, Outcome, Outcomes, Schedule, ShortSchedule, Show, Text as OfText, Verify, Version, Why}
 
--- the name of what is shown
-abbrev pub name_of : Showing → Text
-name_of Trace = codes "trace"
-name_of Draw = codes "draw"
-name_of Data = codes "data"
-name_of Page = codes "page"
-name_of Rest = codes "rest"
+-- the words that ask to show this: its name, and what a large drawing has behind it
+abbrev pub show_words : Showing → List Text
+show_words Trace = codes "trace" ∷ []
+show_words Draw = codes "draw" ∷ []
+show_words DrawLarge = codes "draw" ∷ codes "--large" ∷ []
+show_words Data = codes "data" ∷ []
+show_words Page = codes "page" ∷ []
+show_words Rest = codes "rest" ∷ []
 
 -- the flag by which a picture shows a form of a play: none for the short one
 abbrev pub IsPictureFlag : Form → List Text → Type 0
@@ -37,13 +38,14 @@ IsPictureFlag Whole flags = flags ≡ codes "--whole" ∷ []
 abbrev pub IsFormFlag : Showing → Form → List Text → Type 0
 IsFormFlag Trace form flags = IsPictureFlag form flags
 IsFormFlag Draw form flags = IsPictureFlag form flags
+IsFormFlag DrawLarge form flags = IsPictureFlag form flags
 IsFormFlag Page form flags = IsPictureFlag form flags
 IsFormFlag Data form flags = (form ≡ Whole) × (flags ≡ [])
 IsFormFlag Rest form flags = (form ≡ Whole) × (flags ≡ [])
 
 -- the words after the program's name ask for this
 abbrev pub IsShowLine : List Text → View → Type 0
-IsShowLine line view = (flags : List Text) × (line ≡ name_of view.showing ∷ flags) × IsFormFlag view.showing view.form flags
+IsShowLine line view = (flags : List Text) × (line ≡ show_words view.showing ++ flags) × IsFormFlag view.showing view.form flags
 
 -- the words after the program's name that ask for a command of awreg
 abbrev pub text_line : Command → List Text

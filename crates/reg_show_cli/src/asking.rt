@@ -1,13 +1,15 @@
 //! What the words of a command line ask for.
-ghost use Rattle.std.specs.Prelude.{◌≡◌, ◌↔◌, ◌∷◌, [], ℕ, Bool, IfSome, MatchOption, None, Option, Some, map, option_copied, true, slice_get, string_bytes};
+ghost use Rattle.std.specs.Prelude.{◌≡◌, ◌≢◌, ◌↔◌, ◌∷◌, [], ℕ, Bool, IfSome, MatchOption, None, Option, Some, map, option_copied, true, slice_get, string_bytes};
 ghost use Rattle.reg_args.specs.Lines.{Text, behind_name};
 ghost use Rattle.reg_outcomes.specs.declared.orders.kinds.OrderKind.{OrderKind as AnyKind};
 ghost use Rattle.reg_show.specs.declared.Player.{Player as AnyPlayer};
 ghost use Rattle.reg_show.specs.declared.Showing.{Showing as AnyShowing};
+ghost use Rattle.reg_show.specs.declared.Showing.TheVariants.{DrawLarge};
+ghost use Rattle.reg_show.specs.declared.showing.Form.{Form as AnyForm};
 ghost use Rattle.reg_show.specs.declared.showing.View.{View as AnyView};
 ghost use Rattle.reg_commands.specs.declared.command.Command.{Command as AnyCommand};
 ghost use Rattle.reg_show_cli.specs.declared.words.Asked.{Asked as AnyAsked};
-ghost use Rattle.reg_show_cli.specs.Lines.{IsAllLine, IsFindLine, IsHelpLine, IsHelpOfOwn, IsHelpOfText, IsHelpWith, IsJudgeLine, IsLineOf, IsOneOutcomeLine, IsOutcomesLine, IsScheduleLine, IsShortLine, IsShowLine, IsVerifyLine, IsVersionLine, IsWhyLine, name_of, text_line};
+ghost use Rattle.reg_show_cli.specs.Lines.{IsAllLine, IsFindLine, IsHelpLine, IsHelpOfOwn, IsHelpOfText, IsHelpWith, IsJudgeLine, IsLineOf, IsOneOutcomeLine, IsOutcomesLine, IsScheduleLine, IsShortLine, IsShowLine, IsVerifyLine, IsVersionLine, IsWhyLine, show_words, text_line};
 
 use crate::flags::{
     Plays, behind, form_said, judging_said, line_of, number_alone, player_said, plays_said,
@@ -17,7 +19,7 @@ use crate::words::Asked;
 use reg_commands::Command;
 use reg_observed::JudgeFlags;
 use reg_outcomes::OrderKind;
-use reg_show::{Player, Showing, View};
+use reg_show::{Form, Player, Showing, View};
 
 /// The last number of an outcome that the words can say. There may be fewer outcomes.
 pub const LAST_OUTCOME: u32 = u32::MAX;
@@ -138,10 +140,10 @@ fn text_asked(words: &[String]) -> Option<Command>
     None
 }
 
-/// What this word names that can be shown.
+/// What this word alone names that can be shown.
 fn showing_named(word: &str) -> Option<Showing>
-    ensures read { IfSome result (λ showing. word.now ≡ name_of showing) }
-    ensures whole { (showing : AnyShowing) → word.now ≡ name_of showing → result ≡ Some showing }
+    ensures read { IfSome result (λ showing. show_words showing ≡ word.now ∷ []) }
+    ensures whole { (showing : AnyShowing) → show_words showing ≡ word.now ∷ [] → result ≡ Some showing }
 {
     match word {
         "trace" => Some(Showing::Trace),
@@ -153,14 +155,35 @@ fn showing_named(word: &str) -> Option<Showing>
     }
 }
 
-/// What the words ask to show, and None where they ask for nothing of it.
-fn view_asked(words: &[String]) -> Option<View>
-    ensures { MatchOption result ((view : AnyView) → ¬ IsShowLine (behind_name words.now) view) (IsShowLine (behind_name words.now)) }
+/// The form in which the words ask for a large drawing, and None where they ask for none.
+fn large_asked(words: &[String]) -> Option<Form>
+    ensures { MatchOption result ((form : AnyForm) → ¬ IsShowLine (behind_name words.now) (record { showing = DrawLarge; form = form })) (λ form. IsShowLine (behind_name words.now) (record { showing = DrawLarge; form = form })) }
+{
+    let flags = behind(behind(line_of(words), "draw")?, "--large")?;
+    form_said(Showing::DrawLarge, flags)
+}
+
+/// What else the words ask to show, and None where they ask for nothing of it.
+fn usual_asked(words: &[String]) -> Option<View>
+    ensures { MatchOption result ((view : AnyView) → view.showing ≢ DrawLarge → ¬ IsShowLine (behind_name words.now) view) (IsShowLine (behind_name words.now)) }
 {
     let (name, flags) = line_of(words).split_first()?;
     let showing = showing_named(name.as_str())?;
     let form = form_said(showing, flags)?;
     Some(View { showing, form })
+}
+
+/// What the words ask to show, and None where they ask for nothing of it.
+fn view_asked(words: &[String]) -> Option<View>
+    ensures { MatchOption result ((view : AnyView) → ¬ IsShowLine (behind_name words.now) view) (IsShowLine (behind_name words.now)) }
+{
+    match large_asked(words) {
+        Some(form) => Some(View {
+            showing: Showing::DrawLarge,
+            form,
+        }),
+        None => usual_asked(words),
+    }
 }
 
 /// Whether the words ask for help with the command of this name.

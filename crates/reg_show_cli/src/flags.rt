@@ -66,7 +66,7 @@ pub(crate) fn form_said(showing: Showing, flags: &[String]) -> Option<Form>
     ensures { MatchOption result ((form : AnyForm) → ¬ IsFormFlag showing form (map string_bytes flags.now)) (λ form. IsFormFlag showing form (map string_bytes flags.now)) }
 {
     match showing {
-        Showing::Trace | Showing::Draw | Showing::Page => picture_form(flags),
+        Showing::Trace | Showing::Draw | Showing::DrawLarge | Showing::Page => picture_form(flags),
         Showing::Data | Showing::Rest if flags.is_empty() => Some(Form::Whole),
         Showing::Data | Showing::Rest => None,
     }

@@ -58,6 +58,7 @@ usage: awshow replay                 reads a schedule, prints the report of its 
        awshow find points            the same with a point order: each operation between its call and its answer
        awshow trace [--whole]        reads a schedule or a workload, prints what happens, event by event
        awshow draw [--whole]         reads the same, prints the space-time diagram of the run as SVG
+       awshow draw --large [--whole] the same, large enough for a projector
        awshow page [--whole]         reads the same, prints a page that steps through the run
        awshow data                   reads the same, prints the run as JSON
        awshow rest                   reads the same, prints the schedule with the events that bring the run to rest

@@ -108,7 +108,7 @@ const HELP: [(&str, Option<Asked<'static>>); 20] = [
 ];
 
 /// Lines of the other commands, and of none, and what each asks for.
-const OTHERS: [(&str, Option<Asked<'static>>); 33] = [
+const OTHERS: [(&str, Option<Asked<'static>>); 38] = [
     ("trace --seed 5", None),
     ("trace --short", None),
     (
@@ -212,6 +212,27 @@ const OTHERS: [(&str, Option<Asked<'static>>); 33] = [
             },
         }),
     ),
+    (
+        "draw --large",
+        Some(Asked::Show {
+            view: View {
+                showing: Showing::DrawLarge,
+                form: Form::Short,
+            },
+        }),
+    ),
+    (
+        "draw --large --whole",
+        Some(Asked::Show {
+            view: View {
+                showing: Showing::DrawLarge,
+                form: Form::Whole,
+            },
+        }),
+    ),
+    ("draw --whole --large", None),
+    ("draw --large --large", None),
+    ("trace --large", None),
     ("trace --whole --whole", None),
     ("draw --short", None),
     ("data --whole", None),

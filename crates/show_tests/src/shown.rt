@@ -239,6 +239,27 @@ fn a_drawing_says_in_words_what_it_shows(rt: HostRuntime) {
     assert!(rt; drawing.contains(LOST_IN_WORDS), "{drawing}");
 }
 
+/// The width of a drawing, as its element and as its coordinates say it.
+fn widths(alloc: Global, showing: Showing) -> Option<(u64, u64)> {
+    let (_, output, _) = shown(alloc, showing, LOST.as_bytes());
+    let drawing = str::from_utf8(output.as_slice()).ok()?;
+    let (_, rest) = drawing.split_once(" width=\"")?;
+    let (width, rest) = rest.split_once("\"")?;
+    let (_, rest) = rest.split_once("viewBox=\"0 0 ")?;
+    let (inside, _) = rest.split_once(" ")?;
+    Some((width.parse::<u64>().ok()?, inside.parse::<u64>().ok()?))
+}
+
+#[test]
+fn a_large_drawing_is_twice_as_large(rt: HostRuntime) {
+    let usual = widths(rt.alloc(), Showing::Draw);
+    let large = widths(rt.alloc(), Showing::DrawLarge);
+    assert!(rt;
+        matches!((usual, large), (Some((width, inside)), Some((wide, same)))
+        if inside == width && same == width && width.checked_mul(2) == Some(wide))
+    );
+}
+
 const TOO_MANY: &str =
     "too many events to draw: a page has room for 2000, and trace for all; schedule --short and --fair make fewer\n";
 
