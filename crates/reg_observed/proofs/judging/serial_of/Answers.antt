@@ -1,10 +1,10 @@
 use Rattle.std.proofs.Common.{ℕ, Result, Ok, Err, ◌≡◌, List, subst, sym, inr, IfOk}
 use Rattle.reg_checkers.specs.declared.entries.Entry.{Entry}
-use Rattle.reg_observed.specs.declared.judging.Serial.{Serial}
+use Rattle.reg_rulings.specs.declared.serial.Serial.{Serial}
 use Rattle.reg_observed.specs.declared.faults.JudgeFault.{JudgeFault}
-use Rattle.reg_observed.specs.declared.rows.Row.{Row}
-use Rattle.reg_observed.specs.declared.seats.Naming.TheVariants.{Own}
-use Rattle.reg_observed.specs.Standing.{IsStood}
+use Rattle.reg_rulings.specs.declared.rows.Row.{Row}
+use Rattle.reg_rulings.specs.declared.seats.Naming.TheVariants.{Own}
+use Rattle.reg_rulings.specs.Standing.{IsStood}
 use Rattle.reg_observed.specs.Verdicts.{IsSerialOf, RulesSerial}
 use Rattle.reg_observed.proofs.judging.serial_of.Goals as goal
 

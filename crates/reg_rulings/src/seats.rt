@@ -1,15 +1,14 @@
 //! A history of rows: each call under a name, and its answer under the same.
 ghost use Rattle.std.specs.Prelude.{◌≡◌, ◌<◌, ◌++◌, ◌∷◌, [], ℕ, IfOk, IfSome, OnOk, Some, length, get_or, None, slice_get, slice_set, replicate};
-ghost use Rattle.reg_observed.specs.Standing.{MayName, Stands, IsStood, OneMore, act_op, no_names};
+ghost use Rattle.reg_rulings.specs.Standing.{MayName, Stands, IsStood, OneMore, act_op, no_names};
 ghost use Rattle.reg_base.specs.declared.memory.OpId.{OpId as AnyId};
 ghost use Rattle.reg_checkers.specs.declared.entries.Entry.TheVariants.{Called, Answered};
 
-use crate::events::Act;
-use crate::rows::{Row, Step};
+use crate::rows::{Act, Row, Step};
 use reg_base::limits::{MOST_OPERATIONS, MOST_PROCESSES, MOST_REGISTERS};
 use reg_base::{Answer, Op, OpId, Shape};
 use reg_checkers::{Entry, History, HistoryFault};
-use std::alloc::{AllocError, Allocator, Global};
+use std::alloc::{AllocError, Allocator};
 
 /// Under which names operations stand in a history.
 #[derive(Clone, Copy, Debug, PartialEq, Eq)]
@@ -33,7 +32,7 @@ pub enum Unseated {
 }
 
 impl From<AllocError> for Unseated {
-    ghost use Rattle.reg_observed.specs.declared.seats.Unseated.TheVariants.{OutOfMemory};
+    ghost use Rattle.reg_rulings.specs.declared.seats.Unseated.TheVariants.{OutOfMemory};
 
     ghost from_gives = { λ _ e. e ≡ OutOfMemory };
 
@@ -45,10 +44,10 @@ impl From<AllocError> for Unseated {
 /// What is kept beside a history: of each place how many calls it had and whether one is under way, and of each process
 /// the name of its last call.
 #[derive(Drop)]
-struct Seats {
-    next: Vec<u32>,
-    busy: Vec<bool>,
-    held: Vec<Option<OpId>>,
+struct Seats<A: Allocator + Copy> {
+    next: Vec<u32, A>,
+    busy: Vec<bool, A>,
+    held: Vec<Option<OpId>, A>,
 }
 
 /// The operation of a call.
@@ -69,20 +68,23 @@ fn op_of(act: Act, key: u32, expected: u64, value: u64) -> Op
     }
 }
 
-fn none_held(global: Global, processes: usize) -> Result<Vec<Option<OpId>>, AllocError>
+fn none_held<A: Allocator + Copy>(
+    alloc: A,
+    processes: usize,
+) -> Result<Vec<Option<OpId>, A>, AllocError>
     ensures { IfOk result (λ v. v.items ≡ no_names processes) }
 {
-    let held = vec![in global; None; processes]?;
+    let held = vec![in alloc; None; processes]?;
     Ok(held)
 }
 
-impl Seats {
-    fn new(global: Global, processes: usize) -> Result<Seats, AllocError>
+impl<A: Allocator + Copy> Seats<A> {
+    fn new(alloc: A, processes: usize) -> Result<Seats<A>, AllocError>
         ensures { IfOk result (λ s. s.held.items ≡ no_names processes) }
     {
-        let next = vec![in global; 0; MOST_PROCESSES as usize]?;
-        let busy = vec![in global; false; MOST_PROCESSES as usize]?;
-        let held = none_held(global, processes)?;
+        let next = vec![in alloc; 0; MOST_PROCESSES as usize]?;
+        let busy = vec![in alloc; false; MOST_PROCESSES as usize]?;
+        let held = none_held(alloc, processes)?;
         Ok(Seats { next, busy, held })
     }
 
@@ -156,7 +158,7 @@ fn push<A: Allocator + Copy>(
 /// Adds a call.
 fn add_call<A: Allocator + Copy>(
     history: &mut History<A>,
-    seats: &mut Seats,
+    seats: &mut Seats<A>,
     naming: Naming,
     row: &Row,
     op: Op,
@@ -179,7 +181,7 @@ fn add_call<A: Allocator + Copy>(
 /// Adds an answer.
 fn add_answer<A: Allocator + Copy>(
     history: &mut History<A>,
-    seats: &mut Seats,
+    seats: &mut Seats<A>,
     row: &Row,
     answer: Answer,
 ) -> Result<(), Unseated>
@@ -203,7 +205,7 @@ fn add_answer<A: Allocator + Copy>(
 /// Adds a row.
 fn add_row<A: Allocator + Copy>(
     history: &mut History<A>,
-    seats: &mut Seats,
+    seats: &mut Seats<A>,
     naming: Naming,
     row: &Row,
 ) -> Result<(), Unseated>
@@ -230,7 +232,7 @@ fn add_row<A: Allocator + Copy>(
 }
 
 fn add_rows<A: Allocator + Copy>(
-    global: Global,
+    alloc: A,
     history: &mut History<A>,
     naming: Naming,
     processes: usize,
@@ -240,7 +242,7 @@ fn add_rows<A: Allocator + Copy>(
     ensures stands { OnOk result (IsStood naming processes rows.now history.new.entries) }
     ensures shape { history.new.shape ≡ history.old.shape }
 {
-    let mut seats = Seats::new(global, processes)?;
+    let mut seats = Seats::new(alloc, processes)?;
     for row in rows {
         add_row(history, &mut seats, naming, row)?;
     }
@@ -252,9 +254,8 @@ fn add_rows<A: Allocator + Copy>(
 /// # Errors
 ///
 /// `Full` names the event of the first call that finds no place; `OutOfPlace` the first row that may not come next.
-pub(crate) fn history_of<A: Allocator + Copy>(
+pub fn history_of<A: Allocator + Copy>(
     alloc: A,
-    global: Global,
     shape: Shape,
     naming: Naming,
     processes: usize,
@@ -264,6 +265,6 @@ pub(crate) fn history_of<A: Allocator + Copy>(
     ensures shape { IfOk result (λ h. h.shape ≡ shape) }
 {
     let mut history = History::new(alloc, shape)?;
-    add_rows(global, &mut history, naming, processes, rows)?;
+    add_rows(alloc, &mut history, naming, processes, rows)?;
     Ok(history)
 }

@@ -3,11 +3,11 @@ use Rattle.std.proofs.Common.{ℕ, ◌≡◌, ◌+◌, ◌<◌, ◌≤◌, List,
 use Rattle.std.proofs.lemmas.Option.{slice_get-get_or}
 use Rattle.reg_base.specs.declared.memory.OpId.{OpId}
 use Rattle.reg_checkers.specs.declared.entries.Entry.{Entry}
-use Rattle.reg_observed.specs.declared.rows.Step.{Step}
-use Rattle.reg_observed.specs.declared.rows.Step.TheVariants.{Call, Answer}
-use Rattle.reg_observed.specs.declared.rows.Row.{Row}
-use Rattle.reg_observed.specs.declared.seats.Naming.{Naming}
-use Rattle.reg_observed.specs.Standing.{OneMore, OneMore-by, Stands, Nothing, More}
+use Rattle.reg_rulings.specs.declared.rows.Step.{Step}
+use Rattle.reg_rulings.specs.declared.rows.Step.TheVariants.{Call, Answer}
+use Rattle.reg_rulings.specs.declared.rows.Row.{Row}
+use Rattle.reg_rulings.specs.declared.seats.Naming.{Naming}
+use Rattle.reg_rulings.specs.Standing.{OneMore, OneMore-by, Stands, Nothing, More}
 
 pub take_more : {X : Type 0} (xs : List X) (i : ℕ) (d : X) → i < length xs → take (i + 1) xs ≡ take i xs ++ get_or xs i d ∷ []
 take_more {X} xs i d lt = rw add-one (go xs i lt)

@@ -1,8 +1,8 @@
 use Rattle.std.proofs.Common.{◌≡◌, ◌∙◌, List, ap, subst, length}
-use Rattle.reg_observed.specs.declared.rows.Row.{Row}
-use Rattle.reg_observed.specs.Verdicts.{IsRuled}
-use Rattle.reg_observed.proofs.Finding.{ruled_more, ruled_none}
-use Rattle.reg_observed.proofs.keys.rule_all.Goals as goal
+use Rattle.reg_rulings.specs.declared.rows.Row.{Row}
+use Rattle.reg_rulings.specs.Rulings.{IsRuled}
+use Rattle.reg_rulings.proofs.Keying.{ruled_more, ruled_none}
+use Rattle.reg_rulings.proofs.keys.rule_all.Goals as goal
 
 pub loop-key-preserved : goal.loop-key-preserved
 loop-key-preserved g c =

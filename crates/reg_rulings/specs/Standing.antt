@@ -6,13 +6,13 @@ use Rattle.reg_base.specs.declared.memory.Op.TheVariants as ops
 use Rattle.reg_base.specs.declared.memory.Answer.{Answer as Reply}
 use Rattle.reg_checkers.specs.declared.entries.Entry.{Entry}
 use Rattle.reg_checkers.specs.declared.entries.Entry.TheVariants.{Called, Answered}
-use Rattle.reg_observed.specs.declared.events.Act.{Act}
-use Rattle.reg_observed.specs.declared.events.Act.TheVariants.{Read, Write, Swap, CompareAndSwap}
-use Rattle.reg_observed.specs.declared.rows.Step.{Step}
-use Rattle.reg_observed.specs.declared.rows.Step.TheVariants.{Call, Answer}
-use Rattle.reg_observed.specs.declared.rows.Row.{Row}
-use Rattle.reg_observed.specs.declared.seats.Naming.{Naming}
-use Rattle.reg_observed.specs.declared.seats.Naming.TheVariants.{Any, Own}
+use Rattle.reg_rulings.specs.declared.rows.Act.{Act}
+use Rattle.reg_rulings.specs.declared.rows.Act.TheVariants.{Read, Write, Swap, CompareAndSwap}
+use Rattle.reg_rulings.specs.declared.rows.Step.{Step}
+use Rattle.reg_rulings.specs.declared.rows.Step.TheVariants.{Call, Answer}
+use Rattle.reg_rulings.specs.declared.rows.Row.{Row}
+use Rattle.reg_rulings.specs.declared.seats.Naming.{Naming}
+use Rattle.reg_rulings.specs.declared.seats.Naming.TheVariants.{Any, Own}
 
 -- the operation of a call at a key
 abbrev pub act_op : Act → ℕ → ℕ → ℕ → Op

@@ -1,6 +1,6 @@
 use Rattle.std.proofs.Common.{◌≡◌, take, length}
-use Rattle.reg_observed.specs.Standing.{Stands}
-use Rattle.reg_observed.proofs.seats.add_rows.Given as goal
+use Rattle.reg_rulings.specs.Standing.{Stands}
+use Rattle.reg_rulings.proofs.seats.add_rows.Given as goal
 
 abbrev pub invariant-loop-row : goal.invariant-loop-row
 invariant-loop-row g l = record {

@@ -1,5 +1,5 @@
-use Rattle.reg_observed.proofs.Finding.{ruled_not}
-use Rattle.reg_observed.proofs.keys.ruling_of.Goals as goal
+use Rattle.reg_rulings.proofs.Keying.{ruled_not}
+use Rattle.reg_rulings.proofs.keys.ruling_of.Goals as goal
 
 pub returns-in-Ok-None : goal.returns-in-Ok-None
 returns-in-Ok-None g c =

@@ -1,8 +1,8 @@
 use Rattle.std.proofs.Common.{◌≡◌, ap, sym, refl, ◌∙◌, subst, length, List}
-use Rattle.reg_observed.specs.declared.rows.Row.{Row}
-use Rattle.reg_observed.specs.Standing.{Stands}
-use Rattle.reg_observed.proofs.Seating.{as_many, length_replicate, stands_first, stands_more, take_all}
-use Rattle.reg_observed.proofs.seats.add_rows.Goals as goal
+use Rattle.reg_rulings.specs.declared.rows.Row.{Row}
+use Rattle.reg_rulings.specs.Standing.{Stands}
+use Rattle.reg_rulings.proofs.Seating.{as_many, length_replicate, stands_first, stands_more, take_all}
+use Rattle.reg_rulings.proofs.seats.add_rows.Goals as goal
 
 pub loop-row-init : goal.loop-row-init
 loop-row-init g c = record {
