@@ -73,7 +73,7 @@ const TRIES = {
   async "what is not in the page is told so, and a text of 256 MB is refused by its line"() {
     const told = await browser.value(`(async () => {
       const { ask } = await import("./playground/js/server.js");
-      const answers = [ask("judge", ""), ask("replay", "#".repeat(1 << 28)), ask("check", ${JSON.stringify(
+      const answers = [ask("live", ""), ask("replay", "#".repeat(1 << 28)), ask("check", ${JSON.stringify(
         example("one-process.report"))})];
       return (await Promise.all(answers)).map(({ output, error }) => output || error);
     })()`);
