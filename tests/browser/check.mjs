@@ -11,6 +11,7 @@ import { triesOfPages } from "./example_pages.mjs";
 import { triesOfBuilding } from "./building.mjs";
 import { triesOfTexts } from "./texts.mjs";
 import { triesOfExercises } from "./exercises.mjs";
+import { triesOfJudging } from "./judging.mjs";
 import { triesOfSpeed } from "./speed.mjs";
 
 const { values: asked, positionals: words } = parseArgs({ allowPositionals: true,
@@ -50,7 +51,7 @@ const context = { browser, session, shots: asked.shots, rounds: +asked.rounds, e
 if (asked.shots) mkdirSync(asked.shots, { recursive: true });
 await browser.size(1440, 940);
 const tries = Object.entries(Object.assign({}, ...[triesOfPages, triesOfBuilding, triesOfTexts, triesOfExercises,
-  triesOfSpeed].map(make => make(context)))).filter(([name]) => words.every(word => name.includes(word)))
+  triesOfJudging, triesOfSpeed].map(make => make(context)))).filter(([name]) => words.every(word => name.includes(word)))
   .filter(([name]) => !browser.untried?.includes(name));
 for (const name of browser.untried ?? []) console.log("not tried: " + name);
 let wrong = 0;
