@@ -85,6 +85,13 @@ export class Actions {
     await this.playground.setText((await this.report()).output);
   }
 
+  /** Puts the points that the judge finds into the report. */
+  async withPoints() {
+    const made = await ask("judge-report", this.text);
+    if (made.status !== 0) return say(made.error.trim() || "Its history has no point order.");
+    await this.playground.setText(made.output);
+  }
+
   /** Makes the play of a workload the text. */
   async asSchedule(command) {
     const made = await ask(command, this.text);

@@ -24,6 +24,7 @@ export class Input {
       undo: () => playground.undo(-1), redo: () => playground.undo(1), cut: () => actions.cut(),
       rest: () => actions.rest(),
       check: () => actions.check(), judge: () => actions.judge(), "as-report": () => actions.asReport(),
+      "with-points": () => actions.withPoints(),
       save: () => actions.openSaves(), link: () => actions.link(),
       outcomes: () => actions.outcomes(), "as-seeded": () => actions.asSchedule("schedule"),
       "as-fair": () => actions.asSchedule("schedule-fair"), stop: () => stopRuns(),

@@ -10,7 +10,8 @@ export function showVerdict({ kind, why, refusal }, editor) {
   const box = byId("verdict"), isFault = kind === "refused" || / no: /.test(why.split("\n")[0]);
   box.className = "verdict is-" + (isFault ? "refused" : kind);
   byId("workload").hidden = kind !== "workload";
-  byId("history").hidden = kind !== "history";
+  byId("lines").hidden = kind !== "history";
+  byId("own-report").hidden = kind !== "report";
   editor.showRefused(isFault ? placeOf(why) : null);
   if (isFault) {
     const [told, ...rest] = why.trimEnd().split("\n");

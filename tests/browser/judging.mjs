@@ -35,6 +35,20 @@ export const triesOfJudging = ({ session, browser }) => ({
     assert.match(await session.inside("#output"), /point order: no/);
   },
 
+  async "the judge's points are put into a report of lines of JSON, and accepted"() {
+    const lines = line("a", "invoke", "write", 5) + line("b", "invoke", "read") + line("b", "ok", "read", 5);
+    await session.open(fragment(lines));
+    await session.click("#as-report");
+    await session.click("#with-points");
+    await browser.until("document.getElementById('source').value.includes('points 2\\n')");
+    await session.shown();
+    assert.match(await session.inside("#verdict"), /serial yes; points yes/);
+    assert.equal(await session.count("#no-run .bars .at"), 2);
+    await session.open(fragment(example("stale-linear.report")));
+    await session.click("#with-points");
+    await browser.until("document.getElementById('toast').textContent === 'Its history has no point order.'");
+  },
+
   async "a line of JSON that is refused is marked"() {
     await session.open(fragment(line("a", "ok", "read", 1)));
     assert.match(await session.inside("#verdict"), /^line 1: the process has no call under way$/);

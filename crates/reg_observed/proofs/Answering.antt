@@ -1,7 +1,6 @@
 -- What was found out, and how its text was written.
-use Rattle.std.proofs.Common.{ℕ, List, Bool, Option, ◌≡◌, subst, sym}
+use Rattle.std.proofs.Common.{ℕ, List, Bool}
 use Rattle.reg_observed.specs.declared.flags.JudgeFlags.{JudgeFlags}
-use Rattle.std.specs.Io.KnownBytes.{Appends}
 use Rattle.reg_observed.specs.Commands.{IsJudgedText}
 
 pub judged_as : (flags : JudgeFlags) (found : Bool) (P Q : List ℕ → Type 0) (text : List ℕ) → IsJudgedText flags found P text → ((answer : List ℕ) → P answer → Q answer) → IsJudgedText flags found Q text
@@ -18,6 +17,3 @@ judged_as flags found P Q text j to = record {
   says = j.says;
   written = (j.written.0, j.written.1, to j.written.0 j.written.2);
 }
-
-pub sent_as : (old new : Option (List ℕ)) (a b : List ℕ) → Appends old new a → a ≡ b → Appends old new b
-sent_as old new a b sent same = let P : List ℕ → Type 0 = λ x. Appends old new x in subst P same sent

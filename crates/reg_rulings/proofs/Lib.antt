@@ -1,3 +1,4 @@
 pub mod Lists
 pub mod Seating
 pub mod Keying
+pub mod Answering
