@@ -1,4 +1,4 @@
-use Rattle.std.proofs.Common.{◌≡◌, ap, sym, refl, ◌∙◌, subst, length, List}
+use Rattle.std.proofs.Common.{ap, refl, ◌∙◌, subst, length, List}
 use Rattle.reg_rulings.specs.declared.rows.Row.{Row}
 use Rattle.reg_rulings.specs.Standing.{Stands}
 use Rattle.reg_rulings.proofs.Seating.{as_many, length_replicate, stands_first, stands_more, take_all}
