@@ -1,5 +1,5 @@
 -- Rows, from the last event to the first.
-use Rattle.std.proofs.Common.{ℕ, ◌≡◌, ◌+◌, ◌<◌, ◌⊎◌, inl, inr, Bool, true, false, nat_eq, List, [], ◌∷◌, ◌++◌, length, drop, get_or, set, reverse, Option, None, Some, cond, refl, ap, sym, ◌∙◌, subst, arith, zero, suc, replicate}
+use Rattle.std.proofs.Common.{ℕ, ◌≡◌, ◌+◌, ◌<◌, ◌⊎◌, inl, inr, Bool, true, false, nat_eq, List, [], ◌∷◌, length, drop, get_or, set, reverse, Option, None, Some, cond, refl, ap, sym, ◌∙◌, subst, arith, zero, suc, replicate}
 use Rattle.std.proofs.lemmas.Bool.Decides.{eqb_tells}
 use Rattle.std.specs.List.{find}
 use Rattle.std.specs.Option.{option_map}

@@ -1,5 +1,5 @@
 -- Steps of the check of turns.
-use Rattle.std.proofs.Common.{ℕ, ◌≡◌, ◌+◌, ◌<◌, ◌≤◌, List, [], ◌∷◌, length, drop, get_or, set, slice_get, Option, None, Some, refl, ap, sym, ◌∙◌, subst, arith, zero, suc}
+use Rattle.std.proofs.Common.{ℕ, ◌≡◌, ◌+◌, ◌<◌, ◌≤◌, List, [], ◌∷◌, length, drop, get_or, set, slice_get, Option, None, Some, refl, ap, sym, ◌∙◌, arith, zero, suc}
 use Rattle.std.proofs.lemmas.Option.{slice_get-get_or}
 use Rattle.reg_rulings.proofs.Lists.{from_here, past_end}
 use Rattle.reg_observed.specs.declared.events.Event.{Event}

@@ -1,5 +1,5 @@
 -- What a line of JSON tells. To be believed: promises speak of it.
-use Rattle.std.specs.Prelude.{ℕ, ◌≡◌, ◌||◌, [], ◌∷◌, Bool, true, false, List, String, codes, string_bytes, Option, Some, None, is_some, option_and_then, option_map, Result, Ok, Err, if◌then◌else◌}
+use Rattle.std.specs.Prelude.{ℕ, ◌||◌, [], ◌∷◌, Bool, false, List, String, codes, string_bytes, Option, Some, None, is_some, option_and_then, Result, Ok, Err, if◌then◌else◌}
 use Rattle.std.specs.declared.alloc.Global.{Global}
 use Rattle.std.specs.Str.{bytes_eq, is_utf8}
 use Rattle.serde_json.specs.Data.{Data, Items, no_items, item}

@@ -1,5 +1,5 @@
 -- The calls and answers that make a history. To be believed: promises speak of it.
-use Rattle.std.specs.Prelude.{ℕ, ◌≡◌, ◌+◌, ◌&&◌, ◌||◌, nat_eq, Bool, true, false, not, List, [], ◌∷◌, Option, Some, None, option_map, if◌then◌else◌}
+use Rattle.std.specs.Prelude.{ℕ, ◌+◌, ◌&&◌, ◌||◌, nat_eq, Bool, true, false, not, List, [], ◌∷◌, Option, Some, None, option_map, if◌then◌else◌}
 use Rattle.std.specs.List.{find}
 use Rattle.reg_base.specs.declared.memory.Answer.{Answer as Reply}
 use Rattle.reg_base.specs.declared.memory.Answer.TheVariants.{Done, Value}

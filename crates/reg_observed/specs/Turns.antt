@@ -1,5 +1,5 @@
 -- Calls and answers in turn. To be believed: promises speak of it.
-use Rattle.std.specs.Prelude.{ℕ, ◌≡◌, ◌&&◌, ◌==◌, Bool, true, false, List, [], ◌∷◌, replicate, get_or, slice_set, Option, Some, None, if◌then◌else◌}
+use Rattle.std.specs.Prelude.{ℕ, ◌&&◌, ◌==◌, Bool, true, false, List, [], ◌∷◌, replicate, get_or, slice_set, Option, Some, None, if◌then◌else◌}
 use Rattle.reg_observed.specs.declared.events.Event.{Event}
 use Rattle.reg_observed.specs.declared.events.Moment.{Moment}
 use Rattle.reg_observed.specs.declared.events.Moment.TheVariants.{Invoke, Ok, Fail, Unequal, Info}
