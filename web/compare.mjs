@@ -15,6 +15,7 @@ const WORDS = {
   "draw": ["awshow", "draw", "--whole"], "data": ["awshow", "data"], "page": ["awshow", "page", "--whole"],
   "rest": ["awshow", "rest"], "verify": ["awshow", "verify"],
   "find-serial": ["awshow", "find", "serial"], "find-points": ["awshow", "find", "points"],
+  "judge": ["awshow", "judge"], "judge-report": ["awshow", "judge", "--report"],
   "schedule": ["awshow", "schedule"], "schedule-fair": ["awshow", "schedule", "--fair"],
   "short": ["awshow", "schedule", "--short"], "short-fair": ["awshow", "schedule", "--fair", "--short"],
   "outcomes": ["awshow", "outcomes"], "outcomes-all": ["awshow", "outcomes", "--all"], "why": ["awshow", "why"],
@@ -26,7 +27,7 @@ const ASKED = {
   workload: ["play", "play-fair", "schedule", "schedule-fair", "short", "short-fair", "outcomes-all", "data", "trace",
     "why"],
   schedule: ["replay", "trace", "draw", "data", "page", "rest", "why"],
-  report: ["check", "find-serial", "find-points", "why"],
+  report: ["check", "find-serial", "find-points", "judge", "judge-report", "why"],
   record: ["verify"],
 };
 
@@ -70,11 +71,16 @@ const isSame = (one, other) => one.status === other.status && one.stdout.equals(
 const areRefused = (command, text, one, other) => engine.kindOf(new Uint8Array(text)) === "workload" &&
   [one, other].every(({ status, stdout }) => status === 1 && (command === "why" || !stdout.length));
 
+/** A text that is no report is lines of JSON to the program that judges, and refused by the module. */
+const isAsked = (command, text) => !command.startsWith("judge") || engine.kindOf(new Uint8Array(text)) === "report";
+
 function compare(command, name, text) {
+  if (!isAsked(command, text)) return;
   const [program_name, ...words] = WORDS[command];
   const native = spawnSync(program(program_name), words, { input: text, maxBuffer: 1 << 30 });
   if (native.error) throw native.error;
   if (command === "why") native.stdout = firstLine(native.stdout);
+  if (command.startsWith("judge")) native.stderr = Buffer.from(String(native.stderr).replace(/^refused: /, ""));
   const own = told(command, text);
   if (isSame(own, native)) tally.same++;
   else if (areRefused(command, text, own, native)) tally.refused++;
@@ -132,7 +138,8 @@ function refusedRooms(command, text) {
 
 let rooms = 0;
 for (const [command, name] of [["replay", "stale-read.sched"], ["trace", "swap-lock.sched"],
-  ["page", "one-process.sched"], ["rest", "lost-frame.sched"], ["check", "stale-linear.report"]]) {
+  ["page", "one-process.sched"], ["rest", "lost-frame.sched"], ["check", "stale-linear.report"],
+  ["judge", "stale-linear.report"]]) {
   rooms += refusedRooms(command, readFileSync(join(TOP, "examples", name)));
 }
 console.log(`memory is refused in each of ${rooms} rooms that are too small`);

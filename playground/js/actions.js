@@ -3,6 +3,8 @@ import { byId, html } from "../../page/js/elements.js";
 import { fly } from "./ahead.js";
 import { ask } from "./api.js";
 import { filesOf } from "./files.js";
+import { reportOf } from "./history.js";
+import { judged } from "./judged.js";
 import { fragmentOf } from "./links.js";
 import { Menu } from "./menu.js";
 import { takeLine, tickLine } from "./next.js";
@@ -62,6 +64,7 @@ export class Actions {
   async report() {
     const { kind } = this.playground.seen;
     if (kind === "report") return { status: 0, output: this.text, error: "" };
+    if (kind === "history") return { status: 0, output: reportOf(this.text).report.text, error: "" };
     return ask(kind === "workload" ? "play" : "replay", this.text);
   }
 
@@ -70,6 +73,23 @@ export class Actions {
     const own = this.playground.seen.kind === "report" ? "" :
       html("details", {}, html("summary", {}, "The report that it judges"), html("pre", {}, report.output));
     showOutput("awreg check", verdictLines(verdict), own);
+  }
+
+  async judge() {
+    const report = await this.report(), answer = await ask("judge", report.output);
+    showOutput("awshow judge", judged(answer, report.output));
+  }
+
+  /** Makes the report of lines of JSON the text. */
+  async asReport() {
+    await this.playground.setText((await this.report()).output);
+  }
+
+  /** Puts the points that the judge finds into the report. */
+  async withPoints() {
+    const made = await ask("judge-report", this.text);
+    if (made.status !== 0) return say(made.error.trim() || "Its history has no point order.");
+    await this.playground.setText(made.output);
   }
 
   /** Makes the play of a workload the text. */

@@ -23,7 +23,9 @@ export class Input {
     const buttons = {
       undo: () => playground.undo(-1), redo: () => playground.undo(1), cut: () => actions.cut(),
       rest: () => actions.rest(),
-      check: () => actions.check(), save: () => actions.openSaves(), link: () => actions.link(),
+      check: () => actions.check(), judge: () => actions.judge(), "as-report": () => actions.asReport(),
+      "with-points": () => actions.withPoints(),
+      save: () => actions.openSaves(), link: () => actions.link(),
       outcomes: () => actions.outcomes(), "as-seeded": () => actions.asSchedule("schedule"),
       "as-fair": () => actions.asSchedule("schedule-fair"), stop: () => stopRuns(),
     };
@@ -79,6 +81,7 @@ export class Input {
     const line = /^[1-9]$/.test(key) && playground.canClick ? playground.offers.numbered[+key - 1] : null;
     if (line) return () => actions.add(line);
     return { u: () => actions.cut(), r: () => byId("rest").click(), c: () => byId("check").click(),
+      j: () => byId("judge").click(),
       e: () => byId("source").focus() }[key];
   }
 }

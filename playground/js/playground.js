@@ -11,6 +11,7 @@ import { Editor } from "./editor.js";
 import { Exercise } from "./exercise.js";
 import { focusOf, refocus } from "./focus.js";
 import { Input } from "./input.js";
+import { showHistory } from "./judged.js";
 import { Offers } from "./offers.js";
 import { Changes, eventLines, placeOf } from "./texts.js";
 import { showReport, showVerdict } from "./verdict.js";
@@ -99,9 +100,10 @@ export class Playground {
   async keepRun(text) {
     const { kind, refusal, why } = this.seen;
     this.canClick = false;
-    document.body.classList.toggle("no-run", kind === "report");
+    document.body.classList.toggle("no-run", kind === "report" || kind === "history");
     document.body.classList.add("stale");
     if (kind === "report") return showReport(text);
+    if (kind === "history") return showHistory(text);
     if (this.run) return;
     byId("no-run").replaceChildren(html("p", { class: "lead" },
       refusal || "The text is refused, so there is no run yet. Why it is stands below it."));
@@ -153,6 +155,7 @@ export class Playground {
     byId("cut").disabled = !isSchedule || !this.run || this.view.at >= this.run.last;
     byId("rest").disabled = !isSchedule;
     byId("check").disabled = !["schedule", "workload", "report"].includes(kind);
+    byId("judge").disabled = !["schedule", "workload", "report", "history"].includes(kind);
   }
 
   /** Marks the line of the event that is shown. */

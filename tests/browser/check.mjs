@@ -12,6 +12,7 @@ import { triesOfBuilding } from "./building.mjs";
 import { triesOfTexts } from "./texts.mjs";
 import { triesOfExercises } from "./exercises.mjs";
 import { triesOfSlides } from "./slides.mjs";
+import { triesOfJudging } from "./judging.mjs";
 import { triesOfSpeed } from "./speed.mjs";
 
 const { values: asked, positionals: words } = parseArgs({ allowPositionals: true,
@@ -51,7 +52,7 @@ const context = { browser, session, shots: asked.shots, rounds: +asked.rounds, e
 if (asked.shots) mkdirSync(asked.shots, { recursive: true });
 await browser.size(1440, 940);
 const tries = Object.entries(Object.assign({}, ...[triesOfPages, triesOfBuilding, triesOfTexts, triesOfExercises,
-  triesOfSlides, triesOfSpeed].map(make => make(context)))).filter(([name]) => words.every(word => name.includes(word)))
+  triesOfJudging, triesOfSlides, triesOfSpeed].map(make => make(context)))).filter(([name]) => words.every(word => name.includes(word)))
   .filter(([name]) => !browser.untried?.includes(name));
 for (const name of browser.untried ?? []) console.log("not tried: " + name);
 let wrong = 0;

@@ -5,6 +5,7 @@ import { mkdirSync } from "node:fs";
 import { join } from "node:path";
 import { Browser } from "./driver.mjs";
 import { Firefox } from "./firefox.mjs";
+import { triesOfJudging } from "./judging.mjs";
 import { triesOfFirstPage, triesOfLesson } from "./lesson.mjs";
 import { triesOfLimits } from "./limits.mjs";
 import { Session, example, fragment, linesOf, schedule, serveFolder } from "./session.mjs";
@@ -73,7 +74,7 @@ const TRIES = {
   async "what is not in the page is told so, and a text of 256 MB is refused by its line"() {
     const told = await browser.value(`(async () => {
       const { ask } = await import("./playground/js/server.js");
-      const answers = [ask("judge", ""), ask("replay", "#".repeat(1 << 28)), ask("check", ${JSON.stringify(
+      const answers = [ask("live", ""), ask("replay", "#".repeat(1 << 28)), ask("check", ${JSON.stringify(
         example("one-process.report"))})];
       return (await Promise.all(answers)).map(({ output, error }) => output || error);
     })()`);
@@ -83,8 +84,8 @@ const TRIES = {
 };
 
 const context = { browser, session, address, shots, folder };
-const all = Object.entries({ ...TRIES, ...triesOfFirstPage(context), ...triesOfLesson(context),
-  ...triesOfLimits(context) });
+const all = Object.entries({ ...TRIES, ...triesOfJudging(context), ...triesOfFirstPage(context),
+  ...triesOfLesson(context), ...triesOfLimits(context) });
 let wrong = 0;
 for (const [name, attempt] of all) {
   const had = browser.errors.length;

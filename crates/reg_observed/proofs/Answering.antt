@@ -1,7 +1,7 @@
 -- What was found out, and how its text was written.
-use Rattle.std.proofs.Common.{ℕ, List, Bool, Option, ◌≡◌, subst, sym}
+use Rattle.std.proofs.Common.{ℕ, ◌≡◌, List, Bool, Option, Some, None, Result, Ok, Err, subst}
+use Rattle.std.specs.Prelude.{IfOk, IfSome}
 use Rattle.reg_observed.specs.declared.flags.JudgeFlags.{JudgeFlags}
-use Rattle.std.specs.Io.KnownBytes.{Appends}
 use Rattle.reg_observed.specs.Commands.{IsJudgedText}
 
 pub judged_as : (flags : JudgeFlags) (found : Bool) (P Q : List ℕ → Type 0) (text : List ℕ) → IsJudgedText flags found P text → ((answer : List ℕ) → P answer → Q answer) → IsJudgedText flags found Q text
@@ -19,5 +19,8 @@ judged_as flags found P Q text j to = record {
   written = (j.written.0, j.written.1, to j.written.0 j.written.2);
 }
 
-pub sent_as : (old new : Option (List ℕ)) (a b : List ℕ) → Appends old new a → a ≡ b → Appends old new b
-sent_as old new a b sent same = let P : List ℕ → Type 0 = λ x. Appends old new x in subst P same sent
+-- what is said of a text that was read is said of the input, if it is known
+pub of_input : {E : Type 0} (P : Bool → List ℕ → Type 0) (r : Result Bool E) (input : Option (List ℕ)) (text : List ℕ) → IfSome input (λ xs. text ≡ xs) → IfOk r (λ found. P found text) → IfOk r (λ found. IfSome input (P found))
+of_input P (Ok found) None text same said = tt
+of_input P (Ok found) (Some xs) text same said = subst (P found) same said
+of_input P (Err e) input text same said = tt

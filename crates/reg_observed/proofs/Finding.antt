@@ -1,61 +1,12 @@
 -- Steps of what is found out.
-use Rattle.std.proofs.Common.{ℕ, ◌≡◌, ◌+◌, ◌<◌, ◌≤◌, ◌⊎◌, inl, inr, List, [], ◌∷◌, ◌++◌, length, drop, take, get_or, slice_get, Bool, true, false, ◌||◌, Option, Some, None, codes, if◌then◌else◌, refl, ap, sym, ◌∙◌, subst, arith, append_assoc, append-nil, length-append, add-one, zero, suc}
-use Rattle.std.proofs.lemmas.Option.{same_Some}
-use Rattle.std.specs.List.{list_any, flat_map}
-use Rattle.reg_checkers.specs.declared.entries.Entry.{Entry}
-use Rattle.reg_checkers.specs.declared.entries.Entry.TheVariants.{Answered}
-use Rattle.reg_checkers.specs.History.{IsAt, event_of}
-use Rattle.reg_checkers.proofs.Pushing.{at_push}
-use Rattle.reg_judge.specs.Judging.{HasPointOrder, IsFirstUnexplained}
+use Rattle.std.proofs.Common.{ℕ, ◌≡◌, List, Some, codes, slice_get, if◌then◌else◌}
+use Rattle.std.specs.List.{list_any}
 use Rattle.reg_observed.specs.declared.events.Event.{Event}
-use Rattle.reg_observed.specs.declared.judging.Ruling.{Ruling}
-use Rattle.reg_observed.specs.declared.judging.Ruling.TheVariants.{Not}
-use Rattle.reg_observed.specs.declared.rows.Row.{Row}
 use Rattle.reg_observed.specs.Heard.{Extends}
-use Rattle.reg_observed.specs.Rows.{speaks_of, of_key, rows_of_key}
-use Rattle.reg_observed.specs.Verdicts.{AreRuled, IsRuled, IsUsualFirst, RulesEntries}
+use Rattle.reg_observed.specs.Rows.{speaks_of}
+use Rattle.reg_observed.specs.Verdicts.{IsUsualFirst}
 use Rattle.reg_observed.proofs.Hearing.{kept_word}
-use Rattle.reg_observed.proofs.Turning.{from_here, past_end}
-use Rattle.reg_observed.proofs.Seating.{take_all}
-
-pub key_more : (key i : ℕ) (rows : List Row) (d : Row) (whole old new : List Row) → i < length rows → old ++ rows_of_key key (drop i rows) ≡ whole → new ≡ old ++ of_key key (get_or rows i d) → new ++ rows_of_key key (drop (i + 1) rows) ≡ whole
-key_more key i rows d whole old new lt before is =
-    ap (λ l. l ++ rows_of_key key (drop (i + 1) rows)) is
-    ∙ append_assoc old (of_key key (get_or rows i d)) (rows_of_key key (drop (i + 1) rows))
-    ∙ sym (ap (λ l. old ++ rows_of_key key l) (from_here rows i d lt))
-    ∙ before
-
-pub key_all : (key i : ℕ) (rows whole part : List Row) → length rows ≤ i → part ++ rows_of_key key (drop i rows) ≡ whole → part ≡ whole
-key_all key i rows whole part le before = sym (append-nil part) ∙ ap (λ l. part ++ rows_of_key key l) (sym (past_end rows i le)) ∙ before
-
--- one ruling more
-pub ruled_more : (processes keys : ℕ) (rows : List Row) (old new : List Ruling) (ruling : Ruling) → AreRuled processes keys rows old → IsRuled processes (rows_of_key keys rows) ruling → new ≡ old ++ ruling ∷ [] → AreRuled processes (keys + 1) rows new
-ruled_more processes keys rows old new ruling before one is = record {
-  all = ap length is ∙ length-append old (ruling ∷ []) ∙ ap (λ n. n + 1) before.all;
-  each = λ key r at. go key r (at_push old key ruling r (ap (λ l. slice_get l key) (sym is) ∙ at));
-}
-  where
-    go : (key : ℕ) (r : Ruling) → (slice_get old key ≡ Some r) ⊎ ((key ≡ length old) × (r ≡ ruling)) → IsRuled processes (rows_of_key key rows) r
-    go key r (inl at) = before.each key r at
-    go key r (inr (e, same)) =
-        let K : ℕ → Type 0 = λ k. IsRuled processes (rows_of_key k rows) r in
-        let R : Ruling → Type 0 = λ x. IsRuled processes (rows_of_key keys rows) x in
-        subst K (sym (e ∙ before.all)) (subst R (sym same) one)
-
-pub ruled_none : (processes : ℕ) (rows : List Row) (rulings : List Ruling) → rulings ≡ [] → AreRuled processes 0 rows rulings
-ruled_none processes rows rulings e = record { all = ap length e; each = λ key r at. absurd (none key r (ap (λ l. slice_get l key) (sym e) ∙ at)) }
-  where
-    none : (key : ℕ) (r : Ruling) → slice_get [] key ≡ Some r → ⊥
-    none key r h = cc
 
 pub usual_first : (middle values : List (List ℕ)) (events : List Event) (null zero_ first : ℕ) → slice_get middle null ≡ Some (codes "null") → Extends middle values → slice_get values zero_ ≡ Some (codes "0")
     → first ≡ (if list_any (speaks_of null) events then null else zero_) → IsUsualFirst values events first
 usual_first middle values events null zero_ first here wider at is = (null, zero_, kept_word middle values null (codes "null") wider here, at, is)
-
--- the answer that none explains, by its event
-pub ruled_not : (registers : ℕ) (entries : List Entry) (place at : ℕ) → registers ≡ 1 → (¬ HasPointOrder registers entries) × IsFirstUnexplained registers entries place → ((e : Entry) → IsAt entries place e → at ≡ event_of e) → RulesEntries entries (Not at)
-ruled_not registers entries place at one found named =
-    let P : ℕ → Type 0 = λ n. (¬ HasPointOrder n entries) × IsFirstUnexplained n entries place in
-    let first = subst P one found in
-    let (event, id, answer, here) = first.1.answer in
-    (first.0, (place, first.1, (Answered event id answer, here, named (Answered event id answer) here)))

@@ -1,6 +1,5 @@
 -- More events that are heard.
 use Rattle.std.proofs.Common.{ℕ, ◌≡◌, ◌+◌, List, [], ◌∷◌, ◌++◌, Option, None, Some, slice_get, Result, Ok, Err, refl, ap, sym, ◌∙◌, append_assoc, append-nil, subst, zero, suc, length, ◌<◌, arith}
-use Rattle.std.specs.List.{AllZip}
 use Rattle.std.proofs.lemmas.Option.{same_Some, slice_get_within}
 use Rattle.reg_observed.specs.declared.events.Event.{Event}
 use Rattle.reg_observed.specs.declared.faults.Why.{Why}

@@ -3,7 +3,6 @@ pub mod Numbering
 pub mod Hearing
 pub mod Turning
 pub mod Rowing
-pub mod Seating
 pub mod Finding
 pub mod Answering
 pub mod Pairing

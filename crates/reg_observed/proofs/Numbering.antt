@@ -1,5 +1,5 @@
 -- Words under numbers.
-use Rattle.std.proofs.Common.{ℕ, ◌≡◌, List, [], ◌∷◌, ◌++◌, Bool, true, false, map, slice_get, Option, None, Some, String, string_bytes, if◌then◌else◌, refl, ap, sym, subst, ◌∙◌, append-nil, zero, suc, true≢false}
+use Rattle.std.proofs.Common.{ℕ, ◌≡◌, List, [], ◌∷◌, ◌++◌, Bool, true, false, map, slice_get, Some, String, string_bytes, if◌then◌else◌, refl, ap, sym, subst, ◌∙◌, append-nil, zero, suc, true≢false}
 use Rattle.std.proofs.lemmas.List.{map-append}
 use Rattle.std.proofs.lemmas.Option.{slice_get-map, same_Some}
 use Rattle.reg_checkers.proofs.Places.{at_map}

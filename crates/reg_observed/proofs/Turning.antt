@@ -1,19 +1,10 @@
 -- Steps of the check of turns.
-use Rattle.std.proofs.Common.{ℕ, ◌≡◌, ◌+◌, ◌<◌, ◌≤◌, List, [], ◌∷◌, length, drop, get_or, set, slice_get, Option, None, Some, refl, ap, sym, ◌∙◌, subst, arith, add-one, drop-cons, zero, suc}
+use Rattle.std.proofs.Common.{ℕ, ◌≡◌, ◌+◌, ◌<◌, ◌≤◌, List, [], ◌∷◌, length, drop, get_or, set, slice_get, Option, None, Some, refl, ap, sym, ◌∙◌, arith, zero, suc}
 use Rattle.std.proofs.lemmas.Option.{slice_get-get_or}
+use Rattle.reg_rulings.proofs.Lists.{from_here, past_end}
 use Rattle.reg_observed.specs.declared.events.Event.{Event}
 use Rattle.reg_observed.specs.declared.faults.Why.{Why}
 use Rattle.reg_observed.specs.Turns.{first_wrong, found_or, running_after, wrong_turn}
-
--- from a place on there is the element there, and then the others
-pub from_here : {X : Type 0} (xs : List X) (i : ℕ) (d : X) → i < length xs → drop i xs ≡ get_or xs i d ∷ drop (i + 1) xs
-from_here xs i d lt = rw (add-one, drop-cons xs i d)
-
-pub past_end : {X : Type 0} (xs : List X) (i : ℕ) → length xs ≤ i → drop i xs ≡ []
-past_end [] zero le = refl
-past_end [] (suc i) le = refl
-past_end (x ∷ xs) zero le = absurd (omega arith)
-past_end (x ∷ xs) (suc i) le = past_end xs i (omega arith)
 
 -- within the list no default is read
 pub same_default : {X : Type 0} (xs : List X) (i : ℕ) (c d : X) → i < length xs → get_or xs i c ≡ get_or xs i d

@@ -1,5 +1,5 @@
 -- Text or not, as a test.
-use Rattle.std.proofs.Common.{ℕ, ◌≡◌, List, Bool, true, false, Option, None, Some, if◌then◌else◌, ap, sym, ◌∙◌}
+use Rattle.std.proofs.Common.{ℕ, ◌≡◌, List, Bool, true, false, Option, None, if◌then◌else◌, ap}
 use Rattle.std.specs.Str.{IsUtf8, is_utf8}
 use Rattle.std.proofs.lemmas.Str.{IsUtf8-from_is_utf8, is_utf8-from_IsUtf8}
 

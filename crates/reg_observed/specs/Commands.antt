@@ -1,9 +1,13 @@
 -- What the command that judges a history writes. To be believed: promises speak of it.
-use Rattle.std.specs.Prelude.{ℕ, ◌≡◌, ◌++◌, ◌∷◌, [], Bool, true, false, List, codes, map, Option, Some, None, Result, Ok, if◌then◌else◌, is_some, option_copied, Vec}
+use Rattle.std.specs.Prelude.{ℕ, ◌≡◌, Bool, true, false, List, Option, Some, None, Ok, is_some, option_copied, Vec}
 use Rattle.std.specs.declared.alloc.Global.{Global}
 use Rattle.reg_checkers.specs.declared.entries.Entry.{Entry}
 use Rattle.reg_checkers.specs.declared.entries.Point.{Point}
-use Rattle.reg_history.specs.Reports.{Contents, IsReport, report_text}
+use Rattle.reg_commands.specs.Kinds.{kind_of}
+use Rattle.reg_commands.specs.declared.kinds.Kind.{Kind}
+use Rattle.reg_commands.specs.declared.kinds.Kind.TheVariants.{Report, Schedule, Workload}
+use Rattle.reg_history.specs.Reports.{Contents, report_text}
+use Rattle.reg_rulings.specs.Reported.{IsReportOf, JudgesReport, Says}
 use Rattle.reg_text.specs.Lines.{lines_of}
 use Rattle.reg_observed.specs.declared.flags.JudgeFlags.{JudgeFlags}
 use Rattle.reg_observed.specs.declared.heard.Heard.{Heard}
@@ -12,22 +16,6 @@ use Rattle.reg_observed.specs.Told.{Telling}
 use Rattle.reg_observed.specs.Heard.{AreDistinct}
 use Rattle.reg_observed.specs.Reading.{AreEvents, lines_tell}
 use Rattle.reg_observed.specs.Verdicts.{IsJudged}
-
--- the first word, with its line feed
-abbrev pub word_of : Bool → List ℕ
-word_of found = if found then codes "yes\n" else codes "no\n"
-
--- the text begins with the word
-abbrev pub Says : Bool → List ℕ → Type 0
-Says found text = (more : List ℕ) × (text ≡ word_of found ++ more)
-
--- a report of these entries: of so many registers, with these points, whose operations are its order
-pub record IsReportOf (registers : ℕ) (entries : List Entry) (points : List Point) (r : Contents) : Type 0 where
-  pub report : IsReport r
-  pub shape : r.shape.registers ≡ registers
-  pub history : r.entries ≡ entries
-  pub order : r.order ≡ map (λ p. p.id) points
-  pub with_points : r.points ≡ Some points
 
 -- The text of a report, where one is asked for and there are points; and else one that begins with a word, with lines
 -- for a person.
@@ -53,3 +41,13 @@ pub record IsJudgedText (flags : JudgeFlags) (found : Bool) (Wrote : List ℕ �
   pub judged : IsJudged (option_copied flags.first) heard verdict
   pub says : is_some verdict.points ≡ found
   pub written : (answer : List ℕ) × IsAnswer flags.report verdict answer × Wrote answer
+
+-- What is judged of a text by its kind: the history of a report, whose registers begin with 0, so that no first value
+-- is asked for; or else lines of JSON.
+abbrev pub IsJudgedAs : Kind → JudgeFlags → Bool → (List ℕ → Type 0) → List ℕ → Type 0
+IsJudgedAs Report flags found Wrote text = (is_some flags.first ≡ false) × JudgesReport flags.report found Wrote text
+IsJudgedAs Schedule flags found Wrote text = IsJudgedText flags found Wrote text
+IsJudgedAs Workload flags found Wrote text = IsJudgedText flags found Wrote text
+
+abbrev pub IsAnyJudged : JudgeFlags → Bool → (List ℕ → Type 0) → List ℕ → Type 0
+IsAnyJudged flags found Wrote text = IsJudgedAs (kind_of text) flags found Wrote text

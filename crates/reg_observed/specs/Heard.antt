@@ -1,6 +1,5 @@
 -- Events, with words under numbers. To be believed: promises speak of it.
-use Rattle.std.specs.Prelude.{ℕ, ◌≡◌, ◌<◌, List, ◌++◌, slice_get, Some}
-use Rattle.std.specs.List.{AllZip}
+use Rattle.std.specs.Prelude.{ℕ, ◌≡◌, List, ◌++◌, slice_get, Some}
 use Rattle.reg_observed.specs.declared.events.Event.{Event}
 use Rattle.reg_observed.specs.declared.heard.Vocabulary.{Vocabulary}
 use Rattle.reg_observed.specs.Told.{Telling}

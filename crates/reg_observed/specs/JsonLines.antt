@@ -1,5 +1,5 @@
 -- What a line of JSON tells. To be believed: promises speak of it.
-use Rattle.std.specs.Prelude.{ℕ, ◌≡◌, ◌||◌, [], ◌∷◌, Bool, true, false, List, String, codes, string_bytes, Option, Some, None, is_some, option_and_then, option_map, Result, Ok, Err, if◌then◌else◌}
+use Rattle.std.specs.Prelude.{ℕ, ◌||◌, [], ◌∷◌, Bool, false, List, String, codes, string_bytes, Option, Some, None, is_some, option_and_then, Result, Ok, Err, if◌then◌else◌}
 use Rattle.std.specs.declared.alloc.Global.{Global}
 use Rattle.std.specs.Str.{bytes_eq, is_utf8}
 use Rattle.serde_json.specs.Data.{Data, Items, no_items, item}
@@ -7,7 +7,7 @@ use Rattle.serde_json.specs.Read.{read}
 use Rattle.serde_json.specs.Find.{get, as_array, as_null, as_number, as_str, as_u64, as_i64}
 use Rattle.serde_json.specs.Written.{compact_text}
 use Rattle.reg_observed.specs.declared.events.Moment.{Moment}
-use Rattle.reg_observed.specs.declared.events.Act.{Act}
+use Rattle.reg_rulings.specs.declared.rows.Act.{Act}
 use Rattle.reg_observed.specs.declared.faults.Why.{Why}
 use Rattle.reg_observed.specs.declared.faults.Why.TheVariants.{Form, BadProcess, BadType, BadFunction, BadKey, BadValue, BadPair, BadFirst}
 use Rattle.reg_observed.specs.Told.{Telling, is_compare_and_swap, moment_named, moment_of, act_named, with_value, ◌>>=◌}

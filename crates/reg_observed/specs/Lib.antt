@@ -4,7 +4,7 @@ pub mod Heard
 pub mod Reading
 pub mod Turns
 pub mod Rows
-pub mod Standing
 pub mod Verdicts
 pub mod Commands
 pub mod Answers
+pub mod Faults

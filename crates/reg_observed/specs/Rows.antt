@@ -1,17 +1,17 @@
 -- The calls and answers that make a history. To be believed: promises speak of it.
-use Rattle.std.specs.Prelude.{ℕ, ◌≡◌, ◌+◌, ◌&&◌, ◌||◌, nat_eq, Bool, true, false, not, List, [], ◌∷◌, Option, Some, None, option_map, if◌then◌else◌}
-use Rattle.std.specs.List.{find, flat_map}
+use Rattle.std.specs.Prelude.{ℕ, ◌+◌, ◌&&◌, ◌||◌, nat_eq, Bool, true, false, not, List, [], ◌∷◌, Option, Some, None, option_map, if◌then◌else◌}
+use Rattle.std.specs.List.{find}
 use Rattle.reg_base.specs.declared.memory.Answer.{Answer as Reply}
 use Rattle.reg_base.specs.declared.memory.Answer.TheVariants.{Done, Value}
 use Rattle.reg_base.specs.declared.memory.Answer.TheVariants as replies
 use Rattle.reg_observed.specs.declared.events.Event.{Event}
 use Rattle.reg_observed.specs.declared.events.Moment.{Moment}
 use Rattle.reg_observed.specs.declared.events.Moment.TheVariants.{Invoke, Ok, Fail, Unequal, Info}
-use Rattle.reg_observed.specs.declared.events.Act.{Act}
-use Rattle.reg_observed.specs.declared.events.Act.TheVariants.{Read, Write, Swap, CompareAndSwap}
-use Rattle.reg_observed.specs.declared.rows.Step.{Step}
-use Rattle.reg_observed.specs.declared.rows.Step.TheVariants.{Call, Answer}
-use Rattle.reg_observed.specs.declared.rows.Row.{Row}
+use Rattle.reg_rulings.specs.declared.rows.Act.{Act}
+use Rattle.reg_rulings.specs.declared.rows.Act.TheVariants.{Read, Write, Swap, CompareAndSwap}
+use Rattle.reg_rulings.specs.declared.rows.Step.{Step}
+use Rattle.reg_rulings.specs.declared.rows.Step.TheVariants.{Call, Answer}
+use Rattle.reg_rulings.specs.declared.rows.Row.{Row}
 use Rattle.reg_observed.specs.Told.{is_compare_and_swap, is_invoke, is_read}
 
 abbrev pub is_ok : Moment → Bool
@@ -86,11 +86,3 @@ expects_this value event = is_invoke event.moment && (is_compare_and_swap event.
 -- the value is one that registers may have had: an answer tells of it, or a compare-and-swap expects it
 abbrev pub speaks_of : ℕ → Event → Bool
 speaks_of value event = answers_this value event || expects_this value event
-
--- the row, as if its key were the only one, where it is of this key
-abbrev pub of_key : ℕ → Row → List Row
-of_key key row = if nat_eq row.key key then record row { key = 0 } ∷ [] else []
-
--- the rows of a key, as if it were the only one
-abbrev pub rows_of_key : ℕ → List Row → List Row
-rows_of_key key rows = flat_map (of_key key) rows

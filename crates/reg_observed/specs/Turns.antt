@@ -1,10 +1,10 @@
 -- Calls and answers in turn. To be believed: promises speak of it.
-use Rattle.std.specs.Prelude.{ℕ, ◌≡◌, ◌&&◌, ◌==◌, Bool, true, false, List, [], ◌∷◌, replicate, get_or, slice_set, Option, Some, None, if◌then◌else◌}
+use Rattle.std.specs.Prelude.{ℕ, ◌&&◌, ◌==◌, Bool, true, false, List, [], ◌∷◌, replicate, get_or, slice_set, Option, Some, None, if◌then◌else◌}
 use Rattle.reg_observed.specs.declared.events.Event.{Event}
 use Rattle.reg_observed.specs.declared.events.Moment.{Moment}
 use Rattle.reg_observed.specs.declared.events.Moment.TheVariants.{Invoke, Ok, Fail, Unequal, Info}
-use Rattle.reg_observed.specs.declared.events.Act.{Act}
-use Rattle.reg_observed.specs.declared.events.Act.TheVariants.{Read, Write, Swap, CompareAndSwap}
+use Rattle.reg_rulings.specs.declared.rows.Act.{Act}
+use Rattle.reg_rulings.specs.declared.rows.Act.TheVariants.{Read, Write, Swap, CompareAndSwap}
 use Rattle.reg_observed.specs.declared.faults.Why.{Why}
 use Rattle.reg_observed.specs.declared.faults.Why.TheVariants.{Idle, Busy, Other}
 

@@ -1,54 +1,25 @@
 -- What is found out of a history. To be believed: promises speak of it.
 use Rattle.std.specs.Prelude.{ℕ, ◌≡◌, ◌⊎◌, List, length, max, slice_get, Option, Some, None, Result, Ok, Err, codes, if◌then◌else◌, Vec, ⊤}
 use Rattle.std.specs.List.{list_any}
-use Rattle.reg_base.specs.declared.memory.OpId.{OpId}
 use Rattle.reg_checkers.specs.declared.entries.Entry.{Entry}
 use Rattle.reg_checkers.specs.declared.entries.Point.{Point}
-use Rattle.reg_checkers.specs.History.{IsAt, event_of}
-use Rattle.reg_checkers.specs.Orders.{IsPointOrder, IsSerial}
-use Rattle.reg_judge.specs.Judging.{HasPointOrder, IsFirstUnexplained}
-use Rattle.reg_observed.specs.declared.judging.Ruling.{Ruling}
-use Rattle.reg_observed.specs.declared.judging.Ruling.TheVariants.{Linearizable, Not}
+use Rattle.reg_checkers.specs.Orders.{IsPointOrder}
+use Rattle.reg_judge.specs.Judging.{HasPointOrder}
+use Rattle.reg_rulings.specs.Rulings.{AreRuled, RulesSerial}
+use Rattle.reg_rulings.specs.Standing.{IsStood}
+use Rattle.reg_rulings.specs.declared.rows.Row.{Row}
+use Rattle.reg_rulings.specs.declared.seats.Naming.TheVariants.{Any, Own}
+use Rattle.reg_rulings.specs.declared.serial.Serial.{Serial}
+use Rattle.reg_rulings.specs.declared.serial.Serial.TheVariants.{Unjudged}
 use Rattle.reg_observed.specs.declared.judging.Verdict.{Verdict}
 use Rattle.reg_observed.specs.declared.heard.Heard.{Heard}
+use Rattle.reg_observed.specs.declared.events.Event.{Event}
 use Rattle.reg_observed.specs.declared.faults.Why.{Why}
 use Rattle.reg_observed.specs.JsonLines.{value_said}
 use Rattle.reg_observed.specs.Told.{Telling}
 use Rattle.reg_observed.specs.Reading.{AreEvents}
+use Rattle.reg_observed.specs.Rows.{rows_from, speaks_of}
 use Rattle.reg_observed.specs.Turns.{first_wrong, none_running}
-use Rattle.reg_observed.specs.declared.judging.Serial.{Serial}
-use Rattle.reg_observed.specs.declared.judging.Serial.TheVariants.{Yes, No, Unjudged, TooWide}
-use Rattle.reg_observed.specs.declared.rows.Row.{Row}
-use Rattle.reg_observed.specs.declared.search.Sought.{Sought}
-use Rattle.reg_observed.specs.declared.seats.Naming.TheVariants.{Any, Own}
-use Rattle.reg_observed.specs.declared.events.Event.{Event}
-use Rattle.reg_observed.specs.Rows.{rows_from, rows_of_key, speaks_of}
-use Rattle.reg_observed.specs.Standing.{IsStood}
-use Rattle.reg_observed.specs.declared.search.Sought.TheVariants as sought
-
--- A point order of the entries, or that there is none, and the place of the first answer that none explains: up to it
--- there is none, and up to the entry before there is one.
-abbrev pub IsSought : {A : Type 0} → ℕ → List Entry → Sought A → Type 0
-IsSought registers entries (sought.Points points) = IsPointOrder registers entries points.items
-IsSought registers entries (sought.None place) = (¬ HasPointOrder registers entries) × IsFirstUnexplained registers entries place
-
--- the answer of this event is the first up to which the entries have no point order
-abbrev pub IsUnexplainedAt : ℕ → List Entry → ℕ → Type 0
-IsUnexplainedAt registers entries at = (place : ℕ) × IsFirstUnexplained registers entries place × ((e : Entry) × IsAt entries place e × (at ≡ event_of e))
-
--- of entries that have a point order, and of those that have none
-abbrev pub RulesEntries : List Entry → Ruling → Type 0
-RulesEntries entries Linearizable = HasPointOrder 1 entries
-RulesEntries entries (Not at) = (¬ HasPointOrder 1 entries) × IsUnexplainedAt 1 entries at
-
--- what is found out of the rows of one key, in a history of them under any names
-abbrev pub IsRuled : ℕ → List Row → Ruling → Type 0
-IsRuled processes rows ruling = (entries : List Entry) × IsStood Any processes rows entries × RulesEntries entries ruling
-
--- of each key, by number
-pub record AreRuled (processes keys : ℕ) (rows : List Row) (rulings : List Ruling) : Type 0 where
-  pub all : length rulings ≡ keys
-  pub each : (key : ℕ) (ruling : Ruling) → slice_get rulings key ≡ Some ruling → IsRuled processes (rows_of_key key rows) ruling
 
 -- the number of null where some answer tells of it, or a compare-and-swap expects it, and else that of 0
 abbrev pub IsUsualFirst : List (List ℕ) → List Event → ℕ → Type 0
@@ -68,13 +39,6 @@ IsFirst None values events first = IsUsualFirst values events first
 -- how many registers there are for this many keys: at least one
 abbrev pub registers_for : ℕ → ℕ
 registers_for keys = max keys 1
-
--- of entries that have a serial order, and of those that have none
-abbrev pub RulesSerial : ℕ → List Entry → Serial → Type 0
-RulesSerial registers entries Yes = (ids : List OpId) × IsSerial registers entries ids
-RulesSerial registers entries No = (ids : List OpId) → ¬ IsSerial registers entries ids
-RulesSerial registers entries Unjudged = ⊤
-RulesSerial registers entries TooWide = ⊤
 
 -- what is found out of a history of the rows under the numbers of their processes, if there is one
 abbrev pub IsSerialOf : ℕ → ℕ → List Row → Serial → Type 0

@@ -3,7 +3,8 @@ ghost use Rattle.std.specs.Prelude.{◌≡◌, IfOk, MatchResult, is_some, strin
 ghost use Rattle.std.specs.Io.KnownBytes.{Appends};
 ghost use Rattle.reg_text.specs.Writing.{AppendsPart};
 ghost use Rattle.reg_observed.specs.Answers.{answer_text};
-ghost use Rattle.reg_observed.specs.Commands.{IsAnswer, Says};
+ghost use Rattle.reg_observed.specs.Commands.{IsAnswer};
+ghost use Rattle.reg_rulings.specs.Reported.{Says};
 
 use crate::details::details;
 use crate::faults::JudgeFault;
@@ -12,6 +13,7 @@ use crate::judging::Verdict;
 use crate::reports::report_of;
 use reg_commands::{Fault, write_answer, write_out};
 use reg_history::Report;
+use reg_rulings::yes_or_no;
 use std::alloc::{AllocError, Allocator, Global};
 use std::io::Write;
 
@@ -40,11 +42,7 @@ fn text_of<A: Allocator + Copy>(
     ensures { IfOk result (λ s. Says (is_some verdict.now.points) (string_bytes s)) }
 {
     let more = details(global, heard, verdict)?;
-    let mut text = if has_points(verdict) {
-        String::from_str(global, "yes\n")?
-    } else {
-        String::from_str(global, "no\n")?
-    };
+    let mut text = String::from_str(global, yes_or_no(has_points(verdict)))?;
     text.push_str(more.as_str())?;
     Ok(text)
 }

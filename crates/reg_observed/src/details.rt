@@ -1,9 +1,10 @@
 //! The lines of a verdict after its first word: for a person to read. No clause speaks of them.
-use crate::events::{Act, Event, Moment};
+use crate::events::{Event, Moment};
 use crate::heard::Heard;
-use crate::judging::{Ruling, Serial, Verdict};
+use crate::judging::Verdict;
 use crate::words::Words;
 use itoa::Buffer;
+use reg_rulings::{Act, Ruling, ruling_text, serial_text};
 use std::alloc::{AllocError, Allocator, Global};
 
 fn put_number(out: &mut String, number: u32) -> Result<(), AllocError> {
@@ -125,27 +126,13 @@ fn put_keys(
     for ruling in rulings {
         out.push_str("key ")?;
         put_word(out, &heard.words.keys, key)?;
-        match *ruling {
-            Ruling::Linearizable => out.push_str(": linearizable\n")?,
-            Ruling::Not { at } => {
-                out.push_str(": not linearizable\n")?;
-                put_place(global, out, heard, key, at)?;
-            }
+        out.push_str(ruling_text(*ruling))?;
+        if let Ruling::Not { at } = *ruling {
+            put_place(global, out, heard, key, at)?;
         }
         key = key.saturating_add(1);
     }
     Ok(())
-}
-
-fn serial_text(serial: Option<Serial>) -> &'static str {
-    match serial {
-        Some(Serial::Yes) | None => "serial order: yes\n",
-        Some(Serial::No) => "serial order: no\n",
-        Some(Serial::Unjudged) => {
-            "serial order: not judged, a process goes on after a call of unknown end\n"
-        }
-        Some(Serial::TooWide) => "serial order: not judged, too many stages\n",
-    }
 }
 
 /// The lines of a verdict after its first word.

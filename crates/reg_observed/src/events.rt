@@ -1,4 +1,5 @@
 //! What a history tells: events of calls, in the order of its lines.
+use reg_rulings::Act;
 
 /// What an event tells of a call.
 #[derive(Clone, Copy, Debug, PartialEq, Eq)]
@@ -13,19 +14,6 @@ pub enum Moment {
     Unequal,
     /// Nothing is known: it may have taken effect, may do so later, or never.
     Info,
-}
-
-/// What a call is for.
-#[derive(Clone, Copy, Debug, PartialEq, Eq)]
-pub enum Act {
-    /// It asks for the register's value.
-    Read,
-    /// It replaces the register's value.
-    Write,
-    /// It replaces the register's value, and asks for the old one.
-    Swap,
-    /// It replaces the register's value where that is the expected one, and asks whether it was.
-    CompareAndSwap,
 }
 
 /// An event of a call. Processes, keys and values are numbered, each in the order in which they are first told of.

@@ -131,6 +131,9 @@ pub enum JudgeFault {
     /// The first value that was asked for is none.
     #[error("--first: {why}")]
     First { why: Why },
+    /// A first value was asked for, and the history is a report, whose registers begin with 0.
+    #[error("--first is for lines of JSON: the registers of a report begin with 0")]
+    FirstOfReport,
     /// A history with its point order is beyond the limits of a report.
     #[error("beyond the limits of a report")]
     NoReport,

@@ -6,10 +6,11 @@ ghost use Rattle.reg_observed.specs.Rows.{answers_this, asks, expects_this, spea
 ghost use Rattle.reg_observed.specs.JsonLines.{value_said};
 ghost use Rattle.reg_observed.specs.Verdicts.{IsFirst, IsNumberOf, IsUsualFirst};
 
-use crate::events::{Act, Event, Moment};
+use crate::events::{Event, Moment};
 use crate::faults::{JudgeFault, ReadFault, Untold};
 use crate::json_lines::read_value;
 use crate::words::Words;
+use reg_rulings::Act;
 use std::alloc::Global;
 
 /// Whether an answer of this kind, that the call is done, tells of a value.

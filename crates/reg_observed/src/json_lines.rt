@@ -7,9 +7,10 @@ ghost use Rattle.serde_json.specs.Written.{compact_text};
 ghost use Rattle.reg_observed.specs.Told.{Gives, act_named, failed_as, has_no_value, moment_named, moment_of as moment_of_line};
 ghost use Rattle.reg_observed.specs.JsonLines.{act_in, both_texts, call_in, items_pair, line_says, is_named, is_nemesis, is_word, moment_in, named_or_null, one_value, pair_of, told_in, value_pair, value_said, values_in, word_in, word_or_null_of};
 
-use crate::events::{Act, Moment};
+use crate::events::Moment;
 use crate::faults::{Untold, Why};
 use crate::told::Told;
+use reg_rulings::Act;
 use serde_json::Value;
 use std::alloc::{AllocError, Global};
 

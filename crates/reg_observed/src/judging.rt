@@ -1,53 +1,25 @@
 //! What a history that was heard comes to.
 ghost use Rattle.std.specs.Prelude.{◌≡◌, ℕ, List, IfOk, IfSome, OnOk, length, option_copied};
-ghost use Rattle.reg_observed.specs.Verdicts.{AreJudged, AreSought, IsHeard, IsJudged, IsSerialOf, RulesSerial, registers_for};
+ghost use Rattle.reg_observed.specs.Verdicts.{AreJudged, AreSought, IsHeard, IsJudged, IsSerialOf, registers_for};
 ghost use Rattle.reg_observed.specs.Rows.{rows_from};
 ghost use Rattle.reg_observed.specs.Reading.{AreEvents};
 ghost use Rattle.reg_observed.specs.Told.{Telling};
 ghost use Rattle.reg_observed.specs.Turns.{first_wrong, none_running};
-ghost use Rattle.reg_observed.specs.Standing.{IsStood};
+ghost use Rattle.reg_rulings.specs.Rulings.{AreRuled, RulesSerial};
+ghost use Rattle.reg_rulings.specs.Standing.{IsStood};
 
 use crate::faults::{JudgeFault, ReadFault};
 use crate::first_values::first_value;
 use crate::heard::Heard;
-use crate::keys::{history_in, rule_all, shape_of, unsought};
-use crate::rows::{Row, rows_of};
-use crate::search::{Sought, seek};
-use crate::seats::{Naming, Unseated, history_of};
+use crate::histories::{history_in, shape_of, unruled};
+use crate::rows::rows_of;
 use crate::turns::check_turns;
-use reg_base::limits::MOST_EVENTS;
+use reg_base::limits::{MOST_EVENTS, MOST_REGISTERS};
 use reg_checkers::{History, Point};
-use reg_outcomes::{InterleavingFault, find_serial};
+use reg_rulings::{
+    Naming, Row, Ruling, Serial, Sought, Unseated, history_of, rule_all, seek, seek_serial,
+};
 use std::alloc::{Allocator, Global};
-
-/// The most stages that as many operations may lead to in a search for a serial order. It is small, since where there
-/// is no point order such a search soon grows wide.
-pub const MOST_SERIAL_STAGES: u32 = 50_000;
-
-/// The most stages times the square of the entries, in a search for a serial order.
-const SERIAL_WORK: u64 = 200_000_000_000;
-
-/// Whether a history has a serial order.
-#[derive(Clone, Copy, Debug, PartialEq, Eq)]
-pub enum Serial {
-    /// It has one.
-    Yes,
-    /// It has none.
-    No,
-    /// A process goes on after a call whose end nobody knows, or there are more than `limits::MOST_PROCESSES`.
-    Unjudged,
-    /// The search grew too wide.
-    TooWide,
-}
-
-/// What was found out of one key.
-#[derive(Clone, Copy, Debug, PartialEq, Eq)]
-pub enum Ruling {
-    /// Its part of the history has a point order.
-    Linearizable,
-    /// It has none. The answer of the event of this number is the first up to which it has none.
-    Not { at: u32 },
-}
 
 /// What was found out of a history.
 #[derive(Drop)]
@@ -67,7 +39,6 @@ pub struct Verdict<A: Allocator + Copy> {
 /// The history of rows under the numbers of their processes, None where they have none.
 fn own_history<A: Allocator + Copy>(
     alloc: A,
-    global: Global,
     heard: &Heard,
     rows: &[Row],
 ) -> Result<Option<History<A>>, JudgeFault>
@@ -76,46 +47,39 @@ fn own_history<A: Allocator + Copy>(
 {
     let shape = shape_of(heard.words.keys.count())?;
     let processes = heard.words.processes.count();
-    match history_of(alloc, global, shape, Naming::Own, processes, rows) {
+    match history_of(alloc, shape, Naming::Own, processes, rows) {
         Ok(history) => Ok(Some(history)),
         Err(Unseated::OutOfMemory) => Err(JudgeFault::OutOfMemory),
         Err(_) => Ok(None),
     }
 }
 
-/// The most stages in a search for a serial order of so many entries. Each stage holds an order of its own, so the work
-/// grows with the stages and with the square of the entries: up to 2,000 entries there are as many stages as may be,
-/// and beyond that fewer.
-fn most_serial_stages(entries: usize) -> u32 {
-    let square = (entries as u64).saturating_mul(entries as u64).max(1);
-    (SERIAL_WORK / square).min(u64::from(MOST_SERIAL_STAGES)) as u32
-}
-
-/// Whether a history has a serial order.
-fn seek_serial<A: Allocator + Copy>(alloc: A, history: &History<A>) -> Result<Serial, JudgeFault>
-    ensures { IfOk result (RulesSerial history.now.shape.registers history.now.entries) }
-{
-    match find_serial(alloc, history, most_serial_stages(history.entries().len())) {
-        Ok(Some(_)) => Ok(Serial::Yes),
-        Ok(None) => Ok(Serial::No),
-        Err(InterleavingFault::TooManyStages) => Ok(Serial::TooWide),
-        Err(InterleavingFault::OutOfMemory) => Err(JudgeFault::OutOfMemory),
-    }
-}
-
 /// Whether the rows, each process under its own number, have a serial order.
 fn serial_of<A: Allocator + Copy>(
     alloc: A,
-    global: Global,
     heard: &Heard,
     rows: &[Row],
 ) -> Result<Serial, JudgeFault>
     ensures { IfOk result (IsSerialOf (length heard.now.words.processes) (registers_for (length heard.now.words.keys)) rows.now) }
 {
-    let history = own_history(alloc, global, heard, rows)?;
+    let history = own_history(alloc, heard, rows)?;
     match history {
-        Some(history) => seek_serial(alloc, &history),
+        Some(history) => Ok(seek_serial(alloc, &history)?),
         None => Ok(Serial::Unjudged),
+    }
+}
+
+/// What is found out of each key.
+fn rulings_of(global: Global, heard: &Heard, rows: &[Row]) -> Result<Vec<Ruling>, JudgeFault>
+    ensures { IfOk result (λ v. AreRuled (length heard.now.words.processes) (length heard.now.words.keys) rows.now v.items) }
+{
+    let count = heard.words.keys.count();
+    if count > MOST_REGISTERS as usize {
+        return Err(JudgeFault::Keys { count });
+    }
+    match rule_all(global, heard.words.processes.count(), count as u32, rows) {
+        Ok(rulings) => Ok(rulings),
+        Err(fault) => Err(unruled(&heard.events, fault)),
     }
 }
 
@@ -130,7 +94,7 @@ fn points_of<A: Allocator + Copy>(
     match seek(alloc, history) {
         Ok(Sought::Points(points)) => Ok(Some(points)),
         Ok(Sought::None { place: _ }) => Ok(None),
-        Err(fault) => Err(unsought(&heard.events, history, fault)),
+        Err(fault) => Err(unruled(&heard.events, fault)),
     }
 }
 
@@ -145,12 +109,12 @@ fn judge_rows<A: Allocator + Copy>(
     ensures judged { IfOk result (AreJudged (length heard.now.words.processes) (length heard.now.words.keys) rows.now) }
     ensures first { IfOk result (λ v. v.first ≡ first) }
 {
-    let history = history_in(alloc, global, heard, heard.words.keys.count(), rows)?;
-    let keys = rule_all(alloc, global, heard, rows)?;
+    let history = history_in(alloc, heard, rows)?;
+    let keys = rulings_of(global, heard, rows)?;
     let points = points_of(alloc, heard, &history)?;
     let serial = match points {
         Some(_) => None,
-        None => Some(serial_of(alloc, global, heard, rows)?),
+        None => Some(serial_of(alloc, heard, rows)?),
     };
     Ok(Verdict {
         first,

@@ -3,26 +3,11 @@ ghost use Rattle.std.specs.Prelude.{◌≡◌, ◌<◌, ◌≤◌, ℕ, [], IfOk
 ghost use Rattle.reg_observed.specs.Rows.{answer_in, counts, numbered, row_before, row_of as row_of_event, rows_from, step_of as step_of_event};
 ghost use Rattle.reg_observed.specs.declared.events.Event.{Event as AnyEvent};
 
-use crate::events::{Act, Event, Moment};
+use crate::events::{Event, Moment};
 use reg_base::Answer;
 use reg_base::limits::MOST_EVENTS;
+use reg_rulings::{Act, Row, Step};
 use std::alloc::{AllocError, Global};
-
-/// What a row has: a call, with the value that is expected and the one that is written, or an answer.
-#[derive(Clone, Copy, Debug, PartialEq, Eq)]
-pub enum Step {
-    Call { act: Act, expected: u64, value: u64 },
-    Answer(Answer),
-}
-
-/// A call or an answer of a process at a key, with the number of its event.
-#[derive(Clone, Copy, Debug, PartialEq, Eq)]
-pub struct Row {
-    pub at: u32,
-    pub process: u32,
-    pub key: u32,
-    pub step: Step,
-}
 
 /// The number by which registers have the value of this number, where `first` is the number of their first value: that
 /// one is 0, and no two have the same.

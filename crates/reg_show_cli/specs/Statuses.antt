@@ -28,7 +28,7 @@ use Rattle.reg_verify.specs.declared.faults.VerifyFault.TheVariants.{Command as 
 use Rattle.reg_show_cli.specs.declared.words.Asked.{Asked}
 use Rattle.reg_show_cli.specs.declared.words.Asked.TheVariants.{AllOutcomes, Find, Help, Judge, Outcome, Outcomes, Schedule, ShortSchedule, Show, Text as OfText, Verify, Version, Why}
 use Rattle.reg_reasons.specs.Tellings.{Answers, Halts}
-use Rattle.reg_observed.specs.Commands.{IsJudgedText}
+use Rattle.reg_observed.specs.Commands.{IsAnyJudged}
 use Rattle.reg_observed.specs.declared.command.CommandFault.{CommandFault as JudgeFault}
 use Rattle.reg_observed.specs.declared.command.CommandFault.TheVariants.{Command as JudgeCommand}
 use Rattle.std.specs.Io.KnownBytes.{Appends}
@@ -58,7 +58,7 @@ AnswersOf (Show view) agrees Wrote text = Shows view Wrote text
 AnswersOf (Find kind) agrees Wrote text = Finds kind agrees Wrote text
 AnswersOf Why agrees Wrote text = Answers agrees Wrote text
 AnswersOf Verify agrees Wrote text = Verifies Wrote text
-AnswersOf (Judge flags) agrees Wrote text = IsJudgedText flags agrees Wrote text
+AnswersOf (Judge flags) agrees Wrote text = IsAnyJudged flags agrees Wrote text
 AnswersOf Help agrees Wrote text = ⊥
 AnswersOf Version agrees Wrote text = ⊥
 AnswersOf asked agrees Wrote text = OfDocument (WritesOf asked) Wrote text

@@ -27,7 +27,7 @@ pub enum Asked<'a> {
     Why,
     /// To judge the record on the input.
     Verify,
-    /// To judge the history of JSON lines on the input.
+    /// To judge the history on the input.
     Judge { flags: JudgeFlags<'a> },
     /// How the program is used.
     Help,
@@ -64,8 +64,9 @@ usage: awshow replay                 reads a schedule, prints the report of its 
        awshow rest                   reads the same, prints the schedule with the events that bring the run to rest
        awshow why                    reads any of these texts but JSON, prints what is wrong with it, and where
        awshow verify                 reads a record of processes that ran apart, prints the report of their run
-       awshow judge                  reads a history as JSON lines, prints whether it is linearizable, key by key
-       awshow judge --first VALUE    the same of registers that have this first value, as JSON has it
+       awshow judge                  reads a history, as JSON lines or a report, prints whether it is linearizable,
+                                     key by key or register by register
+       awshow judge --first VALUE    the same of JSON lines, of registers with this first value, as JSON has it
        awshow judge --report         prints a report of the history in place of a yes, with the points that were found
        awshow help                   prints this; so do a command's word and --help
        awshow --version              prints the version

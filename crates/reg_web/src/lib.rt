@@ -14,6 +14,6 @@ pub use plays::{
 };
 pub use texts::{
     tellwydar_check, tellwydar_data, tellwydar_draw, tellwydar_find_points, tellwydar_find_serial,
-    tellwydar_kind, tellwydar_page, tellwydar_replay, tellwydar_rest, tellwydar_trace,
-    tellwydar_verify,
+    tellwydar_judge, tellwydar_judge_report, tellwydar_kind, tellwydar_page, tellwydar_replay,
+    tellwydar_rest, tellwydar_trace, tellwydar_verify,
 };

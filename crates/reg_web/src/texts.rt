@@ -6,13 +6,14 @@ ghost use Rattle.reg_commands.specs.Lent.{Fills};
 ghost use Rattle.reg_commands.specs.declared.command.Command.{Command};
 ghost use Rattle.reg_outcomes.specs.declared.orders.kinds.OrderKind.{OrderKind as AnyOrder};
 ghost use Rattle.reg_show.specs.declared.showing.Showing.{Showing as AnyShowing};
-ghost use Rattle.reg_web.specs.Texts.{IsAnswer, IsFound, IsShown, IsVerified, kind_number};
+ghost use Rattle.reg_web.specs.Texts.{IsAnswer, IsFound, IsRuled, IsShown, IsVerified, kind_number};
 
 use crate::judging::{Check, Replay, ShowSchedule};
 use crate::telling::tell_in;
 use reg_commands::{Kind, Lengths, kind_of};
 use reg_heap::Room;
 use reg_outcomes::OrderKind;
+use reg_rulings::JudgeReport;
 use reg_show::{FindOrder, Showing};
 use reg_verify::Verify;
 
@@ -56,6 +57,40 @@ pub extern "C" fn tellwydar_check(
     ensures { Fills (IsAnswer Command.Check text.now) result output.old output.new errors.old errors.new lengths.new }
 {
     tell_in(Check, room, text, output, errors, lengths)
+}
+
+/// Judges the history of a report, whose own order and points are not looked at. The answer begins with yes where it
+/// has a point order, and the status is 0; or with no where it has none, and the status is 1; or 1 with the line of a
+/// fault or a first part of it.
+#[unsafe(no_mangle)]
+pub extern "C" fn tellwydar_judge(
+    room: &mut Room,
+    text: &[u8],
+    output: &mut [u8],
+    errors: &mut [u8],
+    lengths: &mut Lengths,
+) -> u8
+    ensures { Fills (IsRuled false text.now) result output.old output.new errors.old errors.new lengths.new }
+{
+    let command = JudgeReport { as_report: false };
+    tell_in(command, room, text, output, errors, lengths)
+}
+
+/// Judges the history of a report, whose own order and points are not looked at. The answer is the report with a point
+/// order that was found in place of its own, and the status 0; or it begins with no where there is none, and the status
+/// is 1; or 1 with the line of a fault or a first part of it.
+#[unsafe(no_mangle)]
+pub extern "C" fn tellwydar_judge_report(
+    room: &mut Room,
+    text: &[u8],
+    output: &mut [u8],
+    errors: &mut [u8],
+    lengths: &mut Lengths,
+) -> u8
+    ensures { Fills (IsRuled true text.now) result output.old output.new errors.old errors.new lengths.new }
+{
+    let command = JudgeReport { as_report: true };
+    tell_in(command, room, text, output, errors, lengths)
 }
 
 /// Judges the record of a run. The answer is the report of the run, and the status 0; or 1 with the line of a fault, or

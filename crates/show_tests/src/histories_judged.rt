@@ -5,7 +5,7 @@ use reg_show_cli::run_line;
 use std::process::Abort;
 
 /// A command line, its input, and what is to be given: the status, the output, and the line of a fault.
-type Row = (&'static str, &'static str, (u8, &'static str, &'static str));
+pub(crate) type Row = (&'static str, &'static str, (u8, &'static str, &'static str));
 
 /// Process 2 reads the new value, the old one, and the new one again. The first answer that no order explains is in
 /// line 7, and not the last.
@@ -183,7 +183,7 @@ const ROWS: [Row; 16] = [
 ];
 
 /// Whether a command line gives this for its input.
-fn gives(rt: &(impl Abort + AllocGlobal), row: &Row) -> bool {
+pub(crate) fn gives(rt: &(impl Abort + AllocGlobal), row: &Row) -> bool {
     let (line, text, (status, wanted, faults)) = *row;
     let words = words_of(rt, rt.alloc(), "awshow", line);
     let (mut reader, mut output, mut errors) = (

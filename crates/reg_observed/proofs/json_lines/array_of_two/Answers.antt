@@ -1,4 +1,4 @@
-use Rattle.std.proofs.Common.{ap₂, sym, ◌∙◌, subst, List, ℕ, Result}
+use Rattle.std.proofs.Common.{ap₂, ◌∙◌, subst, List, ℕ, Result}
 use Rattle.serde_json.specs.View.{view}
 use Rattle.reg_observed.specs.Told.{Gives}
 use Rattle.reg_observed.specs.JsonLines.{both_texts, pair_of}

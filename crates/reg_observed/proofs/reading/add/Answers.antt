@@ -1,4 +1,3 @@
-use Rattle.std.proofs.Common.{refl}
 use Rattle.reg_observed.proofs.Hearing.{hears_nothing, hears_call}
 use Rattle.reg_observed.proofs.reading.add.Goals as goal
 

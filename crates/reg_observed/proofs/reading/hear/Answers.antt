@@ -1,4 +1,4 @@
-use Rattle.std.proofs.Common.{◌≡◌, ◌+◌, ap, sym, ◌∙◌, inl, inr, arith, length}
+use Rattle.std.proofs.Common.{◌+◌, ap, inl, inr, arith, length}
 use Rattle.reg_observed.proofs.Hearing.{heard_all, heard_more, refused_next}
 use Rattle.reg_observed.proofs.reading.hear.Goals as goal
 

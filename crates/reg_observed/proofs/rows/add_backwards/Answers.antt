@@ -1,5 +1,4 @@
-use Rattle.std.proofs.Common.{rules, ◌≡◌, ◌+◌, ◌-◌, ◌<◌, ◌≤◌, length, get_or, replicate, None, Option, List, sym, ◌∙◌, arith, length-set}
-use Rattle.reg_observed.specs.declared.events.Moment.{Moment}
+use Rattle.std.proofs.Common.{rules, ◌≡◌, ◌+◌, ◌-◌, ◌<◌, length, replicate, None, ◌∙◌, arith, length-set}
 use Rattle.reg_observed.proofs.Turning.{process_within, same_default}
 use Rattle.reg_observed.proofs.Rowing.{start_next, start_rows, rows_at, next_at}
 use Rattle.reg_observed.proofs.rows.add_backwards.Goals as goal

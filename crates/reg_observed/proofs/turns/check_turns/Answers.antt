@@ -1,4 +1,4 @@
-use Rattle.std.proofs.Common.{sym, refl, ◌∙◌, inr, arith, length-set}
+use Rattle.std.proofs.Common.{sym, refl, ◌∙◌, inr, length-set}
 use Rattle.reg_observed.proofs.Turning.{in_turn, out_of_turn, at_end, process_within}
 use Rattle.reg_observed.proofs.turns.check_turns.Goals as goal
 

@@ -1,6 +1,0 @@
-use Rattle.std.proofs.Common.{length}
-use Rattle.reg_observed.specs.Verdicts.{AreRuled}
-use Rattle.reg_observed.proofs.keys.rule_all.Given as goal
-
-abbrev pub invariant-loop-key : goal.invariant-loop-key
-invariant-loop-key g l = AreRuled (length l.heard.words.processes) l.key l.rows l.rulings.items

@@ -1,0 +1,5 @@
+pub mod Lists
+pub mod Seating
+pub mod Keying
+pub mod Judging
+pub mod Answering

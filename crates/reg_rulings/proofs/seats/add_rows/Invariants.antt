@@ -1,0 +1,10 @@
+use Rattle.std.proofs.Common.{◌≡◌, take, length}
+use Rattle.reg_rulings.specs.Standing.{Stands}
+use Rattle.reg_rulings.proofs.seats.add_rows.Given as goal
+
+abbrev pub invariant-loop-row : goal.invariant-loop-row
+invariant-loop-row g l = record {
+  stands : Stands l.naming l.processes (take l.row-index l.rows) l.seats.held.items l.history.entries;
+  count : length l.seats.held.items ≡ l.processes;
+  shape : l.history.shape ≡ l.fn.history.shape;
+}

@@ -1,0 +1,6 @@
+pub mod Standing
+pub mod Keys
+pub mod Rulings
+pub mod Faults
+pub mod Reported
+pub mod Answers
