@@ -51,8 +51,9 @@ const session = new Session(browser, asked.site ? address + "playground.html" : 
 const context = { browser, session, shots: asked.shots, rounds: +asked.rounds, explains: !asked.site };
 if (asked.shots) mkdirSync(asked.shots, { recursive: true });
 await browser.size(1440, 940);
-const tries = Object.entries(Object.assign({}, ...[triesOfPages, triesOfBuilding, triesOfTexts, triesOfExercises,
-  triesOfJudging, triesOfSlides, triesOfSpeed].map(make => make(context)))).filter(([name]) => words.every(word => name.includes(word)))
+const makers = [triesOfPages, triesOfBuilding, triesOfTexts, triesOfExercises, triesOfJudging, triesOfSlides, triesOfSpeed];
+const tries = Object.entries(Object.assign({}, ...makers.map(make => make(context))))
+  .filter(([name]) => words.every(word => name.includes(word)))
   .filter(([name]) => !browser.untried?.includes(name));
 for (const name of browser.untried ?? []) console.log("not tried: " + name);
 let wrong = 0;
