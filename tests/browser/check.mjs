@@ -51,7 +51,8 @@ const session = new Session(browser, asked.site ? address + "playground.html" : 
 const context = { browser, session, shots: asked.shots, rounds: +asked.rounds, explains: !asked.site };
 if (asked.shots) mkdirSync(asked.shots, { recursive: true });
 await browser.size(1440, 940);
-const makers = [triesOfPages, triesOfBuilding, triesOfTexts, triesOfExercises, triesOfJudging, triesOfSlides, triesOfSpeed];
+const makers = [triesOfPages, triesOfBuilding, triesOfTexts, triesOfExercises, triesOfJudging, triesOfSlides,
+  triesOfSpeed];
 const tries = Object.entries(Object.assign({}, ...makers.map(make => make(context))))
   .filter(([name]) => words.every(word => name.includes(word)))
   .filter(([name]) => !browser.untried?.includes(name));
