@@ -15,7 +15,7 @@ loop-puts-preserved g c =
     let within = c.loop-puts.auto.puts in
     let next : k ≡ k - 1 + 1 = omega (arith, later) in
     one_before c.args.moments.now (k - 1) c.index-moments-puts.result _ c.loop-puts.putters c.note_puts.new.putters (omega (arith, later, within)) (sym c.index-moments-puts.is) c.in_ok-note_puts.ensures
-      (λ q. c.loop-puts.invariant q ∙ ap (λ n. position_from (puts_at q) n (drop n c.args.moments.now)) next)
+    (λ q. c.loop-puts.invariant q ∙ ap (λ n. position_from (puts_at q) n (drop n c.args.moments.now)) next)
 
 pub loop-puts-init : goal.loop-puts-init
 loop-puts-init g c = λ q.
