@@ -3,7 +3,6 @@ use Rattle.std.specs.Prelude.{ℕ, ◌≡◌, Bool, true, false, List, [], ◌�
 use Rattle.std.specs.List.{starts_with}
 use Rattle.reg_front.specs.Table.{front_name}
 use Rattle.reg_commands.specs.Replays.{start_of}
-use Rattle.reg_commands.specs.declared.faults.Fault.{Fault}
 use Rattle.reg_commands.specs.declared.faults.Fault.TheVariants.{Unread, TooLong, NotText, Output, Line, Event, Workload, OutOfMemory}
 use Rattle.reg_log.specs.RecordLines.{Account, IsAccount, SpellsAccount}
 use Rattle.reg_verify.specs.Verifies.{IsRefused, IsUnfaithful, Runs, verify_line}
