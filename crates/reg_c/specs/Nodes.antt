@@ -22,6 +22,7 @@ use Rattle.reg_node.specs.Logs.{Outgoing, first_state}
 use Rattle.reg_node.specs.Meetings.{Hears, HearsNothing, all_heard, heard_at_first}
 use Rattle.reg_node.specs.Nodes.{marked}
 use Rattle.reg_node.specs.Opening.{IsOpened, IsOpenFault, opened_with}
+use Rattle.reg_commands.specs.Lent.{filled}
 use Rattle.reg_c.specs.declared.nodes.HeldNode.{HeldNode}
 use Rattle.reg_c.specs.declared.nodes.KeptNode.{KeptNode}
 use Rattle.reg_c.specs.declared.nodes.KeptNode.TheVariants.{Linear, LocalRead, LocalWrite, Closed}
@@ -129,6 +130,10 @@ abbrev pub NodeTakes : ℕ → List ℕ → HeldNode → HeldNode → ℕ → Ty
 NodeTakes from bytes old new code =
     ((frame : Frame) × Spells frame bytes × NodeSteps (Take from frame) old new code)
     ⊎ (((frame : Frame) → ¬ Spells frame bytes) × (code ≡ no_frame) × NoStep old new)
+
+-- the room holds the front of these bytes, and it is told how many they are
+abbrev pub TellsBytes : List ℕ → ℕ → List ℕ → List ℕ → Type 0
+TellsBytes bytes count old new = (count ≡ length bytes) × (new ≡ filled bytes old)
 
 -- What another process says, and what is durable
 

@@ -1,15 +1,14 @@
 //! Nodes that a caller holds by a pointer.
-ghost use Rattle.std.specs.Prelude.{◌≡◌, ◌<◌, None, length, vec_capacity};
+ghost use Rattle.std.specs.Prelude.{◌≡◌, ◌<◌, None, vec_capacity};
 ghost use Rattle.std.specs.Borrow.{full_share, sem};
 ghost use Rattle.std.specs.Ptr.{lies_at};
 ghost use Rattle.reg_process.specs.declared.faults.ProcessFault.TheVariants.{OutOfMemory};
 ghost use Rattle.reg_process.specs.declared.steps.Step.TheVariants.{Tick};
-ghost use Rattle.reg_commands.specs.Lent.{filled};
 ghost use Rattle.reg_c.specs.declared.nodes.HeldNode.{HeldNode};
 ghost use Rattle.reg_c.specs.declared.nodes.KeptNode.{KeptNode};
 ghost use Rattle.reg_c.specs.contracts.nodes.HeldNode.{the_row};
 ghost use Rattle.reg_c.specs.Events.{compare_and_swap_of, op_of, refusal_code};
-ghost use Rattle.reg_c.specs.Nodes.{IsNothing, NodeCalls, NodeHands, NodeHears, NodeMarks, NodeSteps, NodeTakes, Opens, frames_handed, node_number, node_state_in};
+ghost use Rattle.reg_c.specs.Nodes.{IsNothing, NodeCalls, NodeHands, NodeHears, NodeMarks, NodeSteps, NodeTakes, Opens, TellsBytes, frames_handed, node_number, node_state_in};
 ghost use Rattle.reg_c.specs.Processes.{TellsFrames, TellsKnown};
 
 use crate::node_parts::{known, look};
@@ -112,7 +111,7 @@ pub unsafe extern "C" fn tellwydar_node_tick(handle: *mut u8) -> u32
 pub unsafe extern "C" fn tellwydar_node_bytes(handle: *mut u8, room: &mut [u8]) -> usize
     ghost held: { HeldNode }
     requires* { sem 𝓛 (lies_at the_row full_share handle held) }
-    ensures* { ∃ₛ (λ (after : HeldNode). sem 𝓛 (lies_at the_row full_share handle after) ∗ ⌜ (after ≡ held) × (result ≡ length held.bytes.items) × (room.new ≡ filled held.bytes.items room.old) ⌝) }
+    ensures* { ∃ₛ (λ (after : HeldNode). sem 𝓛 (lies_at the_row full_share handle after) ∗ ⌜ (after ≡ held) × TellsBytes held.bytes.items result room.old room.new ⌝) }
 {
     bytes(&mut *(handle as *mut HeldNode), room)
 }

@@ -1,11 +1,10 @@
 //! A node that a caller holds.
-ghost use Rattle.std.specs.Prelude.{◌≡◌, [], None, IfErr, IfOk, MatchOption, MatchResult, length, vec_capacity};
-ghost use Rattle.reg_commands.specs.Lent.{filled};
+ghost use Rattle.std.specs.Prelude.{◌≡◌, [], None, IfErr, IfOk, MatchOption, MatchResult, vec_capacity};
 ghost use Rattle.reg_process.specs.declared.steps.Step.TheVariants.{Tick};
 ghost use Rattle.reg_node.specs.Logged.{Writes, WritesNothing};
 ghost use Rattle.reg_c.specs.declared.nodes.KeptNode.{KeptNode};
 ghost use Rattle.reg_c.specs.Events.{compare_and_swap_of, op_of, refusal_code};
-ghost use Rattle.reg_c.specs.Nodes.{HandsAs, HandsIn, HearsAs, HearsIn, IsNothing, MarksAs, MarksIn, NodeCalls, NodeHands, NodeHears, NodeMarks, NodeSteps, NodeTakes, NoStep, Steps, StepsIn, frames_handed};
+ghost use Rattle.reg_c.specs.Nodes.{HandsAs, HandsIn, HearsAs, HearsIn, IsNothing, MarksAs, MarksIn, NodeCalls, NodeHands, NodeHears, NodeMarks, NodeSteps, NodeTakes, NoStep, Steps, StepsIn, TellsBytes, frames_handed};
 ghost use Rattle.reg_c.specs.Processes.{TellsFrames};
 
 use crate::events;
@@ -181,7 +180,7 @@ pub fn tick(held: &mut HeldNode) -> u32
 /// Puts as many of the last step's bytes into the room as it takes, and gives how many there are.
 pub fn bytes(held: &mut HeldNode, room: &mut [u8]) -> usize
     ensures same { held.new ≡ held.old }
-    ensures told { (result ≡ length held.old.bytes.items) × (room.new ≡ filled held.old.bytes.items room.old) }
+    ensures told { TellsBytes held.old.bytes.items result room.old room.new }
 {
     fill(room, &held.bytes);
     held.bytes.len()

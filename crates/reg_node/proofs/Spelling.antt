@@ -73,8 +73,8 @@ module _ (start : Op → ℕ → Start) (first : State) (j : Journal) (past : Pa
   spelled_still old new e Stopped w other is = subst (λ (l : LoggedState). IsSpelled start first j past l) (sym w.1) is
   spelled_still old new e Unspelled w other is = absurd (other refl)
   spelled_still old new e (OfMeeting fault) w other is =
-      subst (λ (l : LoggedState). IsSpelled start first j past l) (sym w.1.1)
-      (record { lives = meeting_kept old.meeting new.meeting e fault w.1.0 is.lives; entries = is.entries; process = is.process; names = is.names; crc = is.crc })
+      subst (λ (l : LoggedState). IsSpelled start first j past l) (sym w.2)
+      (record { lives = meeting_kept old.meeting new.meeting e fault w.1 is.lives; entries = is.entries; process = is.process; names = is.names; crc = is.crc })
 
   -- something was handed out
   pub spelled_given : (old new : LoggedState) (output : Outgoing) → LoggedHandsOut old output new → IsSpelled start first j past old → IsSpelled start first j (past_given past (Some output)) new

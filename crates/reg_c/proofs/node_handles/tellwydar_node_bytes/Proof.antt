@@ -32,7 +32,7 @@ use denote.Triple.Clauses.{lasts}
 use denote.Triple.Spec.{triple_of}
 use denote.Triple.Table.{framed}
 use denote.Triple.Walked.{Stays, walk_of, says, stay_dropped, gave_slice, Goes-dropped, Goes-gave_slice, ends_at}
-use Rattle.reg_commands.specs.Lent.{filled}
+use Rattle.reg_c.specs.Nodes.{TellsBytes}
 use Rattle.reg_c.specs.declared.nodes.HeldNode.{HeldNode}
 use Rattle.reg_c.specs.contracts.nodes.HeldNode.{the_row as R}
 use Rattle.reg_c.specs.contracts.node_handles.tellwydar_node_bytes as f
@@ -70,7 +70,7 @@ tellwydar_node_bytes_spec 𝓤 𝓛 𝓜 𝓡 wired =
     calls_at ! (framed 𝓤 𝓛.H 𝓜 𝓣) G (met 𝓤 𝓛 𝓜 𝓡 (code.calls-reg_c::nodes::bytes 𝓡.env wired)) z
     (and_then ! (get ! refl) (and_then ! (get ! refl) (no_more !))) (λ v.
     use1 𝓛 (later (some (λ (r : ℕ). ((‵ (flft κ full_share) ⊛ ‵ (flft κs.0 qs.0) ⊛ ‵ ftrue) ⊛ ‵ (usize.own_val r (v ∷ []))) ⊛
-    some (λ (ws : HeldNode × (List ℕ × Unit {0})). ‵ (lasts g.ended z.0.0 z.0.3 ws) ⊛ (raw (fact 𝓤 (ws.0 ≡ held)) ⊛ raw (fact 𝓤 ((r ≡ length held.bytes.items) × (ws.1.0 ≡ filled held.bytes.items x0.now)))))))) (id⊢ 𝓤 _) $
+    some (λ (ws : HeldNode × (List ℕ × Unit {0})). ‵ (lasts g.ended z.0.0 z.0.3 ws) ⊛ (raw (fact 𝓤 (ws.0 ≡ held)) ⊛ raw (fact 𝓤 (TellsBytes held.bytes.items r x0.now ws.1.0))))))) (id⊢ 𝓤 _) $
     await ! tt $ pick ! (λ r. split ! $ split ! $ split ! $ lft_end ! tt $
     -- [the lifetime is over; nothing; the result; what the call ensures; what the lender keeps; the locals]
     move ! (3 ∷ []) $ pick ! (λ ws. split ! $ move ! (1 ∷ []) $ split ! $ heard ! _ (λ f0. heard ! _ (λ f1. fsplit ! $ fsplit ! $
@@ -82,4 +82,4 @@ tellwydar_node_bytes_spec 𝓤 𝓛 𝓜 𝓡 wired =
     move ! (2 ∷ []) $ fsplit ! $ fsplit ! $ fsplit ! $ move ! (1 ∷ []) $ feq_l ! (λ fit. fjoin ! $ move ! (1 ∷ 0 ∷ []) $
     suffices ! _ (ends_at 𝓛 f.ended stayed c (y (block_ptr b o)) v r (tt, (ws.1.0, tt)) (tt, (fit, tt))) $
     move ! (1 ∷ 0 ∷ []) $ join ! $ nothing ! $ join ! $ move ! (3 ∷ []) $ group ! 3 $ frame ! $
-    show ! (λ (h : HeldNode). sep 𝓤 (sem 𝓛 (lies_at R full_share (block_ptr b o) h)) (fact 𝓤 ((h ≡ held) × ((r ≡ length held.bytes.items) × (ws.1.0 ≡ filled held.bytes.items x0.now))))) ws.0 $ says ! (f0, f1) $ done !))))))))))))
+    show ! (λ (h : HeldNode). sep 𝓤 (sem 𝓛 (lies_at R full_share (block_ptr b o) h)) (fact 𝓤 ((h ≡ held) × (TellsBytes held.bytes.items r x0.now ws.1.0)))) ws.0 $ says ! (f0, f1) $ done !))))))))))))
