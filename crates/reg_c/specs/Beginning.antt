@@ -39,18 +39,19 @@ pub record BeginsLog (row : LogRow) (text bytes : List ℕ) : Type 0 where
   pub good : IsJournal (begun_by row front names)
   pub is : bytes ≡ log_text (begun_by row front names)
 
--- these are names, but the numbers are no shape, or it doesn't have the process
-pub record IsMisplaced (row : LogRow) (text : List ℕ) (code : ℕ) : Type 0 where
-  pub names : List (List ℕ)
-  pub says : SaysNames text names
-  pub why : ((code ≡ no_shape) × (is_err (shape_of row.processes (length names)) ≡ true)) ⊎ ((code ≡ refusal_code NoProcess) × (row.processes ≤ row.process))
+-- these numbers are no shape, or it doesn't have the process
+abbrev pub IsMisplaced : ℕ → ℕ → ℕ → ℕ → Type 0
+IsMisplaced processes process registers code =
+    ((code ≡ no_shape) × (is_err (shape_of processes registers) ≡ true)) ⊎ ((code ≡ refusal_code NoProcess) × (processes ≤ process))
 
--- why no log is begun: there is no such front end, the text has no names, or they are misplaced; or there was no memory
+-- why no log is begun: there is no such front end, the text has no names, or the numbers are misplaced beside them; or
+-- there was no memory
 abbrev pub IsUnbegun : LogRow → List ℕ → ℕ → Type 0
 IsUnbegun row text code =
     ((code ≡ no_front) × (front_at row.front ≡ None))
     ⊎ (((code ≡ bad_names) × ((names : List (List ℕ)) → names_fault names ≡ None → ¬ SaysNames text names))
-    ⊎ (IsMisplaced row text code ⊎ (code ≡ refusal_code OutOfMemory)))
+    ⊎ (((names : List (List ℕ)) × (SaysNames text names × IsMisplaced row.processes row.process (length names) code))
+    ⊎ (code ≡ refusal_code OutOfMemory)))
 
 -- the room holds the front of a log that begins, and the length is its length; or nothing has changed
 abbrev pub TellsBegun : LogRow → List ℕ → ℕ → List ℕ → List ℕ → ℕ → ℕ → Type 0

@@ -79,8 +79,8 @@ pub record OpensNode (text : List ℕ) (durable : ℕ) (h : HeldNode) : Type 0 w
 pub record IsUnread (text : List ℕ) (durable code place : ℕ) : Type 0 where
   pub fault : LogFault
   pub why : IsLogFault text durable fault
-  pub code : code ≡ log_code fault
-  pub place : place ≡ log_place fault
+  pub told : code ≡ log_code fault
+  pub at : place ≡ log_place fault
 
 -- no node is opened with the log that the text is, for this fault
 pub record IsUnopened (text : List ℕ) (durable code place : ℕ) : Type 0 where
@@ -88,8 +88,8 @@ pub record IsUnopened (text : List ℕ) (durable code place : ℕ) : Type 0 wher
   pub fault : OpenFault
   pub read : IsReadAs text durable journal
   pub why : IsOpenFault (start_of journal.front) journal.shape journal.id.process journal.entries fault
-  pub code : code ≡ open_code fault
-  pub place : place ≡ open_place fault
+  pub told : code ≡ open_code fault
+  pub at : place ≡ open_place fault
 
 -- a node is opened with a text, of which so many entries were told durable; or the fault is told, and the rest is kept
 abbrev pub Opens : List ℕ → ℕ → HeldNode → HeldNode → ℕ → Type 0

@@ -1,8 +1,9 @@
 //! The bytes that begin a log.
-ghost use Rattle.std.specs.Prelude.{◌≡◌, ◌≤◌, ◌<◌, ◌⊎◌, ◌++◌, ◌∷◌, [], ℕ, List, None, IfErr, IfOk, MatchResult, codes};
+ghost use Rattle.std.specs.Prelude.{◌≡◌, ◌≤◌, ◌<◌, ◌^◌, ◌⊎◌, ◌++◌, ◌∷◌, [], ℕ, List, None, IfErr, IfOk, MatchResult, codes, length};
 ghost use Rattle.reg_base.specs.Names.{names_fault};
+ghost use Rattle.reg_base.specs.declared.limits.TheConstants.{MOST_PROCESSES};
 ghost use Rattle.reg_process.specs.declared.faults.ProcessFault.{ProcessFault};
-ghost use Rattle.reg_c.specs.Beginning.{BeginsLog, IsUnbegun, SaysNames, TellsBegun, front_at, id_in};
+ghost use Rattle.reg_c.specs.Beginning.{BeginsLog, IsMisplaced, IsUnbegun, SaysNames, TellsBegun, front_at};
 ghost use Rattle.reg_c.specs.Events.{refusal_code};
 ghost use Rattle.reg_c.specs.NodeCodes.{bad_names};
 ghost use Rattle.reg_text.specs.Lines.{lines_of};
@@ -50,14 +51,16 @@ fn front_of(number: u32) -> Option<Front>
     }
 }
 
-fn id_of(row: &LogRow) -> LogId
-    ensures { result ≡ id_in row.now }
+/// The log that these numbers say.
+fn log_id(cluster: u64, process: u8, chapter: u64, begun: u64) -> LogId
+    ensures same { result ≡ record { cluster = cluster; process = process; chapter = chapter; begun = begun } }
+    ensures within { (cluster < 2 ^ 64) × (chapter < 2 ^ 64) × (begun < 2 ^ 64) }
 {
     LogId {
-        cluster: row.cluster,
-        process: row.process,
-        chapter: row.chapter,
-        begun: row.begun,
+        cluster,
+        process,
+        chapter,
+        begun,
     }
 }
 
@@ -76,7 +79,10 @@ fn names_of(alloc: Global, line: &[u8]) -> Result<Names, TextFault>
     ensures whole { (names : List (List ℕ)) → names_fault names ≡ None → lines_of line.now ≡ (codes "registers" ++ names_text names) ∷ [] → MatchResult result (λ n. n ≡ names) (λ f. f ≡ TextFault.OutOfMemory) }
 {
     let mut lines = Lines::new(line);
-    let names = read_names(alloc, &mut lines, MOST_REGISTERS)?;
+    let names = match read_names(alloc, &mut lines, MOST_REGISTERS) {
+        Ok(names) => names,
+        Err(fault) => return Err(fault),
+    };
     match lines.next() {
         Some(_) => Err(lines.fault(Why::Range)),
         None => Ok(names),
@@ -98,6 +104,20 @@ fn names_in(alloc: Global, text: &[u8]) -> Result<Names, u32>
     }
 }
 
+/// A shape of so many processes, which has this one, with a register for each name.
+fn shape_of_names(processes: u32, process: u8, names: &Names) -> Result<Shape, u32>
+    ensures made { IfOk result (λ s. (s ≡ record { processes = processes; registers = length names.now }) × (0 < processes) × (processes ≤ MOST_PROCESSES) × (process < processes)) }
+    ensures why { IfErr result (IsMisplaced processes process (length names.now)) }
+{
+    let Ok(shape) = Shape::new(processes, names.count() as u32) else {
+        return Err(NO_SHAPE);
+    };
+    if u32::from(process) >= processes {
+        return Err(code_of_refusal(ProcessFault::NoProcess));
+    }
+    Ok(shape)
+}
+
 /// The log with no entries that these numbers and names say.
 fn begin(alloc: Global, row: &LogRow, text: &[u8]) -> Result<Vec<u8>, u32>
     ensures begun { IfOk result (λ v. BeginsLog row.now text.now v.items) }
@@ -107,13 +127,9 @@ fn begin(alloc: Global, row: &LogRow, text: &[u8]) -> Result<Vec<u8>, u32>
         return Err(NO_FRONT);
     };
     let names = names_in(alloc, text)?;
-    let Ok(shape) = Shape::new(row.processes, names.count() as u32) else {
-        return Err(NO_SHAPE);
-    };
-    if u32::from(row.process) >= row.processes {
-        return Err(code_of_refusal(ProcessFault::NoProcess));
-    }
-    match begin_log(alloc, id_of(row), front, shape, &names) {
+    let shape = shape_of_names(row.processes, row.process, &names)?;
+    let id = log_id(row.cluster, row.process, row.chapter, row.begun);
+    match begin_log(alloc, id, front, shape, &names) {
         Ok((bytes, _)) => Ok(bytes),
         Err(_) => Err(code_of_refusal(ProcessFault::OutOfMemory)),
     }

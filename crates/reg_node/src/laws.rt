@@ -36,8 +36,8 @@ pub fn fault_is_no_log()
     ensures { (start : Op → ℕ → Start) (first : State) (log : List LogEntry) (place : ℕ) → IsFirstNoStep start first log place → ¬ AreSteps start first log }
 {}
 
-/// A node's log stays the log of what it did: what it writes spells one more entry, and after a refusal, but for want of
-/// an entry's text, and after what it hands out, the log is as it was.
+/// A node's log stays the log of what it did: what it writes spells one more entry. After a refusal, but for want of an
+/// entry's text, and after what it hands out, the log is as it was.
 pub fn log_stays_spelled()
     ensures written { (start : Op → ℕ → Start) (first : State) (j : Journal) (past : Past) (old new : LoggedState) (e : Step) (bytes : List ℕ) → IsSpelled start first j past old → Writes start old e bytes new → IsSpelledOn start first j past bytes new }
     ensures refused { (start : Op → ℕ → Start) (first : State) (j : Journal) (past : Past) (old new : LoggedState) (e : Step) (fault : LoggedFault) → IsSpelled start first j past old → WritesNothing start old e fault new → fault ≢ Unspelled → IsSpelled start first j past new }
