@@ -205,11 +205,18 @@ class Cluster:
         else:
             self.crash(me)
 
+    def is_at_rest(self):
+        return not self.wire and not any(
+            node.busy or node.pending or node.durable < node.logged for node in self.nodes
+        )
+
     def settle(self):
         """All meet, and all frames arrive in the end."""
         for one, other in ((0, 1), (0, 2), (1, 2)):
             self.meet(one, other)
-        while self.wire or any(node.busy or node.pending or node.durable < node.logged for node in self.nodes):
+        for _ in range(100):
+            if self.is_at_rest():
+                return
             for me, node in enumerate(self.nodes):
                 if node.pending:
                     self.step(me, node.tick)
@@ -219,6 +226,7 @@ class Cluster:
             for sender, receiver, frame in self.wire:
                 self.step(receiver, self.nodes[receiver].take, sender, frame)
             self.wire = []
+        raise AssertionError("the cluster doesn't come to rest")
 
 
 def entries_of(log):
@@ -252,7 +260,7 @@ def redo(process, words):
     elif words[1] == "tick":
         process.tick()
     else:
-        kinds = {"read": Read, "write": Write, "swap": Swap, "compare-and-swap": CompareAndSwap}
+        kinds = {"read": Read, "write": Write, "swap": Swap, "cas": CompareAndSwap}
         process.call(kinds[words[2]](NAMES.index(words[3]), *map(int, words[4:])))
 
 
