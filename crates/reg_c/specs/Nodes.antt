@@ -1,5 +1,5 @@
 -- A node that a caller holds, under the front end that its log names. Promises cite it.
-use Rattle.std.specs.Prelude.{ℕ, ◌≡◌, ◌==◌, ◌<◌, ◌≤◌, ◌⊎◌, MatchOption, Bool, true, false, List, [], length, max, Option, None, Some, option_map, cond, if◌then◌else◌}
+use Rattle.std.specs.Prelude.{ℕ, ◌≡◌, ◌==◌, ◌<◌, ◌≤◌, ◌⊎◌, MatchOption, Bool, false, List, [], length, Option, None, Some, option_map, cond, if◌then◌else◌}
 use Rattle.reg_base.specs.declared.memory.Op.{Op}
 use Rattle.reg_frames.specs.Spelling.{Spells}
 use Rattle.reg_frames.specs.declared.bodies.Frame.{Frame}
@@ -30,7 +30,6 @@ use Rattle.reg_c.specs.declared.node_parts.NodeLook.{NodeLook}
 use Rattle.reg_c.specs.declared.node_parts.NodeLook.TheVariants.{OfProcess, OfNode, Whole, Place}
 use Rattle.reg_c.specs.declared.node_parts.NodePart.{NodePart}
 use Rattle.reg_c.specs.declared.node_parts.NodePart.TheVariants.{Logged, Durable, Stopped, Lost, HeardAll}
-use Rattle.reg_c.specs.declared.parts.ProcessLook.{ProcessLook}
 use Rattle.reg_c.specs.declared.parts.ProcessLook.TheVariants.{OfState, ReplyValue, ReplyPlace}
 use Rattle.reg_c.specs.Events.{no_event, no_frame, no_world}
 use Rattle.reg_c.specs.NodeCodes.{handed_code, hello_code, log_code, log_place, logged_code, not_logged, open_code, open_place}

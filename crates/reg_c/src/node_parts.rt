@@ -4,7 +4,7 @@ ghost use Rattle.reg_process.specs.Known.{IsNoPeer, known_of};
 ghost use Rattle.reg_process.specs.Process.{peer_at};
 ghost use Rattle.reg_c.specs.Nodes.{flag, logged_in, node_look_of, node_looked, node_number, node_part, node_state_in, reply_handed};
 ghost use Rattle.reg_c.specs.Processes.{TellsKnown, state_part};
-ghost use Rattle.reg_c.specs.Worlds.{reply_place, reply_value, seen};
+ghost use Rattle.reg_c.specs.Worlds.{seen};
 
 use crate::events::value_of_answer;
 use crate::nodes::{HeldNode, KeptNode};

@@ -1,5 +1,5 @@
 //! A node that a caller holds.
-ghost use Rattle.std.specs.Prelude.{◌≡◌, [], None, IfErr, IfOk, MatchOption, MatchResult, vec_capacity};
+ghost use Rattle.std.specs.Prelude.{◌≡◌, [], None, IfErr, IfOk, MatchResult, vec_capacity};
 ghost use Rattle.reg_process.specs.declared.steps.Step.TheVariants.{Tick};
 ghost use Rattle.reg_node.specs.Logged.{Writes, WritesNothing};
 ghost use Rattle.reg_c.specs.declared.nodes.KeptNode.{KeptNode};
