@@ -13,7 +13,7 @@ import enum
 import os
 import threading
 from dataclasses import dataclass
-from typing import Any, Callable, List, NoReturn, Optional, Sequence, Tuple, Union
+from typing import Any, Callable, Dict, List, NoReturn, Optional, Sequence, Tuple, Union
 
 __all__ = [
     "UNEQUAL", "Answered", "Called", "CompareAndSwap", "Fault", "Front", "Known", "Node", "Output", "Process",
@@ -290,7 +290,7 @@ class Refused(Exception):
     process has stopped."""
 
 
-_REFUSALS = {
+_REFUSALS: Dict[int, str] = {
     16: "failed", 17: "too many events", 18: "no process", 19: "busy", 20: "no register", 21: "too many operations",
     22: "no frame", 23: "out of memory", 24: "ahead", 25: "stale", 26: "clock full", 32: "no event", 33: "closed", 34: "no shape", 35: "no front", 48: "not a frame",
 }

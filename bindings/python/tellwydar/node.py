@@ -15,7 +15,7 @@ import ctypes
 import re
 import threading
 from dataclasses import dataclass
-from typing import Callable, List, Optional, Sequence, Tuple, Union
+from typing import Any, Callable, List, Optional, Sequence, Tuple, Union
 
 from . import (
     _CALLS, _REFUSALS, _ROOM, CompareAndSwap, Front, Known, Op, Refused, Reply, _framed, _Handle, _library, _ranged,
@@ -98,7 +98,7 @@ class Node(_Handle):
     def __init__(self) -> None:
         super().__init__(_library.tellwydar_node_new, _library.tellwydar_node_close)
         self._thread = threading.get_ident()
-        self._line = ctypes.create_string_buffer(self._BYTES)
+        self._line: Any = ctypes.create_string_buffer(self._BYTES)
         self._room = ctypes.create_string_buffer(_ROOM)
 
     @staticmethod
