@@ -152,7 +152,7 @@ class Node(_Handle):
     def _step(self, function: Callable[..., int], *numbers: Union[int, bytes]) -> bytes:
         self._told(self._asked(function, *numbers))
         count = self._asked(_library.tellwydar_node_bytes, self._line, self._BYTES)
-        return self._line.raw[:count]
+        return bytes(self._line.raw[:count])
 
     def call(self, op: Op) -> bytes:
         """Calls an operation, and gives the bytes by which the log grows."""
