@@ -2,7 +2,8 @@
 // in actions.js.
 import { Run } from "../../page/js/run.js";
 import { byId, html } from "../../page/js/elements.js";
-import { Theme, View } from "../../page/js/view.js";
+import { Theme } from "../../page/js/theme.js";
+import { View } from "../../page/js/view.js";
 import { Actions } from "./actions.js";
 import { Ahead, endsOf, roomAhead } from "./ahead.js";
 import { EMPTY, look, UNANSWERED } from "./api.js";
