@@ -80,7 +80,7 @@ export function drawingOfTwo(sides, comparison) {
   globalThis.document = { createElementNS: (_, tag) => new Part(tag) };
   const runs = sides.map(({ told }) => new Run(told)), roomy = runs.every(({ processes }) => processes <= 8);
   const drawn = runs.map((run, i) => ({ run, name: sides[i].name,
-    places: layOut(run, roomy, 0, 0, runs[1 - i]) })), [one, other] = drawn.map(({ places }) => places);
+    places: layOut(run, roomy, 0, 0, { run: runs[1 - i] }) })), [one, other] = drawn.map(({ places }) => places);
   const tops = [TOP_ROOM + NAME_ROOM, TOP_ROOM + 2 * NAME_ROOM + one.height];
   const width = LEFT + Math.max(one.width, other.width), height = tops[1] + other.height;
   const axis = one.xs.map((x, at) => [

@@ -1,7 +1,7 @@
 // The page of two runs, which stand in it: what `tools/compare --page` prints. One steps through both at once.
 import { Run } from "./run.js";
 import { byId, html } from "./elements.js";
-import { Diagram } from "./diagram.js";
+import { Diagram, KINDS } from "./diagram.js";
 import { storyNodes } from "./story.js";
 import { Theme } from "./theme.js";
 import { compareRuns } from "./compare.js";
@@ -15,7 +15,7 @@ class Side {
     this.run = run;
     this.story = byId("story-" + place);
     this.diagram = new Diagram(null, byId("diagram-" + place));
-    this.diagram.beside = beside;
+    this.diagram.beside = { run: beside };
     this.diagram.roomy = Math.max(run.last, beside.last) < MOST_WITH_TEXTS;
   }
 
@@ -50,7 +50,10 @@ class Pair {
   }
 
   draw() {
-    for (const side of this.sides) side.draw(this.comparison);
+    const [one, other] = this.sides;
+    one.draw(this.comparison);
+    other.diagram.beside = one.diagram.places;
+    other.draw(this.comparison);
     this.show(this.at);
   }
 
@@ -69,7 +72,7 @@ class Pair {
       last: () => this.last, differing: () => comparison.at };
     for (const [id, to] of Object.entries(jumps)) byId(id).onclick = () => this.show(to());
     byId("slider").addEventListener("input", ({ target }) => this.show(+target.value));
-    for (const kind of ["cast", "ack", "count", "lost"]) byId("show-" + kind).onchange = () => this.draw();
+    for (const kind of KINDS) byId("show-" + kind).onchange = () => this.draw();
     document.addEventListener("click", ({ target }) => this.clicked(target));
     document.addEventListener("keydown", event => this.pressed(event, jumps));
     addEventListener("resize", () => this.draw());

@@ -26,6 +26,7 @@ export class Input {
       check: () => actions.check(), save: () => actions.openSaves(), link: () => actions.link(),
       outcomes: () => actions.outcomes(), "as-seeded": () => actions.asSchedule("schedule"),
       "as-fair": () => actions.asSchedule("schedule-fair"), stop: () => stopRuns(),
+      front: () => playground.fronts.open(),
     };
     for (const [id, act] of Object.entries(buttons)) byId(id).onclick = act;
   }
@@ -79,7 +80,7 @@ export class Input {
     const line = /^[1-9]$/.test(key) && playground.canClick ? playground.offers.numbered[+key - 1] : null;
     if (line) return () => actions.add(line);
     return { u: () => actions.cut(), r: () => byId("rest").click(), c: () => byId("check").click(),
-      e: () => byId("source").focus() }[key];
+      k: () => byId("keep").click(), e: () => byId("source").focus() }[key];
   }
 }
 

@@ -8,9 +8,11 @@ import { Actions } from "./actions.js";
 import { Ahead, endsOf, roomAhead } from "./ahead.js";
 import { EMPTY, look, UNANSWERED } from "./api.js";
 import { Choices } from "./choices.js";
+import { Compared } from "./compared.js";
 import { Editor } from "./editor.js";
 import { Exercise } from "./exercise.js";
 import { focusOf, refocus } from "./focus.js";
+import { FrontTable } from "./front_table.js";
 import { Input } from "./input.js";
 import { Offers } from "./offers.js";
 import { Changes, eventLines, placeOf } from "./texts.js";
@@ -39,10 +41,15 @@ export class Playground {
     this.view = new View({
       drawAhead: places => this.canClick ? this.signs.draw(places, this.ends, this.offers.idle) :
         { lines: [], ends: [] },
-      onShow: at => this.showLine(at),
+      onShow: at => {
+        this.showLine(at);
+        this.compared.show(at);
+      },
     });
+    this.compared = new Compared(this);
     this.editor = new Editor({ onType: text => this.typed(text), onLine: line => this.goToLine(line) });
     this.choices = new Choices(this, examples, exercises);
+    this.fronts = new FrontTable(this);
     this.input = new Input(this);
   }
 
@@ -153,6 +160,7 @@ export class Playground {
     byId("redo").disabled = !this.changes.canRedo;
     byId("cut").disabled = !isSchedule || !this.run || this.view.at >= this.run.last;
     byId("rest").disabled = !isSchedule;
+    byId("keep").disabled = !this.seen.told;
     byId("check").disabled = !["schedule", "workload", "report"].includes(kind);
   }
 

@@ -9,6 +9,7 @@ import { oddText } from "./stepping.mjs";
 import { Session, serveFolder, startServer } from "./session.mjs";
 import { triesOfPages } from "./example_pages.mjs";
 import { triesOfBuilding } from "./building.mjs";
+import { triesOfComparing } from "./comparing.mjs";
 import { triesOfTexts } from "./texts.mjs";
 import { triesOfExercises } from "./exercises.mjs";
 import { triesOfSlides } from "./slides.mjs";
@@ -50,8 +51,8 @@ const session = new Session(browser, asked.site ? address + "playground.html" : 
 const context = { browser, session, shots: asked.shots, rounds: +asked.rounds, explains: !asked.site };
 if (asked.shots) mkdirSync(asked.shots, { recursive: true });
 await browser.size(1440, 940);
-const tries = Object.entries(Object.assign({}, ...[triesOfPages, triesOfBuilding, triesOfTexts, triesOfExercises,
-  triesOfSlides, triesOfSpeed].map(make => make(context)))).filter(([name]) => words.every(word => name.includes(word)))
+const tries = Object.entries(Object.assign({}, ...[triesOfPages, triesOfBuilding, triesOfComparing, triesOfTexts,
+  triesOfExercises, triesOfSlides, triesOfSpeed].map(make => make(context)))).filter(([name]) => words.every(word => name.includes(word)))
   .filter(([name]) => !browser.untried?.includes(name));
 for (const name of browser.untried ?? []) console.log("not tried: " + name);
 let wrong = 0;

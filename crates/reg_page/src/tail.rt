@@ -596,8 +596,8 @@ function pillText({ castTime, process, kind, register, value, expected }) {
 }
 
 function layOut(run, roomy, room, ahead = 0, beside = null) {
-  let low = roomy ? 44 : 20, high = roomy ? 150 : 34;
-  const placesBy = step => placesOver(columns(beside ? [run, beside] : [run], roomy, step), run, roomy, ahead);
+  let [low, high] = beside?.step ? [beside.step, beside.step] : roomy ? [44, 150] : [20, 34];
+  const placesBy = step => placesOver(columns(beside ? [run, beside.run] : [run], roomy, step), run, roomy, ahead);
   while (low < high) {
     const middle = low + high + 1 >> 1;
     if (placesBy(middle).width <= room) low = middle;
@@ -620,7 +620,7 @@ function placesOver({ xs, right, step }, run, roomy, ahead) {
   const last = xs.length ? xs[xs.length - 1] : (roomy ? 26 : 14) - step,
     end = Math.max(last + (roomy ? 22 : 12), right);
   const below = roomy ? Math.max(y + 24, ys[ys.length - 1] + 66) : y + 8; // four lines stand at the left of a process
-  return { run, roomy, xs, ys, end, width: Math.max(last + 30, right, end + ahead) + 14, height: below };
+  return { run, roomy, step, xs, ys, end, width: Math.max(last + 30, right, end + ahead) + 14, height: below };
 }
 
 function columns(runs, roomy, step) {
@@ -860,6 +860,7 @@ function drawPoints(places) {
 }
 
 /* diagram */
+const KINDS = ["cast", "ack", "count", "lost"];
 const LAYERS = ["band", "ticks", "rails", "plumbs", "bars", "stubs", "arrows", "veil", "ghosts", "flight", "nodes",
   "points", "now", "ends", "overlay"];
 
@@ -883,7 +884,8 @@ class Diagram {
     this.drawAhead = drawAhead;
     this.box = box;
     [this.axisBox, this.gutter, this.inner] = ["axis", "gutter", "inner"].map(part => box.querySelector("." + part));
-    this.beside = null; // a run that has the same axis of events
+    this.beside = null; // of a run that has the same axis: `run`, and its `step` if it stands already
+    this.onDrawn = () => {};
     this.isStub = () => true; // whether a frame that no event takes is drawn as lost
     this.roomy = true;
     this.ahead = 0;
@@ -891,9 +893,10 @@ class Diagram {
   }
 
   draw(run) {
-    const room = this.box.clientWidth - gutterWidth(run, this.roomy) - 2;
+    const room = this.box.clientWidth - this.gutterWidth(run) - 2;
     const places = layOut(run, this.roomy, room, this.ahead, this.beside);
-    const hidden = new Set(["cast", "ack", "count", "lost"].filter(kind => !byId("show-" + kind).checked));
+    const hidden = new Set(KINDS.filter(kind => !byId("show-" + kind).checked));
+    for (const kind of KINDS) this.box.classList.toggle("hide-" + kind, hidden.has(kind));
     const kept = this.keptEvents(run, places, hidden);
     Object.assign(this, { run, places, hidden });
     if (kept === 0) this.begin();
@@ -905,6 +908,11 @@ class Diagram {
     this.drawEnds();
     this.fit();
     this.box.classList.toggle("hide-point", !this.roomy);
+    this.onDrawn();
+  }
+
+  gutterWidth(run) {
+    return Math.max(...[run, this.beside?.run || run].map(one => gutterWidth(one, this.roomy)));
   }
 
   keptEvents(run, places, hidden) {
@@ -1030,7 +1038,7 @@ class Diagram {
     const { places: { ys, height, roomy, run }, gutter } = this;
     gutter.replaceChildren();
     gutter.style.height = height + "px";
-    gutter.style.width = gutterWidth(run, roomy) + "px";
+    gutter.style.width = this.gutterWidth(run) + "px";
     if (run.isRealTime) {
       gutter.append(html("div", { class: "row", style: `top:${roomy ? 13 : 4}px` },
         html("span", { class: "small", style: "color:var(--point)" }, roomy ? "one memory" : "order")));
@@ -1489,7 +1497,7 @@ class Tips {
 
   point(target, x, y) {
     const { run } = this.diagram, element = target.closest?.("[data-op],[data-frame],[data-lost],[data-put]");
-    if (!element || !run) {
+    if (!element || !run || ![null, this.diagram.box].includes(element.closest(".diagram"))) {
       this.clear();
       return;
     }
@@ -1578,16 +1586,9 @@ class View {
     this.diagram.roomy = run.processes <= 8 && run.events.length <= 160;
     byId("roomy").checked = this.diagram.roomy;
     const { processes, events } = run, isCrowded = processes > 6 || events.length > 60;
-    for (const kind of ["cast", "ack", "count", "lost"]) {
+    for (const kind of KINDS) {
       const box = byId("show-" + kind);
       box.checked = !(kind === "lost" && processes > 10 || kind === "count" && isCrowded);
-    }
-    this.showKinds();
-  }
-
-  showKinds() {
-    for (const kind of ["cast", "ack", "count", "lost"]) {
-      byId("diagram").classList.toggle("hide-" + kind, !byId("show-" + kind).checked);
     }
   }
 
@@ -1661,11 +1662,8 @@ class View {
     const jumps = { first: () => -1, back: () => this.at - 1, next: () => this.at + 1, last: () => this.run.last };
     for (const [id, to] of Object.entries(jumps)) byId(id).onclick = () => this.go(to());
     byId("play").onclick = () => this.play(!this.timer);
-    for (const kind of ["cast", "ack", "count", "lost"]) {
-      byId("show-" + kind).onchange = () => {
-        this.showKinds();
-        this.redraw();
-      };
+    for (const kind of KINDS) {
+      byId("show-" + kind).onchange = () => this.redraw();
     }
     byId("roomy").onchange = ({ target }) => {
       this.diagram.roomy = target.checked;
