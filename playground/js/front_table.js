@@ -7,6 +7,8 @@ import { withFront } from "./texts.js";
 const LABELS = { read: "read", write: "write", swap: "swap, cas" };
 const PLACES = ["with no own cast on its way", "with own casts on their way"];
 const REAL_TIME = "linear-casts-reads";
+const NAMELESS = "It is lawful, and none of the three: no program here runs it. The history of each of its runs has a " +
+  "serial order. Points it doesn't promise, since those come only where everything is cast. ";
 
 export class FrontTable {
   /** @param {import("./playground.js").Playground} playground */
@@ -46,14 +48,13 @@ export class FrontTable {
     const line = (kind, ...kids) => html("p", { class: "line " + kind }, kids);
     if (faults.length) {
       this.verdict.replaceChildren(...faults.map(({ kind, place, law, runs }) => line("bad",
-        html("b", {}, `${LABELS[kind]}, ${PLACES[place]}: `), law, " ", runs.length ? this.links(runs) :
-          "No run is stored that shows it.")));
+        html("b", {}, `${LABELS[kind]}, ${PLACES[place]}: `), law, " ",
+        runs.length ? this.links(runs) : "No run is stored that shows it.")));
     } else if (name) {
       this.verdict.replaceChildren(line("good", "It is ", html("code", {}, name), ", which the programs run."));
     } else {
-      this.verdict.replaceChildren(line("good", "It is lawful, and none of the three: no program here runs it. " +
-        "The history of each of its runs has a serial order. It has no promise of points, since those come only where " +
-        "everything is cast. ", this.table.read.every(start => start === "cast") ? "" : this.links([REAL_TIME])));
+      const castsReads = this.table.read.every(start => start === "cast");
+      this.verdict.replaceChildren(line("good", NAMELESS, castsReads ? "" : this.links([REAL_TIME])));
     }
   }
 

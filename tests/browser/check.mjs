@@ -12,6 +12,7 @@ import { triesOfBuilding } from "./building.mjs";
 import { triesOfComparing } from "./comparing.mjs";
 import { triesOfTexts } from "./texts.mjs";
 import { triesOfExercises } from "./exercises.mjs";
+import { triesOfAll } from "./seen_by_all.mjs";
 import { triesOfSlides } from "./slides.mjs";
 import { triesOfSpeed } from "./speed.mjs";
 
@@ -36,7 +37,7 @@ async function faultOf(attempt, { browser, session, shots }) {
     faults.push(error.message + (error instanceof assert.AssertionError ? "" : "\n" + error.stack));
     if (shots) await browser.picture(join(shots, "fault.png"));
   }
-  const isOwn = url => url.startsWith(address) || /^(about|blob|data|file):/.test(url);
+  const isOwn = url => /^(about|blob|data|file|http:\/\/127\.0\.0\.1):/.test(url);
   faults.push(...browser.errors.slice(hadErrors));
   faults.push(...browser.requests.slice(hadRequests).filter(url => !isOwn(url)).map(url => "asked for " + url));
   return faults.map(fault => fault.slice(0, 2000)).join("\n");
@@ -52,7 +53,8 @@ const context = { browser, session, shots: asked.shots, rounds: +asked.rounds, e
 if (asked.shots) mkdirSync(asked.shots, { recursive: true });
 await browser.size(1440, 940);
 const tries = Object.entries(Object.assign({}, ...[triesOfPages, triesOfBuilding, triesOfComparing, triesOfTexts,
-  triesOfExercises, triesOfSlides, triesOfSpeed].map(make => make(context)))).filter(([name]) => words.every(word => name.includes(word)))
+  triesOfExercises, triesOfSlides, triesOfAll, triesOfSpeed].map(make => make(context))))
+  .filter(([name]) => words.every(word => name.includes(word)))
   .filter(([name]) => !browser.untried?.includes(name));
 for (const name of browser.untried ?? []) console.log("not tried: " + name);
 let wrong = 0;

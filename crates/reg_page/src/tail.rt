@@ -946,7 +946,7 @@ class Diagram {
     this.inner.replaceChildren(this.drawing);
     this.axisMark = svg("rect", { y: 4, height: 18, rx: 9, fill: "var(--now)" });
     this.axisNumber = svg("text", { class: "at", y: 17 }); // of an event that has none in a crowd
-    this.axis = svg("svg", { height: 26 }, this.axisMark, this.axisNumber);
+    this.axis = svg("svg", { height: 26, "aria-hidden": "true" }, this.axisMark, this.axisNumber);
     this.axisBox.replaceChildren(this.axis);
     this.drawGutter();
   }
