@@ -7,8 +7,8 @@ import { withFront } from "./texts.js";
 const LABELS = { read: "read", write: "write", swap: "swap, cas" };
 const PLACES = ["with no own cast on its way", "with own casts on their way"];
 const REAL_TIME = "linear-casts-reads";
-const NAMELESS = "It is lawful, and none of the three: no program here runs it. The history of each of its runs has a " +
-  "serial order. Points it doesn't promise, since those come only where everything is cast. ";
+const NAMELESS = "It is lawful, and none of the three: no program here runs it. The history of each of its runs " +
+  "has a serial order. Points it doesn't promise, since those come only where everything is cast. ";
 
 export class FrontTable {
   /** @param {import("./playground.js").Playground} playground */
