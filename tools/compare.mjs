@@ -64,12 +64,12 @@ const indented = text => text.trimEnd().split("\n").map(line => `    ${line}\n`)
 
 /** What differs, as lines. */
 function textOf(sides, comparison) {
-  const { at, operations } = comparison, [one, other] = sides;
-  const events = at === null ? "" : sides.map(side => `  ${side.name}\n${indented(traced(side, at))}`).join("");
-  const [points, ...first] = sentencesOf(comparison, [one.name, other.name]).reverse();
-  const answers = operations.map(({ name, told }) => `${name}\n` +
-    sides.map((side, i) => `  ${side.name}\n    ${told[i]}\n`).join("")).join("");
-  return `${first.reverse().join("\n")}\n${events}${answers}${points}\n`;
+  const { at, operations } = comparison, names = sides.map(({ name }) => name);
+  const inBoth = texts => names.map((name, i) => `  ${name}\n${indented(texts[i])}`).join("");
+  const sentences = sentencesOf(comparison, names), points = sentences.pop();
+  const events = at === null ? "" : inBoth(sides.map(side => traced(side, at)));
+  const answers = operations.map(({ name, told }) => `${name}\n${inBoth(told)}`).join("");
+  return `${sentences.join("\n")}\n${events}${answers}${points}\n`;
 }
 
 /** A page that has both runs. */

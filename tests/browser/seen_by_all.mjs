@@ -28,15 +28,14 @@ const FRAME = `(() => {
   return faults;
 })()`;
 
-/** Notes the controls that can be pressed or typed into; those that Tab can't reach at all are told. */
+/** Notes the controls that can be pressed or typed into, and tells their number. */
 const CONTROLS = `(() => {
   const form = "a[href],button,input,select,textarea,summary,[role=button],[role=menuitem],[tabindex='0']";
   const isOpen = one => one.checkVisibility({ visibilityProperty: true }) && !one.matches(":disabled");
   window.controls = [...document.querySelectorAll(form)].filter(isOpen);
   window.reached = new Set();
   document.activeElement.blur();
-  return { count: controls.length,
-    never: controls.filter(one => one.tabIndex < 0).map(one => one.outerHTML.slice(0, 160)) };
+  return controls.length;
 })()`;
 const REACH = "reached.add(document.activeElement).size";
 const UNREACHED = "controls.filter(one => !reached.has(one)).map(one => one.outerHTML.slice(0, 160))";
@@ -126,16 +125,16 @@ async function nameless(browser) {
 
 /** What Tab doesn't come to. */
 async function unreached(browser) {
-  const { count, never } = await browser.value(CONTROLS);
+  const count = await browser.value(CONTROLS);
   for (let i = 0; i < count + 8; i++) {
     await browser.press("Tab");
     await browser.value(REACH);
   }
-  return [...never, ...await browser.value(UNREACHED)].map(text => "Tab doesn't come to it: " + text);
+  return (await browser.value(UNREACHED)).map(text => "Tab doesn't come to it: " + text);
 }
 
-/** Sees that a page as it stands is for all. */
-async function look(browser) {
+/** What is wrong with a page as it stands. */
+async function faultsOf(browser) {
   const faults = [...await browser.value(FRAME), ...await nameless(browser)];
   for (const theme of ["light", "dark"]) {
     await browser.size(1440, 940, theme === "dark");
@@ -144,8 +143,30 @@ async function look(browser) {
     faults.push(...faint.map(fault => `${theme}: ${fault}`));
   }
   await browser.size(1440, 940);
-  faults.push(...await unreached(browser));
-  assert.equal(faults.join("\n"), "");
+  return [...faults, ...await unreached(browser)];
+}
+
+async function look(browser) {
+  assert.equal((await faultsOf(browser)).join("\n"), "");
+}
+
+/** A page with a fault of each kind. Of the two greys #777777 has a contrast of 4.48, and #767676 one of 4.54. */
+const WRONG = `<!doctype html><html><body style="background:#fff"><h1>One</h1><h1>Two</h1><p style="color:#777777">a</p>
+<p style="color:#767676">b</p><button></button><button tabindex="3">c</button><a href="#" tabindex="-1">d</a><img
+src="data:,"><svg width="9" height="9"></svg><svg width="90" height="40"><rect width="90" height="40" fill="#777777"/>
+<text x="9" y="20" fill="#ffffff">e</text></svg></body></html>`;
+const FOUND = ["no language", "2 headings of the first level", "no title", "a place in Tab: <button", "no text: <img",
+  "no text: <svg", "no text: <svg", "no name: button", "light: 4.48: <p", "light: 4.48: <text", "dark: 4.48: <p",
+  "dark: 4.48: <text", "Tab doesn't come to it: <a"];
+
+function triesOfFaults({ browser }) {
+  return {
+    async "for all: a fault of each kind is found"() {
+      await browser.open("data:text/html," + encodeURIComponent(WRONG));
+      const found = await faultsOf(browser);
+      assert.deepEqual(found.map((fault, i) => fault.slice(0, FOUND[i]?.length)), FOUND);
+    },
+  };
 }
 
 /** The first page and the lesson, in a folder; its first chapter without a playground, which would load the module. */
@@ -251,5 +272,6 @@ export function triesOfAll(context) {
   if (context.browser.untried) return {};
   const folder = mkdtempSync(join(tmpdir(), "for-all-"));
   process.on("exit", () => rmSync(folder, { recursive: true, force: true }));
-  return { ...triesOfFolder(context, folder), ...triesOfPlayground(context), ...triesOfFiles(context, folder) };
+  return { ...triesOfFaults(context), ...triesOfFolder(context, folder), ...triesOfPlayground(context),
+    ...triesOfFiles(context, folder) };
 }
