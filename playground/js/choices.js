@@ -48,6 +48,14 @@ export class Choices {
     if (example.report) await showBroken(example);
   }
 
+  /** The stored run of a program that lacks a rule, by its folder, with its section of docs/BREAK_IT.md. */
+  brokenBy(folder) {
+    const value = this.examples.findIndex(({ name, report }) => report && name === folder.replaceAll("-", " "));
+    const example = this.examples[value];
+    return example && { example, value: String(value),
+      section: this.examples.filter(({ report }) => report).indexOf(example) + 1 };
+  }
+
   async chooseExercise(name) {
     const { exercise, editor } = this.playground, known = this.exercises.find(one => one.name === name);
     await this.begin(known ? known.start : editor.text, { exercise: name });
@@ -81,8 +89,10 @@ export class Choices {
     const exercise = /exercise=([\w-]+)/.exec(location.hash);
     if (theme) this.playground.theme.choose(theme[1]);
     const event = /[#&]event=(start|\d+)/.exec(location.hash);
+    const broken = this.brokenBy(/[#&]broken=([\w-]+)/.exec(location.hash)?.[1] || "");
     if (text !== null) await this.begin(text, { at: !event ? Infinity : event[1] === "start" ? -1 : +event[1] });
     else if (exercise) await this.chooseVariant(exercise[1], new URLSearchParams(location.hash.slice(1)));
-    return text !== null || exercise !== null;
+    else if (broken) await this.chooseExample(broken.value);
+    return Boolean(text !== null || exercise || broken);
   }
 }

@@ -28,6 +28,7 @@ export class Input {
       save: () => actions.openSaves(), link: () => actions.link(),
       outcomes: () => actions.outcomes(), "as-seeded": () => actions.asSchedule("schedule"),
       "as-fair": () => actions.asSchedule("schedule-fair"), stop: () => stopRuns(),
+      front: () => playground.fronts.open(),
     };
     for (const [id, act] of Object.entries(buttons)) byId(id).onclick = act;
   }
@@ -81,8 +82,7 @@ export class Input {
     const line = /^[1-9]$/.test(key) && playground.canClick ? playground.offers.numbered[+key - 1] : null;
     if (line) return () => actions.add(line);
     return { u: () => actions.cut(), r: () => byId("rest").click(), c: () => byId("check").click(),
-      j: () => byId("judge").click(),
-      e: () => byId("source").focus() }[key];
+      j: () => byId("judge").click(), k: () => byId("keep").click(), e: () => byId("source").focus() }[key];
   }
 }
 

@@ -2,14 +2,17 @@
 // in actions.js.
 import { Run } from "../../page/js/run.js";
 import { byId, html } from "../../page/js/elements.js";
-import { Theme, View } from "../../page/js/view.js";
+import { Theme } from "../../page/js/theme.js";
+import { View } from "../../page/js/view.js";
 import { Actions } from "./actions.js";
 import { Ahead, endsOf, roomAhead } from "./ahead.js";
 import { EMPTY, look, UNANSWERED } from "./api.js";
 import { Choices } from "./choices.js";
+import { Compared } from "./compared.js";
 import { Editor } from "./editor.js";
 import { Exercise } from "./exercise.js";
 import { focusOf, refocus } from "./focus.js";
+import { FrontTable } from "./front_table.js";
 import { Input } from "./input.js";
 import { showHistory } from "./judged.js";
 import { Offers } from "./offers.js";
@@ -39,10 +42,15 @@ export class Playground {
     this.view = new View({
       drawAhead: places => this.canClick ? this.signs.draw(places, this.ends, this.offers.idle) :
         { lines: [], ends: [] },
-      onShow: at => this.showLine(at),
+      onShow: at => {
+        this.showLine(at);
+        this.compared.show(at);
+      },
     });
+    this.compared = new Compared(this);
     this.editor = new Editor({ onType: text => this.typed(text), onLine: line => this.goToLine(line) });
     this.choices = new Choices(this, examples, exercises);
+    this.fronts = new FrontTable(this);
     this.input = new Input(this);
   }
 
@@ -154,6 +162,7 @@ export class Playground {
     byId("redo").disabled = !this.changes.canRedo;
     byId("cut").disabled = !isSchedule || !this.run || this.view.at >= this.run.last;
     byId("rest").disabled = !isSchedule;
+    byId("keep").disabled = !this.seen.told;
     byId("check").disabled = !["schedule", "workload", "report"].includes(kind);
     byId("judge").disabled = !["schedule", "workload", "report", "history"].includes(kind);
   }

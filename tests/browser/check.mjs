@@ -9,8 +9,10 @@ import { oddText } from "./stepping.mjs";
 import { Session, serveFolder, startServer } from "./session.mjs";
 import { triesOfPages } from "./example_pages.mjs";
 import { triesOfBuilding } from "./building.mjs";
+import { triesOfComparing } from "./comparing.mjs";
 import { triesOfTexts } from "./texts.mjs";
 import { triesOfExercises } from "./exercises.mjs";
+import { triesOfAll } from "./seen_by_all.mjs";
 import { triesOfSlides } from "./slides.mjs";
 import { triesOfJudging } from "./judging.mjs";
 import { triesOfSpeed } from "./speed.mjs";
@@ -36,7 +38,7 @@ async function faultOf(attempt, { browser, session, shots }) {
     faults.push(error.message + (error instanceof assert.AssertionError ? "" : "\n" + error.stack));
     if (shots) await browser.picture(join(shots, "fault.png"));
   }
-  const isOwn = url => url.startsWith(address) || /^(about|blob|data|file):/.test(url);
+  const isOwn = url => /^(about|blob|data|file|http:\/\/127\.0\.0\.1):/.test(url);
   faults.push(...browser.errors.slice(hadErrors));
   faults.push(...browser.requests.slice(hadRequests).filter(url => !isOwn(url)).map(url => "asked for " + url));
   return faults.map(fault => fault.slice(0, 2000)).join("\n");
@@ -51,8 +53,8 @@ const session = new Session(browser, asked.site ? address + "playground.html" : 
 const context = { browser, session, shots: asked.shots, rounds: +asked.rounds, explains: !asked.site };
 if (asked.shots) mkdirSync(asked.shots, { recursive: true });
 await browser.size(1440, 940);
-const makers = [triesOfPages, triesOfBuilding, triesOfTexts, triesOfExercises, triesOfJudging, triesOfSlides,
-  triesOfSpeed];
+const makers = [triesOfPages, triesOfBuilding, triesOfComparing, triesOfTexts, triesOfExercises, triesOfJudging,
+  triesOfSlides, triesOfAll, triesOfSpeed];
 const tries = Object.entries(Object.assign({}, ...makers.map(make => make(context))))
   .filter(([name]) => words.every(word => name.includes(word)))
   .filter(([name]) => !browser.untried?.includes(name));

@@ -42,7 +42,7 @@ export class Firefox extends Waiting {
   }
 
   // Keys that WebDriver sends press no button in this browser.
-  untried = ["the same by keys alone"];
+  untried = ["the same by keys alone", "a run is kept, and compared with the next one, by keys"];
   answers = new Map();
   errors = [];
   requests = [];

@@ -1177,7 +1177,7 @@ textarea {
 </div>
 <div class="slices" id="slices" aria-hidden="true"></div>
 <main class="panels">
-  <section class="story" id="story" tabindex="-1" aria-live="polite"></section>
+  <section class="story" id="story" tabindex="-1" aria-live="polite" aria-label="What happened"></section>
   <section aria-labelledby="h-cards"><h2 id="h-cards">Processes</h2><div id="cards"></div></section>
   <div class="side">
     <section aria-labelledby="h-order"><h2 id="h-order">Order so far</h2><div class="box" id="order" tabindex="0"

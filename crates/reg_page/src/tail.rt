@@ -595,20 +595,20 @@ function pillText({ castTime, process, kind, register, value, expected }) {
   return `${stamp} ${told}`;
 }
 
-function layOut(run, roomy, room, ahead = 0) {
-  let low = roomy ? 44 : 20, high = roomy ? 150 : 34;
+function layOut(run, roomy, room, ahead = 0, beside = null) {
+  let [low, high] = beside?.step ? [beside.step, beside.step] : roomy ? [44, 150] : [20, 34];
+  const placesBy = step => placesOver(columns(beside ? [run, beside.run] : [run], roomy, step), run, roomy, ahead);
   while (low < high) {
     const middle = low + high + 1 >> 1;
-    if (placesBy(run, roomy, middle, ahead).width <= room) low = middle;
+    if (placesBy(middle).width <= room) low = middle;
     else high = middle - 1;
   }
-  const places = placesBy(run, roomy, low, ahead);
+  const places = placesBy(low);
   places.width = Math.max(places.width, room);
   return places;
 }
 
-function placesBy(run, roomy, step, ahead) {
-  const { xs, right } = columns(run, roomy, step);
+function placesOver({ xs, right, step }, run, roomy, ahead) {
   const ys = [];
   let y = run.isRealTime ? (roomy ? 40 : 24) : (roomy ? 6 : 4);
   for (let p = 0; p < run.processes; p++) {
@@ -620,31 +620,47 @@ function placesBy(run, roomy, step, ahead) {
   const last = xs.length ? xs[xs.length - 1] : (roomy ? 26 : 14) - step,
     end = Math.max(last + (roomy ? 22 : 12), right);
   const below = roomy ? Math.max(y + 24, ys[ys.length - 1] + 66) : y + 8; // four lines stand at the left of a process
-  return { run, roomy, xs, ys, end, width: Math.max(last + 30, right, end + ahead) + 14, height: below };
+  return { run, roomy, step, xs, ys, end, width: Math.max(last + 30, right, end + ahead) + 14, height: below };
 }
 
-function columns(run, roomy, step) {
-  const above = Array(run.processes).fill(0), below = Array(run.processes).fill(0), xs = [];
-  let x = roomy ? 26 : 14, right = 0;
-  for (const event of run.events) {
-    const p = event.process;
+function columns(runs, roomy, step) {
+  const reaches = runs.map(run => new Reach(run)), xs = [], count = Math.max(...runs.map(run => run.events.length));
+  let x = roomy ? 26 : 14;
+  for (let at = 0; at < count; at++) {
     if (roomy) {
-      const text = textAbove(event);
-      if (text) {
-        x = Math.max(x, above[p] + 9);
-        above[p] = x - 9 + textWidth(text) + 12;
-        right = Math.max(right, above[p]);
-      }
-      if (event.delivered.length) {
-        x = Math.max(x, below[p] + 15);
-        below[p] = x - 9 + Math.max(...event.delivered.map(stamp => textWidth(pillText(run.operationOf(stamp))) + 10));
-        right = Math.max(right, below[p]);
-      }
+      x = Math.max(x, ...reaches.map(reach => reach.leastAt(at)));
+      for (const reach of reaches) reach.take(at, x);
     }
     xs.push(x);
     x += step;
   }
-  return { xs, right };
+  return { xs, step, right: Math.max(...reaches.map(({ right }) => right)) };
+}
+
+class Reach {
+  constructor(run) {
+    this.run = run;
+    this.above = Array(run.processes).fill(0);
+    this.below = Array(run.processes).fill(0);
+    this.right = 0;
+  }
+
+  leastAt(at) {
+    const event = this.run.events[at];
+    if (!event) return 0;
+    return Math.max(textAbove(event) ? this.above[event.process] + 9 : 0,
+      event.delivered.length ? this.below[event.process] + 15 : 0);
+  }
+
+  take(at, x) {
+    const event = this.run.events[at];
+    if (!event) return;
+    const { process, delivered } = event, text = textAbove(event);
+    if (text) this.right = Math.max(this.right, this.above[process] = x - 9 + textWidth(text) + 12);
+    if (!delivered.length) return;
+    const pills = delivered.map(stamp => pillText(/** @type {Operation} */ (this.run.operationOf(stamp))));
+    this.right = Math.max(this.right, this.below[process] = x + 1 + Math.max(...pills.map(textWidth)));
+  }
 }
 
 function textAbove({ call, answered }) {
@@ -844,6 +860,7 @@ function drawPoints(places) {
 }
 
 /* diagram */
+const KINDS = ["cast", "ack", "count", "lost"];
 const LAYERS = ["band", "ticks", "rails", "plumbs", "bars", "stubs", "arrows", "veil", "ghosts", "flight", "nodes",
   "points", "now", "ends", "overlay"];
 
@@ -863,8 +880,12 @@ function cut(elements, from) {
 }
 
 class Diagram {
-  constructor(drawAhead = null) {
+  constructor(drawAhead = null, box = byId("diagram")) {
     this.drawAhead = drawAhead;
+    this.box = box;
+    [this.axisBox, this.gutter, this.inner] = ["axis", "gutter", "inner"].map(part => box.querySelector("." + part));
+    this.beside = null; // of a run that has the same axis: `run`, and its `step` if it stands already
+    this.onDrawn = () => {};
     this.isStub = () => true; // whether a frame that no event takes is drawn as lost
     this.roomy = true;
     this.ahead = 0;
@@ -872,9 +893,10 @@ class Diagram {
   }
 
   draw(run) {
-    const room = byId("diagram").clientWidth - gutterWidth(run, this.roomy) - 2;
-    const places = layOut(run, this.roomy, room, this.ahead);
-    const hidden = new Set(["cast", "ack", "count", "lost"].filter(kind => !byId("show-" + kind).checked));
+    const room = this.box.clientWidth - this.gutterWidth(run) - 2;
+    const places = layOut(run, this.roomy, room, this.ahead, this.beside);
+    const hidden = new Set(KINDS.filter(kind => !byId("show-" + kind).checked));
+    for (const kind of KINDS) this.box.classList.toggle("hide-" + kind, hidden.has(kind));
     const kept = this.keptEvents(run, places, hidden);
     Object.assign(this, { run, places, hidden });
     if (kept === 0) this.begin();
@@ -885,7 +907,12 @@ class Diagram {
     this.drawPoints();
     this.drawEnds();
     this.fit();
-    byId("diagram").classList.toggle("hide-point", !this.roomy);
+    this.box.classList.toggle("hide-point", !this.roomy);
+    this.onDrawn();
+  }
+
+  gutterWidth(run) {
+    return Math.max(...[run, this.beside?.run || run].map(one => gutterWidth(one, this.roomy)));
   }
 
   keptEvents(run, places, hidden) {
@@ -915,12 +942,12 @@ class Diagram {
     this.layers.veil.append(this.veil);
     this.layers.now.append(this.nowLine);
     this.drawing = svg("svg", { role: this.drawAhead ? "group" : "img" },
-      svg("g", { id: "art" }, Object.values(this.layers)));
-    byId("inner").replaceChildren(this.drawing);
+      svg("g", { id: this.box.id + "-art" }, Object.values(this.layers)));
+    this.inner.replaceChildren(this.drawing);
     this.axisMark = svg("rect", { y: 4, height: 18, rx: 9, fill: "var(--now)" });
     this.axisNumber = svg("text", { class: "at", y: 17 }); // of an event that has none in a crowd
-    this.axis = svg("svg", { height: 26 }, this.axisMark, this.axisNumber);
-    byId("axis").replaceChildren(this.axis);
+    this.axis = svg("svg", { height: 26, "aria-hidden": "true" }, this.axisMark, this.axisNumber);
+    this.axisBox.replaceChildren(this.axis);
     this.drawGutter();
   }
 
@@ -1008,10 +1035,10 @@ class Diagram {
   }
 
   drawGutter() {
-    const { ys, height, roomy, run } = this.places, gutter = byId("gutter");
+    const { places: { ys, height, roomy, run }, gutter } = this;
     gutter.replaceChildren();
     gutter.style.height = height + "px";
-    gutter.style.width = gutterWidth(run, roomy) + "px";
+    gutter.style.width = this.gutterWidth(run) + "px";
     if (run.isRealTime) {
       gutter.append(html("div", { class: "row", style: `top:${roomy ? 13 : 4}px` },
         html("span", { class: "small", style: "color:var(--point)" }, roomy ? "one memory" : "order")));
@@ -1079,7 +1106,7 @@ class Diagram {
   }
 
   reveal(at) {
-    const box = byId("diagram"), { xs, ys } = this.places, view = box.clientWidth - byId("gutter").offsetWidth;
+    const { box, gutter, places: { xs, ys } } = this, view = box.clientWidth - gutter.offsetWidth;
     const isEnd = this.drawAhead && at === this.run.last;
     const x = at < 0 ? 0 : xs[at];
     if (isEnd) box.scrollLeft = 1e6;
@@ -1092,6 +1119,7 @@ class Diagram {
 
   sheets() {
     const { xs, ys, width, height, roomy } = this.places, each = roomy ? 1000 : 1400, sheets = [];
+    const art = svg("use", { href: `#${this.box.id}-art` });
     for (let x = 0; x < width; x += each) {
       const w = Math.min(each, Math.max(width - x, Math.min(each, 700)));
       const numbers = xs.map((at, k) => at >= x - 5 && at < x + w && (roomy || k % 5 === 0) ?
@@ -1099,10 +1127,54 @@ class Diagram {
           null);
       const names = ys.map((y, p) =>
         svg("text", { x: x - 42, y: y + 4, style: "font-weight:700", class: hue(p), fill: "var(--c)" }, "p" + p));
-      sheets.push(svg("svg", { viewBox: `${x - 46} -20 ${w + 50} ${height + 20}` }, svg("use", { href: "#art" }),
+      sheets.push(svg("svg", { viewBox: `${x - 46} -20 ${w + 50} ${height + 20}` }, art.cloneNode(),
         svg("rect", { x: x - 46, y: -20, width: 40, height: height + 20, fill: "var(--page)" }), numbers, names));
     }
     return sheets;
+  }
+}
+
+/* story */
+function storyNodes(run, at) {
+  const event = at >= 0 ? run.events[at] : null, story = storyOf(run, at);
+  const title = event ? ["Event ", String(at), html("code", { class: "words" }, event.text)] :
+    "Before the first event";
+  return [html("h2", {}, title), html("p", { class: "lead" }, shown(run, story.lead)),
+    event && event.note ? html("p", { class: "note" }, event.note) : "",
+    html("ul", { class: "why" }, story.lines.map(({ word, tone, body }) =>
+      html("li", { class: tone }, html("span", {}, word), html("div", {}, shown(run, body)))))];
+}
+
+/* theme */
+class Theme {
+  constructor() {
+    this.chosen = null;
+    this.system = matchMedia("(prefers-color-scheme: dark)");
+    this.system.addEventListener("change", () => this.paint());
+    byId("theme").onclick = () => this.choose(document.documentElement.dataset.theme === "dark" ? "light" : "dark");
+    this.paint();
+  }
+
+  choose(theme) {
+    this.chosen = theme;
+    this.paint();
+  }
+
+  paint() {
+    document.documentElement.dataset.theme = this.chosen || (this.system.matches ? "dark" : "light");
+  }
+
+  print(diagram) {
+    let before = null;
+    addEventListener("beforeprint", () => {
+      before = this.chosen;
+      this.choose("light");
+      byId("slices").replaceChildren(...diagram.sheets());
+    });
+    addEventListener("afterprint", () => {
+      this.choose(before);
+      byId("slices").replaceChildren();
+    });
   }
 }
 
@@ -1425,7 +1497,7 @@ class Tips {
 
   point(target, x, y) {
     const { run } = this.diagram, element = target.closest?.("[data-op],[data-frame],[data-lost],[data-put]");
-    if (!element || !run) {
+    if (!element || !run || ![null, this.diagram.box].includes(element.closest(".diagram"))) {
       this.clear();
       return;
     }
@@ -1514,16 +1586,9 @@ class View {
     this.diagram.roomy = run.processes <= 8 && run.events.length <= 160;
     byId("roomy").checked = this.diagram.roomy;
     const { processes, events } = run, isCrowded = processes > 6 || events.length > 60;
-    for (const kind of ["cast", "ack", "count", "lost"]) {
+    for (const kind of KINDS) {
       const box = byId("show-" + kind);
       box.checked = !(kind === "lost" && processes > 10 || kind === "count" && isCrowded);
-    }
-    this.showKinds();
-  }
-
-  showKinds() {
-    for (const kind of ["cast", "ack", "count", "lost"]) {
-      byId("diagram").classList.toggle("hide-" + kind, !byId("show-" + kind).checked);
     }
   }
 
@@ -1542,7 +1607,7 @@ class View {
     const { run } = this, later = look => this.later(look);
     this.at = at = Math.max(-1, Math.min(run.last, at));
     this.diagram.show(at);
-    this.showStory(at);
+    byId("story").replaceChildren(...storyNodes(run, at));
     this.cards.show(at);
     showOrder(run, at, later);
     showHistory(run, at, later);
@@ -1552,16 +1617,6 @@ class View {
     this.later(() => this.diagram.reveal(at));
     this.tips.light(null);
     this.onShow(at, isQuiet);
-  }
-
-  showStory(at) {
-    const { run } = this, event = at >= 0 ? run.events[at] : null, story = storyOf(run, at);
-    const title = event ? ["Event ", String(at), html("code", { class: "words" }, event.text)] :
-      "Before the first event";
-    byId("story").replaceChildren(html("h2", {}, title), html("p", { class: "lead" }, shown(run, story.lead)),
-      event && event.note ? html("p", { class: "note" }, event.note) : "",
-      html("ul", { class: "why" }, story.lines.map(({ word, tone, body }) =>
-        html("li", { class: tone }, html("span", {}, word), html("div", {}, shown(run, body))))));
   }
 
   showControls(at) {
@@ -1607,11 +1662,8 @@ class View {
     const jumps = { first: () => -1, back: () => this.at - 1, next: () => this.at + 1, last: () => this.run.last };
     for (const [id, to] of Object.entries(jumps)) byId(id).onclick = () => this.go(to());
     byId("play").onclick = () => this.play(!this.timer);
-    for (const kind of ["cast", "ack", "count", "lost"]) {
-      byId("show-" + kind).onchange = () => {
-        this.showKinds();
-        this.redraw();
-      };
+    for (const kind of KINDS) {
+      byId("show-" + kind).onchange = () => this.redraw();
     }
     byId("roomy").onchange = ({ target }) => {
       this.diagram.roomy = target.checked;
@@ -1657,38 +1709,6 @@ class View {
       this.go(to());
     } else if (event.key === "p") this.play(!this.timer);
     else if (event.key === "Escape") this.tips.clear();
-  }
-}
-
-class Theme {
-  constructor() {
-    this.chosen = null;
-    this.system = matchMedia("(prefers-color-scheme: dark)");
-    this.system.addEventListener("change", () => this.paint());
-    byId("theme").onclick = () => this.choose(document.documentElement.dataset.theme === "dark" ? "light" : "dark");
-    this.paint();
-  }
-
-  choose(theme) {
-    this.chosen = theme;
-    this.paint();
-  }
-
-  paint() {
-    document.documentElement.dataset.theme = this.chosen || (this.system.matches ? "dark" : "light");
-  }
-
-  print(diagram) {
-    let before = null;
-    addEventListener("beforeprint", () => {
-      before = this.chosen;
-      this.choose("light");
-      byId("slices").replaceChildren(...diagram.sheets());
-    });
-    addEventListener("afterprint", () => {
-      this.choose(before);
-      byId("slices").replaceChildren();
-    });
   }
 }
 

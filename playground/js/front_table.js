@@ -1,0 +1,82 @@
+// The form in which one makes a front end of a table, and what is said of it.
+import { html } from "../../page/js/elements.js";
+import { judgeTable, NAMED, ROWS, STARTS } from "./fronts.js";
+import { showOutput } from "./output.js";
+import { withFront } from "./texts.js";
+
+const LABELS = { read: "read", write: "write", swap: "swap, cas" };
+const PLACES = ["with no own cast on its way", "with own casts on their way"];
+const REAL_TIME = "linear-casts-reads";
+const NAMELESS = "It is lawful, and none of the three: no program here runs it. The history of each of its runs " +
+  "has a serial order. Points it doesn't promise, since those come only where everything is cast. ";
+
+export class FrontTable {
+  /** @param {import("./playground.js").Playground} playground */
+  constructor(playground) {
+    this.playground = playground;
+    this.verdict = html("div", { id: "front-verdict", role: "status" });
+  }
+
+  /** Shows the table of the run's front end. */
+  open() {
+    this.table = structuredClone(NAMED[this.playground.run?.front || "linear"]);
+    const head = ["", ...PLACES].map(text => html("th", { scope: text ? "col" : null }, text));
+    const rows = ROWS.map(kind => html("tr", {}, html("th", { scope: "row" }, LABELS[kind]),
+      PLACES.map((_, place) => html("td", {}, this.choice(kind, place)))));
+    showOutput("A front end from a table", html("p", {}, "How does an operation start?"),
+      html("table", { class: "fronts both" }, html("thead", {}, html("tr", {}, head)), html("tbody", {}, rows)),
+      this.verdict);
+    this.show();
+  }
+
+  choice(kind, place) {
+    const name = `${LABELS[kind]}, ${PLACES[place]}`, options = Object.entries(STARTS);
+    const list = html("select", { "aria-label": name, "data-start": `${kind} ${place}` },
+      options.map(([value, text]) => html("option", { value }, text)));
+    list.value = this.table[kind][place];
+    list.onchange = () => {
+      this.table[kind][place] = list.value;
+      this.show();
+      this.set();
+    };
+    return list;
+  }
+
+  /** Says what the table comes to. */
+  show() {
+    const { faults, name } = judgeTable(this.table);
+    const line = (kind, ...kids) => html("p", { class: "line " + kind }, kids);
+    if (faults.length) {
+      this.verdict.replaceChildren(...faults.map(({ kind, place, law, runs }) => line("bad",
+        html("b", {}, `${LABELS[kind]}, ${PLACES[place]}: `), law, " ",
+        runs.length ? this.links(runs) : "No run is stored that shows it.")));
+    } else if (name) {
+      this.verdict.replaceChildren(line("good", "It is ", html("code", {}, name), ", which the programs run."));
+    } else {
+      const castsReads = this.table.read.every(start => start === "cast");
+      this.verdict.replaceChildren(line("good", NAMELESS, castsReads ? "" : this.links([REAL_TIME])));
+    }
+  }
+
+  /** Links to the stored runs of programs that lack a rule. */
+  links(runs) {
+    return runs.flatMap((run, i) => {
+      const { choices } = this.playground, found = choices.brokenBy(run);
+      if (!found) return [];
+      const link = html("a", { href: `#broken=${run}` }, `Break it, section ${found.section}: ${found.example.title}`);
+      link.onclick = event => {
+        event.preventDefault();
+        choices.chooseExample(found.value);
+      };
+      return [i ? ", " : "", link];
+    });
+  }
+
+  /** Gives a front end that has a name to the run. */
+  set() {
+    const { playground } = this, { name } = judgeTable(this.table), { kind } = playground.seen;
+    if (!name || kind !== "schedule" && kind !== "workload") return;
+    const { text } = playground.editor, changed = withFront(text, name);
+    if (changed !== text) playground.setText(changed);
+  }
+}

@@ -1,0 +1,63 @@
+// Front ends as tables, all of them, by the laws as docs/DEFINITIONS.md has them. Run by `node --test tests`.
+import { test } from "node:test";
+import assert from "node:assert/strict";
+import { existsSync } from "node:fs";
+import { join } from "node:path";
+import { judgeTable, STARTS } from "../playground/js/fronts.js";
+import { withFront } from "../playground/js/texts.js";
+import { TOP } from "../tools/programs.mjs";
+
+/**
+ * `MayStart`, worked by hand: of each kind of operation, how it may start with no own cast on its way, and with some.
+ * Cast: always. CastAndAnswer: what answers Done on every memory. Look: what changes nothing, with none on its way.
+ * Hold: what changes nothing, with some on their way. A read changes nothing and answers a value; a write changes and
+ * answers Done; a swap and a compare-and-swap change, and their answers depend on the memory.
+ */
+const MAY = {
+  read: [["cast", "look"], ["cast", "hold"]],
+  write: [["cast", "answer"], ["cast", "answer"]],
+  swap: [["cast"], ["cast"]],
+};
+
+/** The three that have names, as docs/DEFINITIONS.md says how they start reads, writes and swaps. */
+const THREE = { "cast cast cast cast cast cast": "linear", "look hold cast cast cast cast": "local-read",
+  "look hold answer answer cast cast": "local-write" };
+
+const CHOICES = ["cast", "look", "hold", "answer"];
+const KINDS = ["read", "write", "swap"];
+const tables = [...Array(4 ** 6).keys()].map(number => [...Array(6).keys()].map(i => CHOICES[(number >> 2 * i) & 3]));
+const tableOf = starts => Object.fromEntries(KINDS.map((kind, i) => [kind, starts.slice(2 * i, 2 * i + 2)]));
+
+test("each of the 4,096 tables breaks the laws that it breaks, and no others", () => {
+  let lawful = 0;
+  for (const starts of tables) {
+    const { faults, name, castsAll } = judgeTable(tableOf(starts));
+    const wrong = starts.flatMap((start, i) => {
+      const kind = KINDS[i >> 1], place = i & 1;
+      return MAY[kind][place].includes(start) ? [] : [`${kind} ${place}`];
+    });
+    assert.deepEqual(faults.map(({ kind, place }) => `${kind} ${place}`), wrong, starts.join(" "));
+    assert.equal(name, THREE[starts.join(" ")] || null);
+    assert.equal(castsAll, starts.every(start => start === "cast"));
+    if (!wrong.length) lawful++;
+  }
+  assert.equal(lawful, 2 * 2 * 2 * 2);
+});
+
+test("each law is one sentence, and each run that shows it is stored", () => {
+  assert.deepEqual(Object.keys(STARTS), CHOICES);
+  const faults = tables.flatMap(starts => judgeTable(tableOf(starts)).faults);
+  for (const { law } of faults) assert.match(law, /^[A-Z][^.]*\.$/);
+  const shown = new Set(faults.flatMap(({ kind, place, runs }) => runs.map(run => `${kind} ${place} ${run}`)));
+  assert.deepEqual([...shown].sort(), ["read 1 read-waits", "swap 0 compare-and-swap-waits", "swap 0 swap-waits",
+    "swap 1 compare-and-swap-waits", "swap 1 swap-waits"]);
+  for (const words of shown) assert.ok(existsSync(join(TOP, "examples", "broken", words.split(" ")[2], "report.txt")));
+});
+
+test("a text is put under another front end", () => {
+  assert.equal(withFront("# front x\nprocesses 2\nregisters x\nfront linear\ncall 0 read x\n", "local-read"),
+    "# front x\nprocesses 2\nregisters x\nfront local-read\ncall 0 read x\n");
+  assert.equal(withFront('front = "linear"\nregisters = ["front"]\n', "local-write"),
+    'front = "local-write"\nregisters = ["front"]\n');
+  assert.equal(withFront("front=\"local-read\" # as it was\n", "linear"), "front=\"linear\" # as it was\n");
+});
