@@ -5,6 +5,7 @@ import assert from "node:assert/strict";
 import { execFileSync } from "node:child_process";
 import { readFileSync } from "node:fs";
 import { join } from "node:path";
+import { operationsOf } from "../playground/js/bars.js";
 import { isHistory, reportOf } from "../playground/js/history.js";
 import { TOP, made } from "../tools/programs.mjs";
 
@@ -102,4 +103,13 @@ test("a process that goes on after a call of unknown end takes another place", (
 test("a text is meant as lines of JSON by its first line", () => {
   assert.deepEqual(["{}", "\n{", "awreg report 2\n", "processes 1\n", "front = \"linear\"\n", ""].map(isHistory),
     [true, true, false, false, false, false]);
+});
+
+test("the operations of a report are drawn with their answers and points", () => {
+  const report = ["awreg report 2", "front linear", "processes 2", "registers 1", "x", "history 3",
+    "       0  p0    #0       call    write x 5", "       2  p1    #0       call    read x",
+    "       4  p1    #0       answer  value 5", "order 2", "p0 #0", "p1 #0", "points 2", "p0 #0 at 1", "p1 #0 at 3",
+    "end", ""].join("\n");
+  assert.deepEqual(operationsOf(report), [{ process: 0, number: 0, text: "write x 5", called: 0, point: 1 },
+    { process: 1, number: 0, text: "read x", called: 2, answered: 4, answer: "value 5", point: 3 }]);
 });
