@@ -1,5 +1,5 @@
 -- A node whose log is spelled, input by input.
-use Rattle.std.proofs.Common.{◌≡◌, ◌≢◌, ℕ, false, List, [], ◌∷◌, ◌++◌, Result, Ok, Err, refl, ap, sym, ◌∙◌, subst}
+use Rattle.std.proofs.Common.{◌≡◌, ◌≢◌, ℕ, false, List, [], ◌∷◌, ◌++◌, Some, Result, Ok, Err, refl, ap, sym, ◌∙◌, subst}
 use Rattle.std.specs.Prelude.{MatchResult}
 use Rattle.reg_base.specs.declared.memory.Op.{Op}
 use Rattle.reg_front.specs.declared.starts.Start.{Start}
@@ -14,10 +14,11 @@ use Rattle.reg_node.specs.declared.faults.LoggedFault.{LoggedFault}
 use Rattle.reg_node.specs.declared.faults.LoggedFault.TheVariants.{Stopped, Unspelled, OfMeeting}
 use Rattle.reg_node.specs.declared.faults.MeetingFault.{MeetingFault}
 use Rattle.reg_node.specs.declared.faults.MeetingFault.TheVariants.{LogLost, Unheard, OfNode}
-use Rattle.reg_node.specs.Logged.{IsSpelled, IsSpelledOn, LoggedState, SpellsEntry, SpellsNothing, Writes, past_with, text_by}
+use Rattle.reg_node.specs.Logged.{IsSpelled, IsSpelledOn, LoggedHandsOut, LoggedState, SpellsEntry, SpellsNothing, Writes, WritesNothing, past_with, text_by}
 use Rattle.reg_node.specs.Meetings.{MeetingLogs, MeetingLogsNothing, MeetingState}
-use Rattle.reg_node.specs.Nodes.{Lives, Past}
-use Rattle.reg_node.proofs.Living.{lives_logs, lives_logs_nothing}
+use Rattle.reg_node.specs.Logs.{Outgoing}
+use Rattle.reg_node.specs.Nodes.{Lives, Past, past_given}
+use Rattle.reg_node.proofs.Living.{lives_gives, lives_logs, lives_logs_nothing}
 
 module _ (start : Op → ℕ → Start) (first : State) (j : Journal) (past : Past) where
   -- an entry was made, and spelled
@@ -66,3 +67,18 @@ module _ (start : Op → ℕ → Start) (first : State) (j : Journal) (past : Pa
       let nothing : MeetingLogsNothing start old.meeting e fault m = subst P s.0 step in
       subst (λ (l : LoggedState). IsSpelled start first j past l) (sym s.1)
       (record { lives = meeting_kept old.meeting m e fault nothing is.lives; entries = is.entries; process = is.process; names = is.names; crc = is.crc })
+
+  -- nothing was to be written
+  pub spelled_still : (old new : LoggedState) (e : Step) (fault : LoggedFault) → WritesNothing start old e fault new → fault ≢ Unspelled → IsSpelled start first j past old → IsSpelled start first j past new
+  spelled_still old new e Stopped w other is = subst (λ (l : LoggedState). IsSpelled start first j past l) (sym w.1) is
+  spelled_still old new e Unspelled w other is = absurd (other refl)
+  spelled_still old new e (OfMeeting fault) w other is =
+      subst (λ (l : LoggedState). IsSpelled start first j past l) (sym w.2)
+      (record { lives = meeting_kept old.meeting new.meeting e fault w.1 is.lives; entries = is.entries; process = is.process; names = is.names; crc = is.crc })
+
+  -- something was handed out
+  pub spelled_given : (old new : LoggedState) (output : Outgoing) → LoggedHandsOut old output new → IsSpelled start first j past old → IsSpelled start first j (past_given past (Some output)) new
+  spelled_given old new output h is =
+      let made = h.made.made in
+      subst (λ (l : LoggedState). IsSpelled start first j (past_given past (Some output)) l) (sym h.rest)
+      (record { lives = lives_gives start first past old.meeting.node new.meeting.node output made.due made.held made.rest is.lives; entries = is.entries; process = is.process; names = is.names; crc = is.crc })

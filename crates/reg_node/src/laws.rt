@@ -1,13 +1,18 @@
 //! Laws of nodes. Each is a function that does nothing: its contract is the law.
-ghost use Rattle.std.specs.Prelude.{ℕ, ◌≡◌, ◌+◌, ◌<◌, ◌≤◌, List, Some, slice_get, take};
+ghost use Rattle.std.specs.Prelude.{ℕ, ◌≡◌, ◌≢◌, ◌+◌, ◌<◌, ◌≤◌, List, Some, slice_get, take};
 ghost use Rattle.reg_base.specs.declared.memory.Op.{Op};
 ghost use Rattle.reg_front.specs.declared.starts.Start.{Start};
 ghost use Rattle.reg_process.specs.Process.{State, next_of, peer_at};
+ghost use Rattle.reg_process.specs.declared.steps.Step.{Step};
+ghost use Rattle.reg_log.specs.Logs.{Journal};
 ghost use Rattle.reg_records.specs.declared.entries.LogEntry.{LogEntry};
 ghost use Rattle.reg_node.specs.Crashes.{AreOfSteps, IsGiven};
 ghost use Rattle.reg_node.specs.Logs.{AreSteps, Outgoing, outputs_of, state_after};
 ghost use Rattle.reg_node.specs.Opening.{IsFirstNoStep};
-ghost use Rattle.reg_node.specs.Nodes.{Lives, NodeState, Past};
+ghost use Rattle.reg_node.specs.declared.faults.LoggedFault.{LoggedFault};
+ghost use Rattle.reg_node.specs.declared.faults.LoggedFault.TheVariants.{Unspelled};
+ghost use Rattle.reg_node.specs.Logged.{IsSpelled, IsSpelledOn, LoggedHandsOut, LoggedState, Writes, WritesNothing};
+ghost use Rattle.reg_node.specs.Nodes.{Lives, NodeState, Past, past_given};
 
 /// What a node handed out since it was opened went out of the entries since then: the k-th of it of the k-th of them,
 /// which is durable.
@@ -29,4 +34,12 @@ pub fn crash_keeps()
 /// limit aside, a node is opened exactly with the logs of its process.
 pub fn fault_is_no_log()
     ensures { (start : Op → ℕ → Start) (first : State) (log : List LogEntry) (place : ℕ) → IsFirstNoStep start first log place → ¬ AreSteps start first log }
+{}
+
+/// A node's log stays the log of what it did: what it writes spells one more entry. After a refusal, but for want of an
+/// entry's text, and after what it hands out, the log is as it was.
+pub fn log_stays_spelled()
+    ensures written { (start : Op → ℕ → Start) (first : State) (j : Journal) (past : Past) (old new : LoggedState) (e : Step) (bytes : List ℕ) → IsSpelled start first j past old → Writes start old e bytes new → IsSpelledOn start first j past bytes new }
+    ensures refused { (start : Op → ℕ → Start) (first : State) (j : Journal) (past : Past) (old new : LoggedState) (e : Step) (fault : LoggedFault) → IsSpelled start first j past old → WritesNothing start old e fault new → fault ≢ Unspelled → IsSpelled start first j past new }
+    ensures handed { (start : Op → ℕ → Start) (first : State) (j : Journal) (past : Past) (old new : LoggedState) (output : Outgoing) → IsSpelled start first j past old → LoggedHandsOut old output new → IsSpelled start first j (past_given past (Some output)) new }
 {}

@@ -5,7 +5,7 @@ ghost use Rattle.reg_process.specs.declared.steps.Step.TheVariants.{Call, Take, 
 ghost use Rattle.reg_log.specs.Logs.{Journal, log_crc};
 ghost use Rattle.reg_node.specs.Logged.{IsSpelled, IsSpelledOn, LoggedHandsOut, LoggedHandsOutNothing, SpellsEntry, SpellsNothing, Writes, WritesNothing};
 ghost use Rattle.reg_node.specs.Logs.{first_state};
-ghost use Rattle.reg_node.specs.Meetings.{Hears, HearsNothing};
+ghost use Rattle.reg_node.specs.Meetings.{Hears, HearsNothing, heard_at_first};
 ghost use Rattle.reg_node.specs.Nodes.{Lives, Past, marked, past_given};
 ghost use Rattle.reg_node.specs.Opening.{IsOpened, IsOpenFault, opened_with};
 
@@ -50,6 +50,7 @@ impl<F: FrontEnd, A: Allocator + Copy> LoggedNode<F, A> {
     /// Those of `Node::open`.
     pub fn open(alloc: A, read: ReadLog<A>) -> Result<LoggedNode<F, A>, OpenFault>
         ensures opened { IfOk result (λ l. IsOpened read.log.entries l.meeting.node × (l.process ≡ read.log.id.process) × (l.names ≡ read.log.names) × (l.crc ≡ read.crc) × (l.stopped ≡ false)) }
+        ensures meets { IfOk result (λ l. (l.meeting.heard ≡ heard_at_first read.log.shape.processes read.log.id.process) × (l.meeting.lost ≡ false)) }
         ensures lives { IfOk result (λ l. Lives F.start (first_state read.log.shape read.log.id.process) (opened_with read.log.entries) l.meeting.node) }
         ensures spelled { read.crc ≡ log_crc read.log → IfOk result (λ l. IsSpelled F.start (first_state read.log.shape read.log.id.process) read.log (opened_with read.log.entries) l) }
         ensures fault { IfErr result (IsOpenFault F.start read.log.shape read.log.id.process read.log.entries) }
