@@ -1,3 +1,4 @@
 mod Rowwise
 mod Received
 mod Spelled
+mod Begun

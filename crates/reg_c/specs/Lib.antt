@@ -4,3 +4,6 @@ pub mod Verdicts
 pub mod Events
 pub mod Worlds
 pub mod Processes
+pub mod NodeCodes
+pub mod Beginning
+pub mod Nodes

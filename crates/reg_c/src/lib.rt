@@ -1,12 +1,18 @@
 //! The library for programs in other languages: the functions that C can call, and the functions over values that they
 //! call. There are numbers for events, replies, faults and verdicts, histories as rows, commands into buffers, and a
-//! world or a process that a caller holds by a pointer.
+//! world, a process or a node that a caller holds by a pointer.
 #![tactic(auto)]
 
+mod beginning;
 mod events;
 pub mod holding;
 mod judging;
 mod looking;
+mod node_codes;
+mod node_handles;
+pub mod node_parts;
+pub mod nodes;
+pub mod opening;
 mod parts;
 mod process_handles;
 pub mod processes;
@@ -17,9 +23,16 @@ mod unboxed;
 mod verdicts;
 mod worlds;
 
+pub use beginning::tellwydar_node_begin;
 pub use judging::{
     tellwydar_check_points, tellwydar_check_points_expecting, tellwydar_check_serial,
     tellwydar_check_serial_expecting,
+};
+pub use node_handles::{
+    tellwydar_node_bytes, tellwydar_node_call, tellwydar_node_close,
+    tellwydar_node_compare_and_swap, tellwydar_node_frames, tellwydar_node_hand_out,
+    tellwydar_node_hear, tellwydar_node_known, tellwydar_node_look, tellwydar_node_mark_durable,
+    tellwydar_node_new, tellwydar_node_open, tellwydar_node_take, tellwydar_node_tick,
 };
 pub use process_handles::{
     tellwydar_process_call, tellwydar_process_close, tellwydar_process_compare_and_swap,

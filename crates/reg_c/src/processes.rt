@@ -22,15 +22,15 @@ use std::alloc::Global;
 use std::mem;
 
 /// These numbers say no operation.
-const NO_OPERATION: u32 = 32;
+pub(crate) const NO_OPERATION: u32 = 32;
 /// There is no process: it was closed.
-const NO_PROCESS: u32 = 33;
+pub(crate) const NO_PROCESS: u32 = 33;
 /// There is no process of this shape.
-const NO_SHAPE: u32 = 34;
+pub(crate) const NO_SHAPE: u32 = 34;
 /// There is no front end of this number.
-const NO_FRONT: u32 = 35;
+pub(crate) const NO_FRONT: u32 = 35;
 /// Bytes were no frame, or a frame has none.
-const NO_FRAME: u32 = 48;
+pub(crate) const NO_FRAME: u32 = 48;
 
 /// A process under the front end that its caller named, or none: it was closed.
 #[derive(Drop)]
@@ -229,14 +229,12 @@ fn spell_all(alloc: Global, puts: &[Put]) -> Result<Vec<u8>, u32>
     Ok(bytes)
 }
 
-/// Puts as many of the bytes of the last step's frames into the room as it takes, and tells how many there are. Where
-/// the result isn't 0, nothing has changed.
-pub fn frames(held: &mut HeldProcess, room: &mut [u8], length: &mut usize) -> u32
-    ensures same { held.new ≡ held.old }
-    ensures told { TellsFrames held.old.frames.items result room.old room.new length.old length.new }
+/// Puts as many of the bytes of frames into the room as it takes, and tells how many there are. If the result isn't 0,
+/// nothing has changed.
+pub(crate) fn tell_frames(alloc: Global, puts: &[Put], room: &mut [u8], length: &mut usize) -> u32
+    ensures { TellsFrames puts.now result room.old room.new length.old length.new }
 {
-    let alloc = *held.frames.allocator();
-    match spell_all(alloc, &held.frames) {
+    match spell_all(alloc, puts) {
         Ok(bytes) => {
             fill(room, &bytes);
             *length = bytes.len();
@@ -246,8 +244,18 @@ pub fn frames(held: &mut HeldProcess, room: &mut [u8], length: &mut usize) -> u3
     }
 }
 
+/// Puts as many of the bytes of the last step's frames into the room as it takes, and tells how many there are. Where
+/// the result isn't 0, nothing has changed.
+pub fn frames(held: &mut HeldProcess, room: &mut [u8], length: &mut usize) -> u32
+    ensures same { held.new ≡ held.old }
+    ensures told { TellsFrames held.old.frames.items result room.old room.new length.old length.new }
+{
+    let alloc = *held.frames.allocator();
+    tell_frames(alloc, &held.frames, room, length)
+}
+
 /// A part of a process.
-fn part<F: FrontEnd>(process: &Process<F>, part: StatePart, register: u16) -> u64
+pub(crate) fn part<F: FrontEnd>(process: &Process<F>, part: StatePart, register: u16) -> u64
     ensures { result ≡ state_part part register process.now.state }
 {
     match part {

@@ -1,0 +1,82 @@
+//! A node that goes on after the text of its log.
+ghost use Rattle.std.specs.Prelude.{◌≡◌, ◌<◌, ◌⊎◌, length, IfErr, IfOk};
+ghost use Rattle.reg_front.specs.Table.{start_of};
+ghost use Rattle.reg_log.specs.Logs.{Journal, log_crc, log_text};
+ghost use Rattle.reg_node.specs.Opening.{IsOpenFault};
+ghost use Rattle.reg_c.specs.Nodes.{IsReadAs, IsUnopened, IsUnread, KeptAfter, Opens};
+
+use crate::node_codes::{LogRefusal, refusal_of_log, refusal_of_opening};
+use crate::nodes::{HeldNode, KeptNode};
+use reg_front::Front;
+use reg_log::{ReadLog, read_log};
+use reg_node::{LoggedNode, OpenFault};
+use std::alloc::Global;
+
+/// A node that goes on after the log that was read, under the front end that it names.
+fn keep(alloc: Global, read: ReadLog) -> Result<KeptNode, OpenFault>
+    ensures kept { read.crc ≡ log_crc read.log → IfOk result (KeptAfter read.log) }
+    ensures why { IfErr result (IsOpenFault (start_of read.log.front) read.log.shape read.log.id.process read.log.entries) }
+{
+    match read.log.front {
+        Front::Linear => match LoggedNode::open(alloc, read) {
+            Ok(node) => Ok(KeptNode::Linear(node)),
+            Err(fault) => Err(fault),
+        },
+        Front::LocalRead => match LoggedNode::open(alloc, read) {
+            Ok(node) => Ok(KeptNode::LocalRead(node)),
+            Err(fault) => Err(fault),
+        },
+        Front::LocalWrite => match LoggedNode::open(alloc, read) {
+            Ok(node) => Ok(KeptNode::LocalWrite(node)),
+            Err(fault) => Err(fault),
+        },
+    }
+}
+
+/// The log that a text is, with how much of the text it is.
+fn read(alloc: Global, text: &[u8], durable: u64) -> Result<ReadLog, LogRefusal>
+    ensures read { IfOk result (λ r. IsReadAs text.now durable r.log × (r.whole ≡ length (log_text r.log)) × (r.crc ≡ log_crc r.log)) }
+    ensures why { IfErr result (λ w. (0 < w.code) × IsUnread text.now durable w.code w.place) }
+{
+    match read_log(alloc, text, durable) {
+        Ok(read) => Ok(read),
+        Err(fault) => Err(refusal_of_log(fault)),
+    }
+}
+
+/// A node that goes on after a text, and how many bytes of it are the log.
+fn begin(alloc: Global, text: &[u8], durable: u64) -> Result<(KeptNode, u64), LogRefusal>
+    ensures begun { IfOk result (λ b. (j : Journal) × IsReadAs text.now durable j × KeptAfter j b.0 × (b.1 ≡ length (log_text j))) }
+    ensures why { IfErr result (λ w. (0 < w.code) × (IsUnread text.now durable w.code w.place ⊎ IsUnopened text.now durable w.code w.place)) }
+{
+    let read = read(alloc, text, durable)?;
+    let whole = read.whole;
+    match keep(alloc, read) {
+        Ok(node) => Ok((node, whole)),
+        Err(fault) => Err(refusal_of_opening(fault)),
+    }
+}
+
+/// Opens a node with the text of its log, of which so many entries were told durable. What was held before is given
+/// back. If the result isn't 0, what is held is as it was, but for the place that the fault names.
+pub fn open(held: &mut HeldNode, text: &[u8], durable: u64) -> u32
+    ensures { Opens text.now durable held.old held.new result }
+{
+    let alloc = *held.bytes.allocator();
+    match begin(alloc, text, durable) {
+        Ok((node, whole)) => {
+            *held = HeldNode {
+                node,
+                bytes: Vec::new(alloc),
+                output: None,
+                whole,
+                place: 0,
+            };
+            0
+        }
+        Err(refusal) => {
+            held.place = refusal.place;
+            refusal.code
+        }
+    }
+}
