@@ -3,9 +3,10 @@
  * What each function does is proved of the library's code (docs/LIBRARY.md); that these declarations are those of that code is not
  * checked by anything but `tools/bindings`.
  *
- * Duties of the caller. No pointer is null, not even where its length is 0. A length is that of its room. Rooms don't overlap. A
- * handle is one that `tellwydar_world_new` or `tellwydar_process_new` gave to that kind of function, it is in one call at a time, on the
- * thread that made it, and in none after it was freed. No function is called from a signal handler. A command keeps some 64 KiB on the stack.
+ * Duties of the caller. No pointer is null, not even where its length is 0. A length is that of its room. Rooms don't
+ * overlap. A handle is one that `tellwydar_world_new`, `tellwydar_process_new` or `tellwydar_node_new` gave to that kind
+ * of function, it is in one call at a time, on the thread that made it, and in none after it was freed. No function is
+ * called from a signal handler. A command keeps some 64 KiB on the stack.
  *
  * The library starts no thread and takes no lock. It takes memory by malloc, realloc and free.
  */
@@ -17,8 +18,9 @@
 
 #define TELLWYDAR_VERSION "0.1.0"
 
-/* Which functions and numbers there are. 2 adds compare-and-swaps: all functions and numbers of 1 are there, and mean what they did. */
-#define TELLWYDAR_ABI 2
+/* Which functions and numbers there are. 2 adds compare-and-swaps, and 3 nodes: all functions and numbers of those
+ * before are there, and mean what they did. */
+#define TELLWYDAR_ABI 3
 
 #ifdef __cplusplus
 extern "C" {
@@ -252,6 +254,113 @@ void tellwydar_process_close(struct tellwydar_process *handle);
 /* Ends a process. */
 static inline void tellwydar_process_free(struct tellwydar_process *handle) {
     tellwydar_process_close(handle);
+    free(handle);
+}
+
+/* --- Nodes: one process that outlives crashes by a log, which the caller writes down ---------------------- */
+
+struct tellwydar_node;
+
+/* What a node tells besides the numbers above. */
+enum {
+    TELLWYDAR_STOPPED = 64,     /* it stopped before: an entry of its log had no text */
+    TELLWYDAR_UNSPELLED = 65,   /* it stops here: it made a step, and there was no memory for the text of its entry */
+    TELLWYDAR_LOG_LOST = 66,    /* it has stopped: another process accepted more than was ever queued for it */
+    TELLWYDAR_UNHEARD = 67,     /* the operation would be cast, and it hasn't heard from all others yet */
+    TELLWYDAR_LOG_FULL = 68,    /* 1,048,576 entries */
+    TELLWYDAR_NO_ROOM = 69,     /* malloc gave no memory before the step: nothing has changed */
+    TELLWYDAR_NOT_LOGGED = 70,  /* the log has fewer entries */
+    TELLWYDAR_NOTHING_DUE = 71, /* no entry is durable whose output is held back, or the node has stopped */
+    /* Why a text isn't opened; TELLWYDAR_NODE_PLACE is the line, from 1, or the entry, from 0. */
+    TELLWYDAR_NOT_A_LOG = 72,  /* the line at which the reader stopped */
+    TELLWYDAR_DAMAGED = 73,    /* the entry was told durable, and doesn't stand whole */
+    TELLWYDAR_NOT_A_STEP = 74, /* the entry is no step of the process */
+    TELLWYDAR_FOREIGN = 75,    /* the entry is of another process */
+    TELLWYDAR_BAD_NAMES = 76
+};
+
+/* Which log it is, and what its cluster is like. */
+struct tellwydar_log {
+    uint64_t cluster; /* the same in all logs of a cluster, and in no other's */
+    uint64_t chapter; /* from 0 */
+    uint64_t begun;   /* drawn anew for each log that is begun */
+    uint32_t front;
+    uint32_t processes;
+    uint8_t process;
+};
+
+/* Puts as many bytes of a log with no entries into the room as it takes, and into `length` how many there are. The
+ * names of the registers have one space between them: 1 to 4,096 names of 1 to 16 letters a to z, which differ. The
+ * result is 0, or TELLWYDAR_NO_FRONT, TELLWYDAR_BAD_NAMES, TELLWYDAR_NO_SHAPE, TELLWYDAR_NO_PROCESS or
+ * TELLWYDAR_NO_MEMORY, and then nothing has changed. */
+uint32_t tellwydar_node_begin(const struct tellwydar_log *log, const uint8_t *names, size_t names_length, uint8_t *room,
+                              size_t room_length, size_t *length);
+
+/* Makes a handle with no node behind it: until one is opened, all but looks tell TELLWYDAR_CLOSED. The result is 0, and
+ * the handle is set; or TELLWYDAR_NO_MEMORY, and it isn't. */
+uint32_t tellwydar_node_new(struct tellwydar_node **handle);
+
+/* Opens a node that goes on after its log, and gives back what was behind the handle. Of the text, the first
+ * TELLWYDAR_NODE_WHOLE bytes are the log: cut off what a crash left behind them before more is written. All its entries
+ * count as durable, so see that they are; `durable` is how many of them were told so before the crash. The result is 0;
+ * or TELLWYDAR_NOT_A_LOG, TELLWYDAR_NO_PROCESS, TELLWYDAR_FOREIGN, TELLWYDAR_DAMAGED, TELLWYDAR_NOT_A_STEP or
+ * TELLWYDAR_NO_MEMORY, and then nothing has changed but TELLWYDAR_NODE_PLACE. */
+uint32_t tellwydar_node_open(struct tellwydar_node *handle, const uint8_t *text, size_t text_length, uint64_t durable);
+
+/* Each makes a step. The result is 0, and then the log grows by the bytes that `tellwydar_node_bytes` gives: write them
+ * behind it before the next step. Or it tells why there is no step, and there are no bytes. The reply, if there is one,
+ * is handed out. */
+
+/* Calls an operation: the kind is TELLWYDAR_READ, TELLWYDAR_WRITE or TELLWYDAR_SWAP. */
+uint32_t tellwydar_node_call(struct tellwydar_node *handle, uint32_t kind, uint32_t reg, uint64_t value);
+/* Calls a compare-and-swap. */
+uint32_t tellwydar_node_compare_and_swap(struct tellwydar_node *handle, uint32_t reg, uint64_t expected,
+                                         uint64_t value);
+/* Takes a frame that the process `from` put for this one, as often and in whatever order: the bytes of one frame. */
+uint32_t tellwydar_node_take(struct tellwydar_node *handle, uint8_t from, const uint8_t *bytes, size_t bytes_length);
+/* Puts the first unacknowledged frames of every link again. */
+uint32_t tellwydar_node_tick(struct tellwydar_node *handle);
+
+/* Puts as many of the last step's bytes into the room as it takes, and gives how many there are. 160 always do. */
+size_t tellwydar_node_bytes(struct tellwydar_node *handle, uint8_t *room, size_t room_length);
+
+/* Tells that the first `count` entries of the log are durable, those that it was opened with among them: what goes out
+ * of them may be handed out. The result is 0, or TELLWYDAR_NOT_LOGGED, and then nothing has changed. */
+uint32_t tellwydar_node_mark_durable(struct tellwydar_node *handle, uint64_t count);
+
+/* Hands out what goes out of the first step for which that was not done yet, if its entry is durable:
+ * `tellwydar_node_frames` gives its frames. The result is TELLWYDAR_ACCEPTED if there is no reply, TELLWYDAR_DONE,
+ * TELLWYDAR_VALUE or TELLWYDAR_UNEQUAL if there is one, or TELLWYDAR_NOTHING_DUE. */
+uint32_t tellwydar_node_hand_out(struct tellwydar_node *handle);
+/* The frames that were handed out last, as `tellwydar_process_frames` gives them. */
+uint32_t tellwydar_node_frames(struct tellwydar_node *handle, uint8_t *room, size_t room_length, size_t *length);
+
+/* Hears that another process accepted the first `count` bodies from this one: that is its TELLWYDAR_PEER_EXPECTED of
+ * this process, which a process tells each other one when they meet. Do so before the first call, and at each new
+ * meeting. The result is 0, or TELLWYDAR_NO_PROCESS, or TELLWYDAR_LOG_LOST: then this node has stopped for good. */
+uint32_t tellwydar_node_hear(struct tellwydar_node *handle, uint8_t other, uint64_t count);
+
+/* What to look at beside TELLWYDAR_OWN_CLOCK to TELLWYDAR_OWN_REPLY_PLACE, which are as of a process: the reply is that
+ * of what was handed out last. What they tell may be of entries that are not durable. */
+enum {
+    TELLWYDAR_NODE_LOGGED = 8,     /* how many entries its log has */
+    TELLWYDAR_NODE_DURABLE = 9,    /* how many of them it was told are durable */
+    TELLWYDAR_NODE_STOPPED = 10,   /* 1 if an entry had no text, and else 0 */
+    TELLWYDAR_NODE_LOST = 11,      /* 1 if it has found out that its log was lost */
+    TELLWYDAR_NODE_HEARD_ALL = 12, /* 1 if it has heard from all others */
+    TELLWYDAR_NODE_WHOLE = 13,     /* how many bytes of the text that was opened last are the log */
+    TELLWYDAR_NODE_PLACE = 14      /* the line or the entry that the last refusal to open names, else 0 */
+};
+uint64_t tellwydar_node_look(struct tellwydar_node *handle, uint32_t what, uint16_t reg);
+/* What its process knows of another one, as `tellwydar_process_known`. */
+uint64_t tellwydar_node_known(struct tellwydar_node *handle, uint32_t what, uint8_t peer);
+
+/* Gives back what the node holds, but for the handle's own block: call `tellwydar_node_free` in its place. */
+void tellwydar_node_close(struct tellwydar_node *handle);
+
+/* Ends a node. */
+static inline void tellwydar_node_free(struct tellwydar_node *handle) {
+    tellwydar_node_close(handle);
     free(handle);
 }
 

@@ -1,18 +1,5 @@
 /* Tests of the C interface: prints each that fails, and `N passed, M failed`. */
-#include "tellwydar.h"
-#include <stdio.h>
-#include <string.h>
-
-static int passed, failed;
-
-static void expect(const char *what, int holds) {
-    if (holds) {
-        passed++;
-    } else {
-        failed++;
-        printf("failed: %s\n", what);
-    }
-}
+#include "testing.h"
 
 static void rooms(void) {
     const char *text = "processes 1\nregisters x\nfront linear\ncall 0 read y\n";
@@ -152,11 +139,6 @@ static void verdicts(void) {
 /* The cast of a compare-and-swap from 0 to 5, as worked by hand. */
 static const uint8_t compared_cast[] = {0, 0x26, 4, 1, 0, 0, 0, 0, 0, 0, 0, 0, 1, 0, 0, 0, 0, 0, 0, 0,
                                         1, 4, 0, 0, 0, 0, 0, 0, 0, 0, 0, 0, 0, 0, 0, 0, 0, 0, 0, 5};
-
-/* A write of the value 5 by the first of two processes: its cast, and what the other one answers, as worked by hand. */
-static const uint8_t cast[] = {0, 0x1e, 1, 1, 0, 0, 0, 0, 0, 0, 0, 0, 1, 0, 0, 0, 0, 0, 0, 0, 1, 2, 0, 0, 0, 0, 0, 0, 0, 0, 0, 5};
-static const uint8_t got[] = {0, 0x0a, 1, 2, 0, 0, 0, 0, 0, 0, 0, 1};
-static const uint8_t ack[] = {0, 0x13, 1, 1, 0, 0, 0, 0, 0, 0, 0, 0, 2, 0, 0, 0, 0, 0, 0, 0, 2};
 
 /* Whether the last step's frames are these bytes. */
 static int puts_bytes(struct tellwydar_process *process, const uint8_t *bytes, size_t count) {

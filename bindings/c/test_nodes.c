@@ -1,0 +1,181 @@
+/* Tests of nodes: prints each that fails, and `N passed, M failed`. */
+#include "testing.h"
+
+/* The log of a writer, as docs/FORMATS.md has it: its head of 192 bytes, the call, and the takes of `got` and `ack`. */
+static const char written_head[] =
+    "e009c6ff tellwydar log 1\n69771c8e cluster 7\nded1c05f process 0\n91ba8d59 chapter 0\nb56a2825 begun 12\n"
+    "2f99698f tellwydar record 1\n95118964 front linear\nc2025397 processes 2\ndc21685e registers x\n";
+static const char called_line[] = "fbc16c9f 0 call write x 5\n";
+static const char got_line[] = "92e249cb 0 take 1 000a01020000000000000001\n";
+static const char ack_line[] = "b9d266ce 0 take 1 001301010000000000000000020000000000000002 = done 0\n";
+
+/* A node with the text of its log, as it is written down. */
+struct written {
+    struct tellwydar_node *node;
+    uint8_t text[4096];
+    size_t length;
+};
+
+static struct tellwydar_log of_process(uint8_t process) {
+    struct tellwydar_log log = {
+        .cluster = 7, .begun = 12, .front = TELLWYDAR_LINEAR, .processes = 2, .process = process};
+    return log;
+}
+
+static uint32_t begun(const struct tellwydar_log *log, const char *names, struct written *it) {
+    it->length = 0;
+    return tellwydar_node_begin(log, (const uint8_t *)names, strlen(names), it->text, sizeof it->text, &it->length);
+}
+
+static uint32_t reopened(struct written *it, size_t length, uint64_t durable) {
+    return tellwydar_node_open(it->node, it->text, length, durable);
+}
+
+static uint64_t seen(const struct written *it, uint32_t what) { return tellwydar_node_look(it->node, what, 0); }
+
+/* Writes the last step's bytes behind the log, and tells how many there are. */
+static size_t write_down(struct written *it) {
+    size_t count = tellwydar_node_bytes(it->node, it->text + it->length, sizeof it->text - it->length);
+    it->length += count;
+    return count;
+}
+
+/* Whether the log ends in this line. */
+static int ends_in(const struct written *it, const char *line) {
+    size_t count = strlen(line);
+    return it->length >= count && memcmp(it->text + it->length - count, line, count) == 0;
+}
+
+/* Whether the frames that were handed out last are these bytes. */
+static int hands_bytes(const struct written *it, const uint8_t *bytes, size_t count) {
+    uint8_t room[64];
+    size_t length;
+    return tellwydar_node_frames(it->node, room, sizeof room, &length) == 0 && length == count &&
+           memcmp(room, bytes, count) == 0;
+}
+
+static void beginnings(struct written *it) {
+    struct tellwydar_log log = of_process(0), front = log, shape = log, process = of_process(2);
+    front.front = 3;
+    shape.processes = 65;
+    expect("no such front end", begun(&front, "x", it) == TELLWYDAR_NO_FRONT && it->length == 0);
+    expect("65 processes", begun(&shape, "x", it) == TELLWYDAR_NO_SHAPE);
+    expect("no such process", begun(&process, "x", it) == TELLWYDAR_NO_PROCESS);
+    expect("no name", begun(&log, "", it) == TELLWYDAR_BAD_NAMES);
+    expect("a capital", begun(&log, "X", it) == TELLWYDAR_BAD_NAMES);
+    expect("a name twice", begun(&log, "x x", it) == TELLWYDAR_BAD_NAMES);
+    expect("a second line", begun(&log, "x\nx", it) == TELLWYDAR_BAD_NAMES && it->length == 0);
+    expect("begun", begun(&log, "x", it) == 0 && it->length == strlen(written_head) && ends_in(it, written_head));
+    uint8_t room[4] = {9, 9, 9, 9};
+    size_t length = 0;
+    expect("the room has the front",
+           tellwydar_node_begin(&log, (const uint8_t *)"x", 1, room, 3, &length) == 0 && length == 192);
+    expect("and no more", memcmp(room, written_head, 3) == 0 && room[3] == 9);
+}
+
+/* Texts with which no node is opened. What was open stays so. */
+static void unopened(struct written *it) {
+    char text[512];
+    expect("no text",
+           tellwydar_node_open(it->node, it->text, 0, 0) == TELLWYDAR_NOT_A_LOG && seen(it, TELLWYDAR_NODE_PLACE) == 1);
+    int count = snprintf(text, sizeof text, "%s37eef420 0 call read x\nbee94b51 0 call read x\n", written_head);
+    expect("a call while one runs",
+           tellwydar_node_open(it->node, (uint8_t *)text, (size_t)count, 0) == TELLWYDAR_NOT_A_STEP);
+    expect("is the second entry", seen(it, TELLWYDAR_NODE_PLACE) == 1);
+    count = snprintf(text, sizeof text, "%sea782da5 1 call read x\n", written_head);
+    expect("a call of another", tellwydar_node_open(it->node, (uint8_t *)text, (size_t)count, 0) == TELLWYDAR_FOREIGN);
+    expect("is the first entry", seen(it, TELLWYDAR_NODE_PLACE) == 0);
+}
+
+/* The writer's steps, each handed out once its entry is durable. */
+static void write_ahead(struct written *it) {
+    uint8_t sent[33] = {1}, counted[13] = {1};
+    memcpy(sent + 1, cast, sizeof cast);
+    memcpy(counted + 1, got, sizeof got);
+    expect("it has heard from none",
+           tellwydar_node_call(it->node, TELLWYDAR_WRITE, 0, 5) == TELLWYDAR_UNHEARD && write_down(it) == 0);
+    expect("no other of this number", tellwydar_node_hear(it->node, 0, 0) == TELLWYDAR_NO_PROCESS);
+    expect("it hears the other", tellwydar_node_hear(it->node, 1, 0) == 0 && seen(it, TELLWYDAR_NODE_HEARD_ALL) == 1);
+    expect("called",
+           tellwydar_node_call(it->node, TELLWYDAR_WRITE, 0, 5) == 0 && write_down(it) > 0 && ends_in(it, called_line));
+    expect("no such operation", tellwydar_node_call(it->node, 3, 0, 5) == TELLWYDAR_NO_EVENT && write_down(it) == 0);
+    expect("nothing is durable",
+           tellwydar_node_hand_out(it->node) == TELLWYDAR_NOTHING_DUE && hands_bytes(it, sent, 0));
+    expect("nor can two entries be", tellwydar_node_mark_durable(it->node, 2) == TELLWYDAR_NOT_LOGGED);
+    expect("nothing is due yet", tellwydar_node_hand_out(it->node) == TELLWYDAR_NOTHING_DUE);
+    expect("the call is durable",
+           tellwydar_node_mark_durable(it->node, 1) == 0 && seen(it, TELLWYDAR_NODE_DURABLE) == 1);
+    expect("its cast goes to the other",
+           tellwydar_node_hand_out(it->node) == TELLWYDAR_ACCEPTED && hands_bytes(it, sent, sizeof sent));
+    expect("once", tellwydar_node_hand_out(it->node) == TELLWYDAR_NOTHING_DUE && hands_bytes(it, sent, 0));
+    expect("busy", tellwydar_node_call(it->node, TELLWYDAR_READ, 0, 0) == TELLWYDAR_BUSY && write_down(it) == 0);
+    expect("bytes that are no frame", tellwydar_node_take(it->node, 1, ack, sizeof ack - 1) == TELLWYDAR_NOT_A_FRAME);
+    expect("the count",
+           tellwydar_node_take(it->node, 1, got, sizeof got) == 0 && write_down(it) > 0 && ends_in(it, got_line));
+    expect("done",
+           tellwydar_node_take(it->node, 1, ack, sizeof ack) == 0 && write_down(it) > 0 && ends_in(it, ack_line));
+    expect("three entries", seen(it, TELLWYDAR_NODE_LOGGED) == 3 && seen(it, TELLWYDAR_NODE_DURABLE) == 1);
+    expect("no reply yet", tellwydar_node_hand_out(it->node) == TELLWYDAR_NOTHING_DUE);
+    expect("all are durable", tellwydar_node_mark_durable(it->node, 3) == 0);
+    expect("of the count nothing", tellwydar_node_hand_out(it->node) == TELLWYDAR_ACCEPTED && hands_bytes(it, sent, 0));
+    expect("the reply",
+           tellwydar_node_hand_out(it->node) == TELLWYDAR_DONE && hands_bytes(it, counted, sizeof counted));
+    expect("as the first", seen(it, TELLWYDAR_OWN_REPLY_PLACE) == 0);
+}
+
+/* A crash tore the last line. */
+static void torn(struct written *it) {
+    size_t cut = it->length - 5, whole = it->length - strlen(ack_line);
+    expect("an entry that was durable",
+           reopened(it, cut, 3) == TELLWYDAR_DAMAGED && seen(it, TELLWYDAR_NODE_PLACE) == 2);
+    expect("and all is as it was", seen(it, TELLWYDAR_NODE_LOGGED) == 3 && seen(it, TELLWYDAR_OWN_RUNNING) == 0);
+    expect("two were durable", reopened(it, cut, 2) == 0 && seen(it, TELLWYDAR_NODE_LOGGED) == 2);
+    expect("the line is cut off", seen(it, TELLWYDAR_NODE_WHOLE) == whole);
+    it->length = whole;
+    expect("it waits for its cast", seen(it, TELLWYDAR_OWN_RUNNING) == 1 && seen(it, TELLWYDAR_NODE_HEARD_ALL) == 0);
+    expect("nothing is due", tellwydar_node_hand_out(it->node) == TELLWYDAR_NOTHING_DUE);
+    expect("taken again",
+           tellwydar_node_take(it->node, 1, ack, sizeof ack) == 0 && write_down(it) > 0 && ends_in(it, ack_line));
+    expect("a count too high",
+           tellwydar_node_hear(it->node, 1, 2) == TELLWYDAR_LOG_LOST && seen(it, TELLWYDAR_NODE_LOST) == 1);
+    expect("stops it", tellwydar_node_tick(it->node) == TELLWYDAR_LOG_LOST && write_down(it) == 0);
+    expect("and its output",
+           tellwydar_node_mark_durable(it->node, 3) == 0 && tellwydar_node_hand_out(it->node) == TELLWYDAR_NOTHING_DUE);
+}
+
+/* The other process: it takes the cast, and reads its value once the writer's count and acknowledgement are there. */
+static void other_node(struct written *it) {
+    struct tellwydar_log log = of_process(1);
+    uint8_t answered[35] = {0};
+    memcpy(answered + 1, got, sizeof got);
+    memcpy(answered + 14, ack, sizeof ack);
+    expect("a handle",
+           tellwydar_node_new(&it->node) == 0 && begun(&log, "x", it) == 0 && reopened(it, it->length, 0) == 0);
+    expect("taken", tellwydar_node_take(it->node, 0, cast, sizeof cast) == 0 && write_down(it) > 0);
+    expect("durable", tellwydar_node_mark_durable(it->node, 1) == 0);
+    expect("its answer",
+           tellwydar_node_hand_out(it->node) == TELLWYDAR_ACCEPTED && hands_bytes(it, answered, sizeof answered));
+    expect("what it says when they meet", tellwydar_node_known(it->node, TELLWYDAR_PEER_EXPECTED, 0) == 1);
+    expect("the value", seen(it, TELLWYDAR_OWN_REGISTER) == 5);
+    expect("it hears the writer", tellwydar_node_hear(it->node, 0, 1) == 0);
+    expect("a compare-and-swap", tellwydar_node_compare_and_swap(it->node, 0, 5, 6) == 0 && write_down(it) > 0);
+    expect("puts again", tellwydar_node_tick(it->node) == 0 && write_down(it) > 0);
+    expect("reopened", reopened(it, it->length, 1) == 0 && seen(it, TELLWYDAR_NODE_LOGGED) == 3);
+    tellwydar_node_free(it->node);
+}
+
+int main(void) {
+    struct written writer = {.node = NULL}, other = {.node = NULL};
+    expect("a handle", tellwydar_node_new(&writer.node) == 0 && writer.node != NULL);
+    expect("with no node", tellwydar_node_tick(writer.node) == TELLWYDAR_CLOSED &&
+                               tellwydar_node_hand_out(writer.node) == TELLWYDAR_CLOSED);
+    beginnings(&writer);
+    expect("opened", reopened(&writer, writer.length, 0) == 0 && seen(&writer, TELLWYDAR_NODE_WHOLE) == writer.length);
+    unopened(&writer);
+    write_ahead(&writer);
+    torn(&writer);
+    tellwydar_node_free(writer.node);
+    other_node(&other);
+    printf("%d passed, %d failed\n", passed, failed);
+    return failed != 0;
+}
