@@ -2,8 +2,9 @@
 
 Each process of a `World` keeps a copy of all registers, and keeps it in step by Lamport's totally ordered multicast. One steps a world
 by events: calls of operations, takes of frames, ticks. A history of one's own is judged by `check_serial` and `check_points`. The
-commands of the program `awreg` are `replay`, `check`, `play` and `play_fair`. A `Process` is one process alone, whose frames one carries
-oneself; what such processes did is judged by `verify`.
+commands of the program `awreg` are `replay`, `check`, `play` and `play_fair`. A `Process` is one process alone, whose
+frames one carries oneself; what such processes did is judged by `verify`. A `Node` is one process that outlives crashes
+by a log, which one writes down.
 
 The environment's TELLWYDAR_LIB names the folder of `libtellwydar.so`, which `tools/bindings --keep FOLDER` makes.
 """
@@ -12,10 +13,11 @@ import enum
 import os
 import threading
 from dataclasses import dataclass
-from typing import Any, Callable, List, NoReturn, Optional, Sequence, Tuple, Union
+from typing import Any, Callable, Dict, List, NoReturn, Optional, Sequence, Tuple, Union
 
 __all__ = [
-    "UNEQUAL", "Answered", "Called", "CompareAndSwap", "Fault", "Front", "Known", "Process", "Read", "Refused", "Reply", "Swap", "Told", "Unequal", "World", "Write",
+    "UNEQUAL", "Answered", "Called", "CompareAndSwap", "Fault", "Front", "Known", "Node", "Output", "Process",
+    "Read", "Refused", "Reply", "Swap", "Told", "Unequal", "World", "Write",
     "check", "check_points", "check_serial", "play", "play_fair", "replay", "verify",
 ]
 
@@ -211,6 +213,8 @@ _FAULTS = {
 
 
 def _ranged(value: int, bits: int) -> int:
+    if isinstance(value, bool):
+        raise TypeError(f"{value} is no number")
     if not 0 <= value < 1 << bits:
         raise ValueError(f"{value} is no number of {bits} bits")
     return value
@@ -286,7 +290,7 @@ class Refused(Exception):
     process has stopped."""
 
 
-_REFUSALS = {
+_REFUSALS: Dict[int, str] = {
     16: "failed", 17: "too many events", 18: "no process", 19: "busy", 20: "no register", 21: "too many operations",
     22: "no frame", 23: "out of memory", 24: "ahead", 25: "stale", 26: "clock full", 32: "no event", 33: "closed", 34: "no shape", 35: "no front", 48: "not a frame",
 }
@@ -429,16 +433,31 @@ class Known:
     seen: int
 
 
+# (63 links, 16 frames each, of at most 40 bytes and one for the receiver)
+_ROOM = 63 * 16 * 41
+
+
+def _framed(room: Any, asks: Callable[..., int]) -> List[Tuple[int, bytes]]:
+    """The frames that a function puts into the room: pairs of receiver and bytes."""
+    length, frames = ctypes.c_size_t(), []
+    code = asks(room, _ROOM, ctypes.byref(length))
+    if code:
+        raise Refused(_REFUSALS[code])
+    told = room.raw[: length.value]
+    while told:
+        end = 3 + int.from_bytes(told[1:3], "big")
+        frames.append((told[0], told[1:end]))
+        told = told[end:]
+    return frames
+
+
 class Process(_Handle):
     """One process of a run, whose frames its owner carries: whatever is lost, repeated or reordered."""
-
-    # (63 links, 16 frames each, of at most 40 bytes and one for the receiver)
-    _ROOM = 63 * 16 * 41
 
     def __init__(self, front: Front, processes: int, registers: int, me: int):
         numbers = Front(front), _ranged(processes, 32), _ranged(registers, 32), _ranged(me, 8)
         super().__init__(_library.tellwydar_process_new, _library.tellwydar_process_close, *numbers)
-        self._room, self._length = ctypes.create_string_buffer(self._ROOM), ctypes.c_size_t()
+        self._room = ctypes.create_string_buffer(_ROOM)
 
     def __enter__(self) -> "Process":
         return self
@@ -470,15 +489,7 @@ class Process(_Handle):
     def frames(self) -> List[Tuple[int, bytes]]:
         """The frames that the last step put, in their order: pairs of receiver and bytes. A refused step put none."""
         with self._turn:
-            code = self._asked(_library.tellwydar_process_frames, self._room, self._ROOM, ctypes.byref(self._length))
-            if code:
-                raise Refused(_REFUSALS[code])
-            told, frames = self._room.raw[: self._length.value], []
-        while told:
-            end = 3 + int.from_bytes(told[1:3], "big")
-            frames.append((told[0], told[1:end]))
-            told = told[end:]
-        return frames
+            return _framed(self._room, lambda *given: self._asked(_library.tellwydar_process_frames, *given))
 
     @property
     def clock(self) -> int:
@@ -512,3 +523,6 @@ class Process(_Handle):
         """What it knows of another process."""
         with self._turn:
             return Known(*(self._asked(_library.tellwydar_process_known, what, _ranged(peer, 8)) for what in range(4)))
+
+
+from .node import Node, Output  # noqa: E402 (it stands on what is above)

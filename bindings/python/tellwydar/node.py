@@ -1,0 +1,237 @@
+"""A node whose decisions are proved: one process of a cluster that outlives crashes by its log.
+
+Its owner writes the bytes that each step gives behind the log, in their order; says how many entries are durable
+(`mark_durable`) once they are; and carries what is handed out. The frames and the reply of a step are handed out once
+its entry is durable, and no sooner:
+
+    log = Node.begin(cluster=7, process=0, front=Front.LINEAR, processes=2, names=["x"], begun=12)
+    node = Node.open(log, durable=0)
+    node.hear(1, 0)                      # process 1 says that it accepted nothing from this one: its `accepted(0)`
+    log += node.call(Write(0, 5))        # now make it durable
+    node.mark_durable(node.logged)
+    output = node.hand_out()             # frames for other processes, and the reply if there is one
+"""
+import ctypes
+import re
+import threading
+from dataclasses import dataclass
+from typing import Any, Callable, List, Optional, Sequence, Tuple, Union
+
+from . import (
+    _CALLS, _REFUSALS, _ROOM, CompareAndSwap, Front, Known, Op, Refused, Reply, _framed, _Handle, _library, _ranged,
+    _reply,
+)
+
+_NOTHING_DUE = 71
+_REFUSALS.update({
+    64: "stopped", 65: "unspelled", 66: "log lost", 67: "unheard", 68: "log full", 69: "no room", 70: "not logged",
+    76: "bad names",
+})
+_BAD_LOGS = {
+    72: "line {}: not a log", 73: "entry {}: damaged", 74: "entry {}: no step", 75: "entry {}: of another process",
+}
+
+
+class _Log(ctypes.Structure):
+    _fields_ = [
+        ("cluster", ctypes.c_uint64), ("chapter", ctypes.c_uint64), ("begun", ctypes.c_uint64),
+        ("front", ctypes.c_uint32), ("processes", ctypes.c_uint32), ("process", ctypes.c_uint8),
+    ]
+
+
+def _declare() -> None:
+    u8, u16, u32, u64 = ctypes.c_uint8, ctypes.c_uint16, ctypes.c_uint32, ctypes.c_uint64
+    size, room, handle = ctypes.c_size_t, ctypes.c_char_p, ctypes.c_void_p
+    for word, result, given in (
+        ("begin", u32, [ctypes.POINTER(_Log), room, size, room, size, ctypes.POINTER(size)]),
+        ("new", u32, [ctypes.POINTER(handle)]),
+        ("open", u32, [handle, room, size, u64]),
+        ("call", u32, [handle, u32, u32, u64]),
+        ("compare_and_swap", u32, [handle, u32, u64, u64]),
+        ("take", u32, [handle, u8, room, size]),
+        ("tick", u32, [handle]),
+        ("bytes", size, [handle, room, size]),
+        ("hear", u32, [handle, u8, u64]),
+        ("mark_durable", u32, [handle, u64]),
+        ("hand_out", u32, [handle]),
+        ("frames", u32, [handle, room, size, ctypes.POINTER(size)]),
+        ("look", u64, [handle, u32, u16]),
+        ("known", u64, [handle, u32, u8]),
+        ("close", None, [handle]),
+    ):
+        function = getattr(_library, f"tellwydar_node_{word}")
+        function.restype, function.argtypes = result, given
+
+
+_declare()
+
+
+def _spelled(names: Sequence[str]) -> bytes:
+    """The names of registers, as the library takes them."""
+    if isinstance(names, (str, bytes)):
+        raise TypeError(f"the names are a list of strings, and not {names!r}")
+    for name in names:
+        if not isinstance(name, str):
+            raise TypeError(f"a register's name is a string, and not {name!r}")
+        if not re.fullmatch("[a-z]{1,16}", name):
+            raise ValueError(f"a register's name is 1 to 16 letters a to z, and not {name!r}")
+    if len(set(names)) < len(names):
+        raise ValueError("two registers have the same name")
+    return " ".join(names).encode()
+
+
+@dataclass(frozen=True)
+class Output:
+    """What goes out of one step: frames for other processes, pairs of receiver and bytes, and the reply to its caller,
+    if there is one."""
+
+    frames: List[Tuple[int, bytes]]
+    reply: Optional[Reply]
+
+
+class Node(_Handle):
+    """A node that goes on after its log. It is used by the thread that opened it alone, as its bytes have one order."""
+
+    # (an entry's line has at most 151 bytes)
+    _BYTES = 160
+
+    def __init__(self) -> None:
+        super().__init__(_library.tellwydar_node_new, _library.tellwydar_node_close)
+        self._thread = threading.get_ident()
+        self._line: Any = ctypes.create_string_buffer(self._BYTES)
+        self._room = ctypes.create_string_buffer(_ROOM)
+
+    @staticmethod
+    def begin(
+        *, cluster: int, process: int, front: Front, processes: int, names: Sequence[str], begun: int, chapter: int = 0
+    ) -> bytes:
+        """The log of a process that did nothing yet. `cluster` is the same for all processes of a cluster and for no
+        other one, and `begun` is drawn anew for each log."""
+        drawn = _ranged(cluster, 64), _ranged(chapter, 64), _ranged(begun, 64)
+        log = _Log(*drawn, Front(front), _ranged(processes, 32), _ranged(process, 8))
+        spelled = _spelled(names)
+        # (nine short lines, and the names)
+        room, length = ctypes.create_string_buffer(512 + len(spelled)), ctypes.c_size_t()
+        given = ctypes.byref(log), spelled, len(spelled), room, len(room), ctypes.byref(length)
+        code = _library.tellwydar_node_begin(*given)
+        if code:
+            raise Refused(_REFUSALS[code])
+        return room.raw[: length.value]
+
+    @classmethod
+    def open(cls, log: bytes, durable: int) -> "Node":
+        """A node that goes on after its log, all of whose entries count as durable, so see that they are; `durable` is
+        how many were told so before. The log is `log[: node.whole]`: what a crash left behind that is to be cut off
+        before more is written."""
+        if not isinstance(log, (bytes, bytearray)):
+            raise TypeError("a log is bytes")
+        text = bytes(log)
+        node = cls()
+        code = node._asked(_library.tellwydar_node_open, text, len(text), _ranged(durable, 64))
+        if code:
+            place = node._look(14)
+            node.close()
+            raise Refused(_BAD_LOGS[code].format(place) if code in _BAD_LOGS else _REFUSALS[code])
+        return node
+
+    def __enter__(self) -> "Node":
+        return self
+
+    def _asked(self, function: Callable[..., int], *numbers: Union[int, bytes]) -> int:
+        if threading.get_ident() != self._thread:
+            raise RuntimeError("a node is used by the thread that opened it alone")
+        return super()._asked(function, *numbers)
+
+    def _told(self, code: int) -> None:
+        if code:
+            raise Refused(_REFUSALS[code])
+
+    def _look(self, what: int, register: int = 0) -> int:
+        return self._asked(_library.tellwydar_node_look, what, register)
+
+    def _step(self, function: Callable[..., int], *numbers: Union[int, bytes]) -> bytes:
+        self._told(self._asked(function, *numbers))
+        count = self._asked(_library.tellwydar_node_bytes, self._line, self._BYTES)
+        return bytes(self._line.raw[:count])
+
+    def call(self, op: Op) -> bytes:
+        """Calls an operation, and gives the bytes by which the log grows."""
+        register, value = _ranged(op.register, 16), _ranged(getattr(op, "value", 0), 64)
+        if isinstance(op, CompareAndSwap):
+            return self._step(_library.tellwydar_node_compare_and_swap, register, _ranged(op.expected, 64), value)
+        return self._step(_library.tellwydar_node_call, _CALLS[type(op)], register, value)
+
+    def take(self, sender: int, frame: bytes) -> bytes:
+        """Takes a frame of another process, and gives the bytes by which the log grows."""
+        if not isinstance(frame, bytes):
+            raise TypeError("a frame is bytes")
+        return self._step(_library.tellwydar_node_take, _ranged(sender, 8), frame, len(frame))
+
+    def tick(self) -> bytes:
+        """Puts the first unacknowledged frames of every link again, and gives the bytes by which the log grows."""
+        return self._step(_library.tellwydar_node_tick)
+
+    def hear(self, other: int, count: int) -> None:
+        """Hears that another process accepted so many bodies from this one: its `accepted` of this one. If that is more
+        than were ever queued for it, this node's log was lost, and the node stops for good."""
+        self._told(self._asked(_library.tellwydar_node_hear, _ranged(other, 8), _ranged(count, 64)))
+
+    def mark_durable(self, count: int) -> None:
+        """Notes that so many entries of the log are durable, those that it was opened with among them."""
+        self._told(self._asked(_library.tellwydar_node_mark_durable, _ranged(count, 64)))
+
+    def hand_out(self) -> Optional[Output]:
+        """What goes out of the next step, if its entry is durable, else None."""
+        code = self._asked(_library.tellwydar_node_hand_out)
+        if code == _NOTHING_DUE:
+            return None
+        reply = _reply(code, lambda: self._look(6), lambda: self._look(7))
+        frames = _framed(self._room, lambda *given: self._asked(_library.tellwydar_node_frames, *given))
+        return Output(frames, reply)
+
+    @property
+    def logged(self) -> int:
+        """How many entries its log has."""
+        return self._look(8)
+
+    @property
+    def durable(self) -> int:
+        """How many of them it was told are durable."""
+        return self._look(9)
+
+    @property
+    def whole(self) -> int:
+        """How many bytes of the text that it was opened with are the log."""
+        return self._look(13)
+
+    @property
+    def is_stopped(self) -> bool:
+        """Whether it has stopped for good: its log was lost, or an entry had no text."""
+        return self._look(10) + self._look(11) > 0
+
+    @property
+    def has_heard_all(self) -> bool:
+        """Whether it has heard from all others, and so may cast."""
+        return self._look(12) != 0
+
+    @property
+    def busy(self) -> bool:
+        """Whether an operation runs."""
+        return self._look(4) != 0
+
+    @property
+    def pending(self) -> int:
+        """How many data frames are not acknowledged, over all links."""
+        return self._look(3)
+
+    def register(self, register: int) -> int:
+        """The value of a register in its copy."""
+        return self._look(5, _ranged(register, 16))
+
+    def known(self, peer: int) -> Known:
+        """What its process knows of another one."""
+        return Known(*(self._asked(_library.tellwydar_node_known, what, _ranged(peer, 8)) for what in range(4)))
+
+    def accepted(self, peer: int) -> int:
+        """How many bodies it accepted from another process, which that one is to hear when they meet."""
+        return self.known(peer).expected
