@@ -164,6 +164,55 @@ static void other_node(struct written *it) {
     tellwydar_node_free(it->node);
 }
 
+/* Makes durable what a node logged, and has the other one take all frames that it hands out. It gives the last reply's
+ * number, and its value. */
+static uint32_t carry(struct written *from, uint8_t sender, struct written *to, uint64_t *value) {
+    uint32_t replied = 0, code;
+    tellwydar_node_mark_durable(from->node, seen(from, TELLWYDAR_NODE_LOGGED));
+    while ((code = tellwydar_node_hand_out(from->node)) != TELLWYDAR_NOTHING_DUE) {
+        uint8_t room[128];
+        size_t length = 0;
+        if (code != TELLWYDAR_ACCEPTED) {
+            replied = code;
+            *value = seen(from, TELLWYDAR_OWN_REPLY_VALUE);
+        }
+        tellwydar_node_frames(from->node, room, sizeof room, &length);
+        for (size_t at = 0; at < length; at += 3 + (size_t)room[at + 2]) {
+            tellwydar_node_take(to->node, sender, room + at + 1, 2 + (size_t)room[at + 2]);
+            write_down(to);
+        }
+    }
+    return replied;
+}
+
+/* Two nodes meet; one writes, and the other one reads the value. */
+static void write_and_read(struct written *writer, struct written *reader) {
+    struct written *both[] = {writer, reader};
+    uint64_t value = 0;
+    for (uint8_t me = 0; me < 2; me++) {
+        struct tellwydar_log log = of_process(me);
+        struct written *it = both[me];
+        expect("a node", tellwydar_node_new(&it->node) == 0 && begun(&log, "x", it) == 0);
+        expect("that meets", reopened(it, it->length, 0) == 0 && tellwydar_node_hear(it->node, !me, 0) == 0);
+    }
+    expect("a write", tellwydar_node_call(writer->node, TELLWYDAR_WRITE, 0, 5) == 0 && write_down(writer) > 0);
+    expect("its cast", carry(writer, 0, reader, &value) == 0);
+    expect("is acknowledged", carry(reader, 1, writer, &value) == 0);
+    expect("and the write done", carry(writer, 0, reader, &value) == TELLWYDAR_DONE);
+    expect("a read", tellwydar_node_call(reader->node, TELLWYDAR_READ, 0, 0) == 0 && write_down(reader) > 0);
+    expect("its cast", carry(reader, 1, writer, &value) == 0);
+    expect("is acknowledged", carry(writer, 0, reader, &value) == 0);
+    expect("and it finds the value", carry(reader, 1, writer, &value) == TELLWYDAR_VALUE && value == 5);
+    for (uint8_t me = 0; me < 2; me++) {
+        struct written *it = both[me];
+        uint64_t logged = seen(it, TELLWYDAR_NODE_LOGGED);
+        expect("it is reopened", reopened(it, it->length, logged) == 0);
+        expect("after its log", seen(it, TELLWYDAR_NODE_LOGGED) == logged);
+        expect("with the value", seen(it, TELLWYDAR_OWN_REGISTER) == 5);
+        tellwydar_node_free(it->node);
+    }
+}
+
 int main(void) {
     struct written writer = {.node = NULL}, other = {.node = NULL};
     expect("a handle", tellwydar_node_new(&writer.node) == 0 && writer.node != NULL);
@@ -176,6 +225,7 @@ int main(void) {
     torn(&writer);
     tellwydar_node_free(writer.node);
     other_node(&other);
+    write_and_read(&writer, &other);
     printf("%d passed, %d failed\n", passed, failed);
     return failed != 0;
 }
