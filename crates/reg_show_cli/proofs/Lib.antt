@@ -2,3 +2,4 @@ pub mod Counted
 pub mod Flagged
 pub mod Telling
 pub mod Shortly
+pub mod Viewed

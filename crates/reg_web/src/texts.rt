@@ -1,6 +1,6 @@
 //! The functions that the host calls. Each works in the room that is lent to it, and leaves in it what it did not
 //! touch.
-ghost use Rattle.std.specs.Prelude.{◌≡◌};
+ghost use Rattle.std.specs.Prelude.{◌≡◌, false, true};
 ghost use Rattle.reg_commands.specs.Kinds.{kind_of as kind_of_text};
 ghost use Rattle.reg_commands.specs.Lent.{Fills};
 ghost use Rattle.reg_commands.specs.declared.command.Command.{Command};
