@@ -7,7 +7,7 @@ import { compareRuns, sentencesOf } from "../page/js/compare.js";
 import { kindOf } from "../playground/js/api.js";
 import { withFront, withSeed } from "../playground/js/texts.js";
 import { drawingOfTwo } from "./compare_drawing.mjs";
-import { made, TOP } from "./programs.mjs";
+import { made, NotBuilt, TOP } from "./programs.mjs";
 
 const USAGE = `Says where two runs differ.
 
@@ -95,7 +95,8 @@ try {
     process.exitCode = comparison.isSame ? 0 : 1;
   }
 } catch (fault) {
-  if (!(fault instanceof Refused) && !/^ERR_PARSE_ARGS/.test(fault.code || "")) throw fault;
+  const isTold = fault instanceof Refused || fault instanceof NotBuilt || /^ERR_PARSE_ARGS/.test(fault.code || "");
+  if (!isTold) throw fault;
   console.error(`tools/compare: ${fault.message}`);
   process.exitCode = 2;
 }

@@ -9,11 +9,14 @@ import { kindOf } from "../playground/js/api.js";
 
 export const TOP = dirname(dirname(fileURLToPath(import.meta.url)));
 
+/** A program that was looked for is nowhere. */
+export class NotBuilt extends Error {}
+
 /** Where a program is. */
 export function program(name) {
   const folders = [...process.env.PATH.split(":"), join(TOP, "crates", name, "out")];
   const found = folders.map(folder => join(folder, name)).find(existsSync);
-  if (!found) throw new Error(`${name} isn't built: tools/install, or (cd crates/${name} && rt run)`);
+  if (!found) throw new NotBuilt(`${name} isn't built: tools/install, or (cd crates/${name} && rt run)`);
   return found;
 }
 
