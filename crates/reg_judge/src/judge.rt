@@ -6,7 +6,7 @@ ghost use Rattle.reg_judge.specs.Judging.{AreBounds, HasPointOrder, IsDecided, I
 
 use crate::order::points_of;
 use crate::search::{Searched, go_through};
-use reg_checkers::{Entry, History, HistoryFault, Point, check_points, table_of};
+use reg_checkers::{CheckFault, Entry, History, HistoryFault, Point, check_points, table_of};
 use std::alloc::{AllocError, Allocator, Global};
 use thiserror::Error;
 
@@ -66,6 +66,7 @@ fn decide<A: Allocator + Copy>(
             let points = points_of(alloc, &rows, &search)?;
             match check_points(alloc, history, &points) {
                 Ok(()) => Ok(Decided::Order(points)),
+                Err(CheckFault::OutOfMemory) => Err(PointsFault::OutOfMemory),
                 Err(_) => Err(PointsFault::Unchecked),
             }
         }

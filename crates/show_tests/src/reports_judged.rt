@@ -1,6 +1,12 @@
 //! Reports judged by their histories alone: what is told of some that are worked out by hand. Their own orders and
 //! points are of no account.
+use crate::given::answer_of;
 use crate::histories_judged::{Row, gives};
+use refusing::{Trial, refusals};
+use reg_commands::run_command;
+use reg_rulings::JudgeReport;
+use std::alloc::{Allocator, Global};
+use std::test::Fail;
 
 /// Process 1 reads 1 once the write of 2 is done: the third answer is the first that no order explains. The report's
 /// own order has nothing, and its points are wrong.
@@ -208,4 +214,24 @@ fn reports_worked_by_hand_are_judged(rt: HostRuntime) {
     for row in &ROWS {
         assert!(rt; gives(&rt, row), "{} < {}", row.0, row.1);
     }
+}
+
+/// A report with a point order, judged.
+#[derive(Clone, Copy)]
+struct Judged;
+
+impl Trial for Judged {
+    fn answer<A: Allocator + Copy>(&self, alloc: A, ample: Global) -> Result<Option<String>, Fail> {
+        let mut reader = UNEQUAL.as_bytes();
+        let (mut output, mut errors) = (Vec::new(ample), Vec::new(ample));
+        let command = JudgeReport { as_report: true };
+        run_command(command, alloc, &mut reader, &mut output, &mut errors);
+        Ok(answer_of(ample, output, errors.as_slice()))
+    }
+}
+
+#[test]
+fn want_of_memory_is_told_of_a_report_that_is_judged(rt: HostRuntime) -> Result<(), Fail> {
+    assert!(rt; refusals(&Judged, rt.alloc())? > 3);
+    Ok(())
 }
