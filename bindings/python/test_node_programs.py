@@ -39,7 +39,7 @@ class Cluster:
             calls = []
             for k in range(CALLS):
                 op, register = words.choice(["read", "write", "swap", "cas"]), words.choice("xy")
-                expected = f" {words.choice([0, me * 100 + k - 1])}" if op == "cas" else ""
+                expected = f" {words.choice([0, max(me * 100 + k - 1, 0)])}" if op == "cas" else ""
                 calls.append(f"{op} {register}\n" if op == "read" else f"{op} {register}{expected} {me * 100 + k}\n")
             self.write(f"{me}.txt", "".join(calls))
 
