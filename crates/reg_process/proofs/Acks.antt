@@ -18,7 +18,7 @@ use Rattle.reg_process.specs.Bounds.{Good}
 use Rattle.reg_process.specs.Puts.{puts, put_to}
 use Rattle.reg_process.specs.Steps.{TakesAck}
 use Rattle.reg_process.proofs.Deliveries.{length-merged}
-use Rattle.reg_process.proofs.Sends.{grown_good, merged_set, merged_expected, merged_next}
+use Rattle.reg_process.proofs.Sending.{grown_good, merged_set, merged_expected, merged_next}
 
 pub clock_good : (p : Parts) → Good p → (k : ℕ) → p.clock < k → k ≤ LAST_TIME → Good (record p { clock = k })
 clock_good p good k up top = grown_good p good k p.outs up top (λ i. omega arith) refl

@@ -1,12 +1,12 @@
 -- What a tick puts again.
-use Rattle.std.proofs.Common.{◌≡◌, ◌≢◌, inl, inr, ℕ, zero, suc, ◌+◌, ◌<◌, ◌≤◌, List, [], ◌∷◌, ◌++◌, length, take, map, Option, Some, None, Result, Ok, Err, refl, sym, ap, ◌∙◌, arith, add-one, append_assoc, replicate}
+use Rattle.std.proofs.Common.{◌≡◌, ◌≢◌, inl, inr, Bool, true, false, ℕ, zero, suc, ◌+◌, ◌<◌, ◌≤◌, List, [], ◌∷◌, ◌++◌, length, take, map, Option, Some, None, Result, Ok, Err, refl, sym, ap, ◌∙◌, arith, add-one, append_assoc, replicate}
 use Rattle.std.proofs.lemmas.List.{length-replicate}
-use Rattle.std.specs.Prelude.{OnErr, cond, slice_get, slice_index_or, option_map}
-use Rattle.std.proofs.lemmas.Bool.{ne_eqb, cases_lt}
+use Rattle.std.specs.Prelude.{OnErr, ◌==◌, cond, slice_get, slice_index_or, option_map}
+use Rattle.std.proofs.lemmas.Bool.{eq-eqb, ne_eqb, cases_lt}
 use Rattle.reg_frames.specs.declared.bodies.Body.{Body}
 use Rattle.reg_frames.specs.declared.bodies.Frame.{Frame}
 use Rattle.reg_frames.specs.declared.bodies.Frame.TheVariants.{Numbered}
-use Rattle.reg_process.specs.Process.{numbered_from, resent}
+use Rattle.reg_process.specs.Process.{State, numbered_from, peer_at, resent}
 use Rattle.reg_base.specs.declared.limits.TheConstants.{MOST_RESENT, MOST_PROCESSES}
 use Rattle.reg_links.specs.Link.{Unacknowledged, next_of}
 use Rattle.reg_frames.specs.declared.puts.Put.{Put}
@@ -16,7 +16,7 @@ use Rattle.reg_holdback.specs.Waiting.{Waiting}
 use Rattle.reg_process.specs.Puts.{puts, put_to}
 use Rattle.reg_process.specs.Queued.{again_at, again_frames}
 use Rattle.reg_process.proofs.Deliveries.{length-merged}
-use Rattle.reg_process.proofs.Sends.{puts_same}
+use Rattle.reg_process.proofs.Sending.{puts_same}
 use Rattle.reg_process.proofs.Acks.{merged_out_at}
 
 one_more : (first i : ℕ) (xs : List Body) (b : Body) → slice_get xs i ≡ Some b → numbered_from first (take (suc i) xs) ≡ numbered_from first (take i xs) ++ Numbered (first + i) b ∷ []
@@ -107,9 +107,12 @@ pub on_err : {A E : Type 0} (r : Result A E) (P : Type 0) → P → OnErr r P
 on_err (Ok x) P p = tt
 on_err (Err e) P p = p
 
+pub resent_at : (p : Parts) → Good p → (r : ℕ) → again_frames p.me p.outs r ≡ resent (state_of p) r
+resent_at p good r = ap (again_at p.me r) (merged_out_at p.waiting.seen p.expected p.outs r good.ins good.out)
+
 pub again_is : (p : Parts) → Good p → puts (again_frames p.me p.outs) (length p.outs) ≡ puts (resent (state_of p)) (length (state_of p).peers)
 again_is p good =
-    puts_same (again_frames p.me p.outs) (resent (state_of p)) (length p.outs) (λ r. ap (again_at p.me r) (merged_out_at p.waiting.seen p.expected p.outs r good.ins good.out))
+    puts_same (again_frames p.me p.outs) (resent (state_of p)) (length p.outs) (resent_at p good)
     ∙ ap (puts (resent (state_of p))) (good.out ∙ sym (length-merged p.waiting.seen p.expected p.outs good.ins good.out))
 
 pub replicate_at : {X : Type 0} (n i : ℕ) (x : X) → slice_index_or (replicate n x) i x ≡ x
@@ -154,3 +157,73 @@ same_parts me processes registers clock w es os m c a b d f =
     ∙ ap (λ (x : List ℕ). record (first_parts me processes registers) { clock = clock; waiting = w; expected = x }) (sym b)
     ∙ ap (λ (x : List Unacknowledged). record (first_parts me processes registers) { clock = clock; waiting = w; expected = es; outs = x }) (sym d)
     ∙ ap (λ (x : List ℕ). record (first_parts me processes registers) { clock = clock; waiting = w; expected = es; outs = os; copy = x }) (sym f)
+
+-- a frame that is put again, by its place
+numbered_get : (first i : ℕ) (xs : List Body) → slice_get (numbered_from first xs) i ≡ option_map (λ b. Numbered (first + i) b) (slice_get xs i)
+numbered_get first i [] = refl
+numbered_get first zero (x ∷ xs) = let z : first ≡ first + 0 = omega arith in ap (λ k. Some (Numbered k x)) z
+numbered_get first (suc i) (x ∷ xs) = let z : first + 1 + i ≡ first + suc i = omega arith in numbered_get (first + 1) i xs ∙ ap (λ k. option_map (λ b. Numbered k b) (slice_get xs i)) z
+
+take_get : (n i : ℕ) (xs : List Body) → i < n → slice_get (take n xs) i ≡ slice_get xs i
+take_get zero i xs l = absurd (omega arith)
+take_get (suc n) i [] l = refl
+take_get (suc n) zero (x ∷ xs) l = refl
+take_get (suc n) (suc i) (x ∷ xs) l = take_get n i xs (omega arith)
+
+take_none : (n i : ℕ) (xs : List Body) → n ≤ i → slice_get (take n xs) i ≡ None
+take_none zero i xs l = refl
+take_none (suc n) i [] l = refl
+take_none (suc n) zero (x ∷ xs) l = absurd (omega arith)
+take_none (suc n) (suc i) (x ∷ xs) l = take_none n i xs (omega arith)
+
+pub again_get : (me to i : ℕ) (out : Unacknowledged) → (to ≡ me → ⊥) → i < MOST_RESENT → slice_get (again_at me to out) i ≡ option_map (λ b. Numbered (out.first + i) b) (slice_get out.pending i)
+again_get me to i out ne l =
+    ap (λ b. slice_get (cond b [] (numbered_from out.first (take MOST_RESENT out.pending))) i) (ne_eqb to me ne)
+    ∙ numbered_get out.first i (take MOST_RESENT out.pending)
+    ∙ ap (option_map (λ b. Numbered (out.first + i) b)) (take_get MOST_RESENT i out.pending l)
+
+-- none to oneself, none to no process, and none past the most
+pub again_own : (me to i : ℕ) (out : Unacknowledged) → to ≡ me → slice_get (again_at me to out) i ≡ None
+again_own me to i out e = ap (λ b. slice_get (cond b [] (numbered_from out.first (take MOST_RESENT out.pending))) i) (eq-eqb to me e)
+
+pub again_past : (me to i : ℕ) (out : Unacknowledged) → MOST_RESENT ≤ i → slice_get (again_at me to out) i ≡ None
+again_past me to i out l = go (to == me)
+  where
+    go : (b : Bool) → slice_get (cond b [] (numbered_from out.first (take MOST_RESENT out.pending))) i ≡ None
+    go true = refl
+    go false = numbered_get out.first i (take MOST_RESENT out.pending) ∙ ap (option_map (λ b. Numbered (out.first + i) b)) (take_none MOST_RESENT i out.pending l)
+
+pub again_nowhere : (me to i : ℕ) (outs : List Unacknowledged) → length outs ≤ to → slice_get (again_at me to (slice_index_or outs to nothing)) i ≡ None
+again_nowhere me to i outs l = ap (λ out. slice_get (again_at me to out) i) (beyond outs to l) ∙ go (to == me)
+  where
+    beyond : (outs : List Unacknowledged) (k : ℕ) → length outs ≤ k → slice_index_or outs k nothing ≡ nothing
+    beyond [] k l = refl
+    beyond (o ∷ outs) zero l = absurd (omega arith)
+    beyond (o ∷ outs) (suc k) l = beyond outs k (omega arith)
+
+    go : (b : Bool) → slice_get (cond b [] (numbered_from 0 (take MOST_RESENT []))) i ≡ None
+    go true = refl
+    go false = refl
+
+-- a tick puts at most so many frames again for a process
+pub resent_few : (s : State) (r n : ℕ) → MOST_RESENT ≤ n → take n (resent s r) ≡ resent s r
+resent_few s r n l = go (r == s.me)
+  where
+    few : (first k m : ℕ) (xs : List Body) → k ≤ m → take m (numbered_from first (take k xs)) ≡ numbered_from first (take k xs)
+    few first zero zero xs l = refl
+    few first zero (suc m) xs l = refl
+    few first (suc k) zero xs l = absurd (omega arith)
+    few first (suc k) (suc m) [] l = refl
+    few first (suc k) (suc m) (x ∷ xs) l = ap (λ t. Numbered first x ∷ t) (few (first + 1) k m xs (omega arith))
+
+    none_taken : (n : ℕ) (fs : List Frame) → length fs ≤ 0 → take n fs ≡ fs
+    none_taken zero [] l = refl
+    none_taken (suc n) [] l = refl
+    none_taken n (f ∷ fs) l = absurd (omega arith)
+
+    again : List Frame
+    again = numbered_from (peer_at s r).first (take MOST_RESENT (peer_at s r).pending)
+
+    go : (b : Bool) → take n (cond b [] again) ≡ cond b [] again
+    go true = none_taken n [] (omega arith)
+    go false = few (peer_at s r).first MOST_RESENT n (peer_at s r).pending l

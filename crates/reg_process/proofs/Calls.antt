@@ -28,7 +28,7 @@ use Rattle.reg_process.specs.declared.faults.ProcessFault.{ProcessFault}
 use Rattle.reg_process.specs.declared.faults.ProcessFault.TheVariants.{Failed, NoProcess, Busy, NoRegister, TooManyOperations, Ahead, Stale, ClockFull, OutOfMemory}
 use Rattle.reg_process.specs.Steps.{Stops, StopsAt, FrameRefused, is_peer, Goes, TakesBody, Delivers}
 use Rattle.reg_frames.specs.declared.puts.Put.{Put}
-use Rattle.reg_process.specs.Events.{Steps, Refused, process_fault}
+use Rattle.reg_process.specs.Events.{Steps, Briefs, Refused, process_fault}
 
 pub nothing_put : (n : ℕ) → puts no_frames n ≡ []
 nothing_put zero = refl
@@ -76,24 +76,24 @@ holds s op start frames cast ds reply s' e f m d r q = subst (λ st. Goes (lengt
   outcome = record { put = f ∙ sym (nothing_put (length s.peers)); made = m; casts = d; answer = r };
 })
 
-module _ (start : Op → ℕ → Start) (f : Bool) (s : State) (room room' : ℕ) (op : Op) (st : Start) (s' : State) (runs : f ≡ false) (early : None ≡ early_fault s op s.running) (is : st ≡ start op (unsettled s)) where
+module _ (start : Op → ℕ → Start) (f : Bool) (s : State) (room : ℕ) (op : Op) (st : Start) (s' : State) (runs : f ≡ false) (early : None ≡ early_fault s op s.running) (is : st ≡ start op (unsettled s)) where
   faults : process_fault start (record { failed = f; state = s; room = room }) (Call op) ≡ full_at s.clock st
   faults =
       ap (λ b. cond b (Some Failed) (call_fault start s op)) runs
       ∙ ap (λ o. first_of o (full_at s.clock (start op (unsettled s)))) (sym early)
       ∙ ap (full_at s.clock) (sym is)
 
-  pub call_steps : (frames : List Put) (cast : Option Stamp) (ds : List Delivered) (reply : Option Reply) → full_at s.clock st ≡ None → room' ≡ cond (is_cast st) 0 room → Goes (length s.peers) (called s op st) frames cast ds reply s' → Steps start (record { failed = f; state = s; room = room }) (Call op) frames cast ds reply (record { failed = f; state = s'; room = room' })
-  call_steps frames cast ds reply due left g =
+  pub call_briefs : (frames : List Put) (cast : Option Stamp) (ds : List Delivered) (reply : Option Reply) → full_at s.clock st ≡ None → Goes (length s.peers) (called s op st) frames cast ds reply s' → Briefs start (record { failed = f; state = s; room = room }) (Call op) frames cast ds reply (record { failed = f; state = s'; room = room })
+  call_briefs frames cast ds reply due g =
       let h : Goes (length s.peers) (called s op (start op (unsettled s))) frames cast ds reply s' = subst (λ x. Goes (length s.peers) (called s op x) frames cast ds reply s') is g in
       record {
         no_fault = faults ∙ due;
         state = (runs, h.state);
-        room = left ∙ ap (λ x. cond (is_cast x) 0 room) is;
+        room = refl;
         outcome = h.outcome;
       }
 
-  pub call_refused : (fault : ProcessFault) → StopsAt (full_at s.clock st) fault → Refused start (record { failed = f; state = s; room = room }) (Call op) fault (record { failed = true; state = s'; room = room' })
+  pub call_refused : (fault : ProcessFault) → StopsAt (full_at s.clock st) fault → Refused start (record { failed = f; state = s; room = room }) (Call op) fault (record { failed = true; state = s'; room = room })
   call_refused Failed h = absurd h
   call_refused NoProcess h = absurd h
   call_refused Busy h = absurd h
@@ -156,10 +156,6 @@ module _ (s : State) (from number expected : ℕ) (body : Body) (is : expected �
   pub next_memory : (room : ℕ) → number ≡ expected → body_memory s room from body ≡ true → takes_memory s room from (Numbered number body) ≡ true
   next_memory room same wants = ap (λ b. cond b (body_memory s room from body) (room == 0)) (eq-eqb number (peer_at s from).expected (same ∙ is)) ∙ wants
 
-  pub other_memory : (room : ℕ) → (number ≡ expected → ⊥) → room ≡ 0 → takes_memory s room from (Numbered number body) ≡ true
-  other_memory room other none =
-      ap (λ b. cond b (body_memory s room from body) (room == 0)) (ne_eqb number (peer_at s from).expected (λ q. other (q ∙ sym is))) ∙ eq-eqb room 0 none
-
   pub other_fault : (number ≡ expected → ⊥) → frame_fault s from (Numbered number body) ≡ None
   other_fault other = ap (λ b. cond b (first_of (early_body s from body) (full_by s body)) None) (ne_eqb number (peer_at s from).expected (λ q. other (q ∙ sym is)))
 
@@ -177,26 +173,6 @@ stopped OutOfMemory why full old new e h = e ∙ h
 pub stop_refused : {T : Type 0} (r : Result T ProcessFault) (why full : Option ProcessFault) (old new : State) → why ≡ full → IfErr r (λ f. StopsAt full f) → IfErr r (λ f. FrameRefused why old f new)
 stop_refused (Ok x) why full old new e h = tt
 stop_refused (Err f) why full old new e h = stopped f why full old new e h
-
-stops_then : {Q : Type 0} (fault : ProcessFault) (full : Option ProcessFault) → StopsAt full fault → is_stop fault ≡ false → Q
-stops_then Failed full h e = absurd h
-stops_then NoProcess full h e = absurd h
-stops_then Busy full h e = absurd h
-stops_then NoRegister full h e = absurd h
-stops_then TooManyOperations full h e = absurd h
-stops_then Ahead full h e = absurd h
-stops_then Stale full h e = absurd h
-stops_then ClockFull full h e = absurd (cc)
-stops_then OutOfMemory full h e = absurd (cc)
-
--- what goes out is said, and of a refusal that stops the process nothing
-pub list_left : {T P : Type 0} (Q : Type 0) (r : Result T ProcessFault) (full : Option ProcessFault) → IfErr r (λ f. StopsAt full f) → P → MatchResult r (λ _. P) (λ f. is_stop f ≡ false → Q)
-list_left Q (Ok x) full h p = p
-list_left Q (Err f) full h p = λ e. stops_then f full h e
-
-pub both_ok : {T E : Type 0} (r : Result T E) (P R Q : T → Type 0) → IfOk r P → IfOk r R → ((x : T) → P x → R x → Q x) → IfOk r Q
-both_ok (Ok x) P R Q a b f = f x a b
-both_ok (Err e) P R Q a b f = tt
 
 pub err_says : {T E P : Type 0} (r : Result T E) (e : E) → IsErrOf r e → IfErr r (λ _. P) → P
 err_says (Ok x) e is p = absurd cc
@@ -237,14 +213,14 @@ not_true true h = absurd (cc)
 not_true false h = refl
 
 module _ (start : Op → ℕ → Start) (f : Bool) (s : State) (room : ℕ) (from : ℕ) (frame : Frame) (runs : f ≡ false) where
-  module _ (peer : is_peer s from ≡ true) (s' : State) (room' : ℕ) where
+  module _ (peer : is_peer s from ≡ true) (s' : State) where
     take_faults : process_fault start (record { failed = f; state = s; room = room }) (Take from frame) ≡ frame_fault s from frame
     take_faults = ap (λ b. cond b (Some Failed) (take_fault s from frame)) runs ∙ ap (λ b. cond b (Some NoProcess) (frame_fault s from frame)) (not_true (nat_le (length s.peers) from || from == s.me) peer)
 
-    pub take_steps : (frames : List Put) (cast : Option Stamp) (ds : List Delivered) (reply : Option Reply) → frame_fault s from frame ≡ None → room' ≡ cond (is_numbered frame) 0 room → Goes (length s.peers) (taken s from frame) frames cast ds reply s' → Steps start (record { failed = f; state = s; room = room }) (Take from frame) frames cast ds reply (record { failed = f; state = s'; room = room' })
-    take_steps frames cast ds reply due left g = record {
+    pub take_briefs : (frames : List Put) (cast : Option Stamp) (ds : List Delivered) (reply : Option Reply) → frame_fault s from frame ≡ None → Goes (length s.peers) (taken s from frame) frames cast ds reply s' → Briefs start (record { failed = f; state = s; room = room }) (Take from frame) frames cast ds reply (record { failed = f; state = s'; room = room })
+    take_briefs frames cast ds reply due g = record {
       no_fault = take_faults ∙ due;
       state = (runs, g.state);
-      room = left;
+      room = refl;
       outcome = g.outcome;
     }

@@ -8,7 +8,7 @@ use Rattle.reg_process.specs.Bounds.{Good}
 use Rattle.reg_process.specs.Known.{known_of}
 use Rattle.reg_process.specs.declared.known.Known.{Known}
 use Rattle.reg_process.proofs.Acks.{merged_out_at}
-use Rattle.reg_process.proofs.Sends.{merged_next}
+use Rattle.reg_process.proofs.Sending.{merged_next}
 use Rattle.reg_process.specs.Process as process
 
 -- the four numbers, where the last two are those of the link

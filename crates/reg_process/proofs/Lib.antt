@@ -3,9 +3,10 @@ pub mod Pops
 pub mod Deliver
 pub mod Deliveries
 pub mod Queues
-pub mod Sends
+pub mod Sending
 pub mod Acks
 pub mod Calls
+pub mod Listing
 pub mod Again
 pub mod Pending
 pub mod Outs

@@ -9,10 +9,11 @@ use Rattle.reg_frames.specs.declared.bodies.Frame.TheVariants.{Numbered}
 use Rattle.reg_links.specs.Link.{Unacknowledged, next_of, with_queued, acknowledged}
 use Rattle.reg_links.specs.Sending.{Sending, link_to, next_all, IsQueued, IsCounted}
 use Rattle.reg_process.specs.Parts.{nothing}
-use Rattle.reg_process.specs.Queued.{out_to, outs_of, owed, frame_to, body_frames, sent_frames, all_frames, queued_at, queue_outs, again_at, IsGrown, IsNumbered, HasNumbers}
+use Rattle.reg_process.specs.Queued.{out_to, outs_of, body_frames, all_frames, queued_at, queue_outs, again_at, IsGrown, IsNumbered, HasNumbers}
 use Rattle.reg_process.specs.Process.{numbered_from}
 use Rattle.reg_base.specs.declared.limits.TheConstants.{FRAME_NUMBERS, MOST_RESENT}
 use Rattle.reg_process.specs.Puts.{puts}
+use Rattle.reg_process.specs.Sending.{owed, frame_to, sent_frames}
 use Rattle.reg_process.proofs.Queues.{all_queued, queued_grown, puts_below}
 use Rattle.reg_process.proofs.Again.{replicate_at}
 

@@ -12,7 +12,7 @@ use Rattle.reg_base.specs.Order.{stamp_at}
 use Rattle.reg_holdback.specs.Waiting.{receive_fault}
 use Rattle.reg_holdback.proofs.Casts.{no_fault}
 use Rattle.reg_process.proofs.Deliveries.{merged_seen}
-use Rattle.reg_process.proofs.Sends.{merged_next}
+use Rattle.reg_process.proofs.Sending.{merged_next}
 use Rattle.reg_process.specs.Parts.{Parts, state_of, merged, nothing}
 use Rattle.reg_process.specs.Bounds.{Good}
 use Rattle.reg_process.specs.Queued.{HasNumbers, pending_in}

@@ -1,5 +1,7 @@
 -- A body on all outboxes.
-use Rattle.std.proofs.Common.{◌≡◌, ℕ, zero, suc, ◌+◌, ◌<◌, ◌≤◌, Bool, true, false, List, [], ◌∷◌, ◌++◌, length, map, refl, ap, ◌∙◌, arith, length-append}
+use Rattle.std.proofs.Common.{◌≡◌, ℕ, zero, suc, ◌+◌, ◌<◌, ◌≤◌, Bool, true, false, List, [], ◌∷◌, ◌++◌, length, map, inl, inr, refl, ap, ◌∙◌, arith, length-append}
+use Rattle.std.proofs.lemmas.List.{length-map}
+use Rattle.std.proofs.lemmas.Bool.{cases_lt}
 use Rattle.std.specs.Prelude.{cond, ◌==◌, slice_index_or}
 use Rattle.reg_frames.specs.declared.bodies.Body.{Body}
 use Rattle.reg_links.specs.Link.{Unacknowledged, next_of, with_queued}
@@ -37,3 +39,18 @@ puts_below f g zero h = refl
 puts_below f g (suc n) h =
     ap (λ l. l ++ map (put_to n) (f n)) (puts_below f g n (λ r l. h r (omega arith)))
     ∙ ap (λ x. puts g n ++ map (put_to n) x) (h n (omega arith))
+
+-- the frames for one process more are put after all of those before
+pub puts_grow : (frames : ℕ → List Frame) (r n : ℕ) → r < n → length (puts frames r) + length (frames r) ≤ length (puts frames n)
+puts_grow frames r zero l = absurd (omega arith)
+puts_grow frames r (suc n) l =
+    let all = length-append (puts frames n) (map (put_to n) (frames n)) in
+    let each = length-map (frames n) (put_to n) in
+    elim (cases_lt r n) [
+      | inl less ↦ let before = puts_grow frames r n less in omega (arith, all, each, before)
+      | inr not_less ↦
+          let same : r ≡ n = omega (arith, l, not_less) in
+          let a = ap (λ k. length (puts frames k)) same in
+          let b = ap (λ k. length (frames k)) same in
+          omega (arith, all, each, a, b)
+    ]

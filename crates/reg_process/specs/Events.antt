@@ -48,6 +48,13 @@ pub record Steps (start : Op → ℕ → Start) (old : Kept) (e : Step) (frames 
   pub room : new.room ≡ (if uses_list start old.state e then 0 else old.room)
   pub outcome : IsOutcome (length old.state.peers) (step start old.state e).1 frames cast delivered reply
 
+-- an accepted event of which no frame is listed: the kept list stays
+pub record Briefs (start : Op → ℕ → Start) (old : Kept) (e : Step) (frames : List Put) (cast : Option Stamp) (delivered : List Delivered) (reply : Option Reply) (new : Kept) : Type 0 where
+  pub no_fault : process_fault start old e ≡ None
+  pub state : IsGoing new (step start old.state e).0
+  pub room : new.room ≡ old.room
+  pub outcome : IsOutcome (length old.state.peers) (step start old.state e).1 frames cast delivered reply
+
 -- a refused event: the process has stopped for good, or is unchanged
 abbrev pub Refused : (Op → ℕ → Start) → Kept → Step → ProcessFault → Kept → Type 0
 Refused start old e OutOfMemory new = (process_fault start old e ≡ None) × (new.failed ≡ true)

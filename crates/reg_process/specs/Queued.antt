@@ -4,7 +4,7 @@ use Rattle.std.specs.List.{range_with_len}
 use Rattle.reg_frames.specs.declared.bodies.Body.{Body}
 use Rattle.reg_frames.specs.declared.bodies.Frame.{Frame}
 use Rattle.reg_frames.specs.declared.bodies.Frame.TheVariants.{Numbered, Got}
-use Rattle.reg_process.specs.declared.puts.Sent.{Sent}
+use Rattle.reg_process.specs.Sending.{owed}
 use Rattle.reg_process.specs.Process.{numbered_from}
 use Rattle.reg_base.specs.declared.limits.TheConstants.{FRAME_NUMBERS, MOST_RESENT}
 use Rattle.reg_links.specs.Link.{Unacknowledged, next_of, with_queued}
@@ -19,21 +19,8 @@ out_to me s r = cond (r == me) nothing (link_to s r)
 unfoldable pub outs_of : ℕ → Sending → List Unacknowledged
 outs_of me s = map (out_to me s) (range_with_len 0 (length s.counts))
 
--- a count for one process, or none
-abbrev pub owed : Option (ℕ × ℕ) → ℕ → List Frame
-owed None r = []
-owed (Some got) r = cond (r == got.0) (Got got.1 ∷ []) []
-
 abbrev pub body_frames : ℕ → Body → ℕ → Unacknowledged → List Frame
 body_frames me body r out = cond (r == me) [] (Numbered (next_of out) body ∷ [])
-
--- the frame of a body for a process, where the body's number is known
-abbrev pub frame_to : ℕ → ℕ → Body → ℕ → List Frame
-frame_to me number body r = cond (r == me) [] (Numbered number body ∷ [])
-
--- the frames of a body and of the count that is owed
-abbrev pub sent_frames : Sent → ℕ → List Frame
-sent_frames s r = owed s.got r ++ frame_to s.me s.number s.body r
 
 -- the number is the next one on the link to every other process
 abbrev pub IsNumbered : ℕ → ℕ → Sending → Type 0

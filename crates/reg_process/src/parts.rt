@@ -1,16 +1,17 @@
 //! The parts of a process that has not failed.
-ghost use Rattle.std.specs.Prelude.{◌≡◌, ◌≢◌, ℕ, ◌<◌, ◌+◌, ◌≤◌, length, IfOk, OnErr, [], not, None, is_some};
+ghost use Rattle.std.specs.Prelude.{◌≡◌, ◌≢◌, ℕ, ◌<◌, ◌+◌, ◌≤◌, length, IfOk, OnErr, [], not, None, is_some, slice_get};
 ghost use Rattle.reg_process.specs.Process.{pending_of, peer_at, next_of, unsettled, resent};
 ghost use Rattle.reg_process.specs.Parts.{state_of, first_parts};
 ghost use Rattle.reg_process.specs.Puts.{puts};
+ghost use Rattle.reg_base.specs.declared.limits.TheConstants.{MOST_PROCESSES};
 
-use crate::outcomes::Outcome;
-use crate::puts::{new_inboxes, new_outboxes, pending_in, resend_all};
+use crate::outcomes::Effect;
+use crate::puts::{new_inboxes, new_outboxes, pending_in, resend_all, resend_at};
 use crate::running::Current;
 use crate::spare::Spare;
 use crate::steps::Reply;
 use reg_base::{Clock, Registers, Shape};
-use reg_frames::Put;
+use reg_frames::{Frame, Put};
 use reg_holdback::Holdback;
 use reg_links::{Inbox, Outboxes};
 use std::alloc::{AllocError, Allocator};
@@ -132,15 +133,28 @@ impl<A: Allocator + Copy> Core<A> {
         Ok(frames)
     }
 
-    /// What goes out of an event without a cast or a delivery.
-    pub(crate) fn quiet(&self, frames: Vec<Put, A>, reply: Option<Reply>) -> Outcome<A>
-        ensures put { result.frames.items ≡ frames.items }
+    /// How many processes there are.
+    pub(crate) fn processes(&self) -> u8
+        ensures value { result ≡ length self.now.peers }
+        ensures few { result ≤ MOST_PROCESSES }
+    {
+        self.inboxes.len() as u8
+    }
+
+    /// The frame at this place of those that a tick puts again for a process.
+    pub(crate) fn resend(&self, to: u8, place: u64) -> Option<Frame>
+        ensures { result ≡ slice_get (resent self.now to) place }
+    {
+        resend_at(&self.outboxes, to, self.me, place)
+    }
+
+    /// What goes out of an event without a cast or a delivery, its frames aside.
+    pub(crate) fn quiet(&self, reply: Option<Reply>) -> Effect<A>
         ensures made { result.cast ≡ None }
         ensures casts { result.delivered.items ≡ [] }
         ensures answer { result.reply ≡ reply }
     {
-        Outcome {
-            frames,
+        Effect {
             cast: None,
             delivered: Vec::new(self.alloc),
             reply,

@@ -1,19 +1,22 @@
 //! One process, with its stop.
-ghost use Rattle.std.specs.Prelude.{◌≡◌, ◌≢◌, ℕ, [], length, ◌<◌, ◌≤◌, MatchOption, MatchResult, IfOk, IfErr, option_map, is_some, max, false, true, IsErrOf, vec_capacity};
+ghost use Rattle.std.specs.Prelude.{◌≡◌, ◌≢◌, ℕ, [], length, ◌<◌, ◌≤◌, MatchOption, MatchResult, IfOk, IfErr, slice_get, option_map, is_some, max, false, true, IsErrOf, vec_capacity, if◌then◌else◌};
 ghost use Rattle.reg_process.specs.Process.{next_of, peer_at, pending_of, resent, unsettled};
 ghost use Rattle.reg_process.specs.Parts.{state_of, first_parts};
 ghost use Rattle.reg_process.specs.declared.steps.Step.TheVariants.{Call, Take, Tick};
-ghost use Rattle.reg_process.specs.Faults.{NewRefused, StepTakesMemory, is_cast, takes_memory};
-ghost use Rattle.reg_process.specs.Events.{Steps, Refused};
+ghost use Rattle.reg_process.specs.Faults.{NewRefused, StepTakesMemory, is_cast, is_numbered as is_numbered_of, takes_memory};
+ghost use Rattle.reg_process.specs.Events.{Steps, Briefs, Refused};
 ghost use Rattle.reg_process.specs.Known.{IsNoPeer, known_of};
 ghost use Rattle.reg_process.specs.Puts.{puts};
+ghost use Rattle.reg_process.specs.Sending.{puts_of, IsListed};
 ghost use Rattle.reg_process.specs.Waits.{running_of};
+ghost use Rattle.reg_base.specs.declared.limits.TheConstants.{MOST_PROCESSES};
 
 use crate::awaited::Awaited;
 use crate::faults::ProcessFault;
 use crate::known::Known;
-use crate::outcomes::Outcome;
+use crate::outcomes::{Brief, Effect, Outcome};
 use crate::parts::Core;
+use crate::puts::put_sends;
 use crate::spare::Spare;
 use crate::steps::Step;
 use crate::stops::is_stop;
@@ -61,6 +64,14 @@ impl<F: FrontEnd, A: Allocator + Copy> Process<F, A> {
             failed: false,
             front: PhantomData,
         })
+    }
+
+    /// How many processes there are, this one among them.
+    pub fn processes(&self) -> u8
+        ensures value { result ≡ length self.now.state.peers }
+        ensures few { result ≤ MOST_PROCESSES }
+    {
+        self.core.processes()
     }
 
     /// The time of the clock. On no link is the number of the next body above it.
@@ -141,6 +152,25 @@ impl<F: FrontEnd, A: Allocator + Copy> Process<F, A> {
         self.spare.keep(frames);
     }
 
+    /// The frame at this place, from 0, of those that a tick puts again for a process. None past the last.
+    pub fn resend(&self, to: u8, place: u64) -> Option<Frame>
+        ensures { result ≡ slice_get (resent self.now.state to) place }
+    {
+        self.core.resend(to, place)
+    }
+
+    /// What goes out of a tick, its frames aside, which `resend` gives: nothing. The process stays as it is. `Failed` is
+    /// the only fault, and it takes no memory.
+    pub fn tick_brief(&self) -> Result<Effect<A>, ProcessFault>
+        ensures ticked { MatchResult result (λ e. Briefs F.start self.now Tick (puts (resent self.now.state) (length self.now.state.peers)) e.cast e.delivered.items e.reply self.now) (λ fault. Refused F.start self.now Tick fault self.now) }
+        ensures memory { IfErr result (λ fault. fault ≡ ProcessFault.Failed) }
+    {
+        if self.failed {
+            return Err(ProcessFault::Failed);
+        }
+        Ok(self.core.quiet(None))
+    }
+
     /// Puts unacknowledged data frames again: on each link the first `limits::MOST_RESENT`. The process stays as it is.
     /// `Failed` and `OutOfMemory` are the only faults. It takes no memory where there is no such frame.
     pub fn tick(&mut self) -> Result<Outcome<A>, ProcessFault>
@@ -154,7 +184,7 @@ impl<F: FrontEnd, A: Allocator + Copy> Process<F, A> {
             self.failed = true;
             return Err(ProcessFault::OutOfMemory);
         };
-        Ok(self.core.quiet(frames, None))
+        Ok(outcome(frames, self.core.quiet(None)))
     }
 
     /// Takes a frame that another process put for it. A data frame out of turn is dropped and answered by the count of
@@ -163,11 +193,23 @@ impl<F: FrontEnd, A: Allocator + Copy> Process<F, A> {
     ///
     /// A count takes no memory. Where the kept list has room for the answer, neither does a dropped frame, nor an
     /// acknowledgement that makes no cast clear.
-    // (in line: it runs at each take, and a frame handed on by a call would be copied once more)
-    #[inline(always)]
     pub fn take(&mut self, from: u8, frame: &Frame) -> Result<Outcome<A>, ProcessFault>
         ensures taken { MatchResult result (λ o. Steps F.start self.old (Take from frame.now) o.frames.items o.cast o.delivered.items o.reply self.new) (λ fault. Refused F.start self.old (Take from frame.now) fault self.new) }
         ensures memory { IsErrOf result ProcessFault.OutOfMemory → takes_memory self.old.state self.old.room from frame.now ≡ true }
+    {
+        let brief = self.take_brief(from, frame)?;
+        let alloc = *brief.effect.delivered.allocator();
+        let list = self.list_for(alloc, is_numbered(frame));
+        self.tell(list, brief)
+    }
+
+    /// Takes a frame as `take` does, and tells what is put in short. No frame takes memory then: an acknowledgement does
+    /// where it makes a cast clear, and a cast.
+    // (in line: it runs at each take, and a frame handed on by a call would be copied once more)
+    #[inline(always)]
+    pub fn take_brief(&mut self, from: u8, frame: &Frame) -> Result<Brief<A>, ProcessFault>
+        ensures taken { MatchResult result (λ b. Briefs F.start self.old (Take from frame.now) (puts_of b.sends) b.effect.cast b.effect.delivered.items b.effect.reply self.new) (λ fault. Refused F.start self.old (Take from frame.now) fault self.new) }
+        ensures memory { IsErrOf result ProcessFault.OutOfMemory → takes_memory self.old.state 1 from frame.now ≡ true }
     {
         if self.failed {
             return Err(ProcessFault::Failed);
@@ -175,8 +217,8 @@ impl<F: FrontEnd, A: Allocator + Copy> Process<F, A> {
         if !self.core.is_peer(from) {
             return Err(ProcessFault::NoProcess);
         }
-        match self.core.take_frame(&mut self.spare, from, frame) {
-            Ok(outcome) => Ok(outcome),
+        match self.core.take_frame(from, frame) {
+            Ok(brief) => Ok(brief),
             Err(fault) => {
                 self.failed = is_stop(fault);
                 Err(fault)
@@ -190,6 +232,17 @@ impl<F: FrontEnd, A: Allocator + Copy> Process<F, A> {
         ensures called { MatchResult result (λ o. Steps F.start self.old (Call op) o.frames.items o.cast o.delivered.items o.reply self.new) (λ fault. Refused F.start self.old (Call op) fault self.new) }
         ensures memory { IsErrOf result ProcessFault.OutOfMemory → is_cast (F.start op (unsettled self.old.state)) ≡ true }
     {
+        let brief = self.call_brief(op)?;
+        let alloc = *brief.effect.delivered.allocator();
+        let list = self.list_for(alloc, brief.effect.cast.is_some());
+        self.tell(list, brief)
+    }
+
+    /// Calls its next operation as `call` does, and tells what is put in short.
+    pub fn call_brief(&mut self, op: Op) -> Result<Brief<A>, ProcessFault>
+        ensures called { MatchResult result (λ b. Briefs F.start self.old (Call op) (puts_of b.sends) b.effect.cast b.effect.delivered.items b.effect.reply self.new) (λ fault. Refused F.start self.old (Call op) fault self.new) }
+        ensures memory { IsErrOf result ProcessFault.OutOfMemory → is_cast (F.start op (unsettled self.old.state)) ≡ true }
+    {
         if self.failed {
             return Err(ProcessFault::Failed);
         }
@@ -197,8 +250,8 @@ impl<F: FrontEnd, A: Allocator + Copy> Process<F, A> {
             return Err(fault);
         }
         let start = F::start(&op, self.core.unsettled());
-        match self.core.begin(&mut self.spare, op, start) {
-            Ok(outcome) => Ok(outcome),
+        match self.core.begin(op, start) {
+            Ok(brief) => Ok(brief),
             Err(fault) => {
                 self.failed = true;
                 Err(fault)
@@ -206,9 +259,35 @@ impl<F: FrontEnd, A: Allocator + Copy> Process<F, A> {
         }
     }
 
+    /// An empty list for the frames of an event: the kept one where it uses that, which doesn't stay then.
+    fn list_for(&mut self, alloc: A, uses: bool) -> Vec<Put, A>
+        ensures empty { result.items ≡ [] }
+        ensures room { uses ≡ true → vec_capacity result ≡ self.old.room }
+        ensures left { self.new ≡ record self.old { room = if uses then 0 else self.old.room } }
+    {
+        if uses {
+            self.spare.take(alloc)
+        } else {
+            Vec::new(alloc)
+        }
+    }
+
+    /// Lists the frames of an event in an empty list. Where memory is refused the process stops.
+    fn tell(&mut self, list: Vec<Put, A>, brief: Brief<A>) -> Result<Outcome<A>, ProcessFault>
+        requires { list.items ≡ [] }
+        ensures told { IfOk result (λ o. IsListed (puts_of brief.sends) brief.effect.cast brief.effect.delivered.items brief.effect.reply o.frames.items o.cast o.delivered.items o.reply) }
+        ensures kept { MatchResult result (λ _. self.new ≡ self.old) (λ fault. (fault ≡ ProcessFault.OutOfMemory) × (self.new ≡ record self.old { failed = true })) }
+        ensures memory { IfErr result (λ _. vec_capacity list < length (puts_of brief.sends)) }
+    {
+        let mut frames = list;
+        let Ok(()) = put_sends(&mut frames, &brief.sends) else {
+            self.failed = true;
+            return Err(ProcessFault::OutOfMemory);
+        };
+        Ok(outcome(frames, brief.effect))
+    }
+
     /// Makes a step: a call, a take or a tick, with the faults of each. It takes memory where these do.
-    // (in line: it is made at each event, and an outcome handed back by a further call would be copied once more)
-    #[inline(always)]
     pub fn step(&mut self, step: &Step) -> Result<Outcome<A>, ProcessFault>
         ensures stepped { MatchResult result (λ o. Steps F.start self.old step.now o.frames.items o.cast o.delivered.items o.reply self.new) (λ fault. Refused F.start self.old step.now fault self.new) }
         ensures memory { IsErrOf result ProcessFault.OutOfMemory → StepTakesMemory F.start self.old.state self.old.room step.now }
@@ -218,5 +297,32 @@ impl<F: FrontEnd, A: Allocator + Copy> Process<F, A> {
             Step::Take { from, frame } => self.take(from, &frame),
             Step::Tick => self.tick(),
         }
+    }
+}
+
+/// Whether a frame carries a body: a count doesn't.
+fn is_numbered(frame: &Frame) -> bool
+    ensures { result ≡ is_numbered_of frame.now }
+{
+    match *frame {
+        Frame::Numbered { number: _, body: _ } => true,
+        Frame::Got { count: _ } => false,
+    }
+}
+
+/// What goes out of an event, from its frames and the rest.
+fn outcome<A: Allocator + Copy>(frames: Vec<Put, A>, effect: Effect<A>) -> Outcome<A>
+    ensures { IsListed frames.items effect.cast effect.delivered.items effect.reply result.frames.items result.cast result.delivered.items result.reply }
+{
+    let Effect {
+        cast,
+        delivered,
+        reply,
+    } = effect;
+    Outcome {
+        frames,
+        cast,
+        delivered,
+        reply,
     }
 }

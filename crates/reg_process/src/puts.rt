@@ -1,33 +1,27 @@
 //! Bodies queued for all other processes, and the frames put.
-ghost use Rattle.std.specs.Prelude.{◌≡◌, ◌≢◌, ◌<◌, ◌≤◌, ◌+◌, ◌++◌, ◌∷◌, [], length, map, replicate, IfOk, OnOk, OnErr, vec_capacity};
+ghost use Rattle.std.specs.Prelude.{◌≡◌, ◌≢◌, ◌<◌, ◌≤◌, ◌+◌, ◌++◌, ◌∷◌, [], length, map, replicate, IfOk, OnOk, OnErr, vec_capacity, slice_get, slice_index_or};
 ghost use Rattle.reg_links.specs.Sending.{link_to};
 ghost use Rattle.reg_base.specs.declared.limits.TheConstants.{FRAME_NUMBERS, MOST_PROCESSES};
 ghost use Rattle.reg_process.specs.Parts.{nothing};
-ghost use Rattle.reg_process.specs.Queued.{out_to, outs_of, owed, sent_frames, IsNumbered, all_frames, queue_outs, IsGrown, HasNumbers, pending_in as pending_in_all, again_at, again_frames};
+ghost use Rattle.reg_process.specs.Queued.{out_to, outs_of, IsNumbered, all_frames, queue_outs, IsGrown, HasNumbers, pending_in as pending_in_all, again_at, again_frames};
 ghost use Rattle.reg_process.specs.Puts.{put_to, puts};
+ghost use Rattle.reg_process.specs.Sending.{owed, sent_frames, puts_of};
 
+use crate::sends::{Sends, Sent};
 use reg_base::limits::MOST_RESENT;
 use reg_frames::{Body, Frame, Put};
 use reg_links::{Inbox, LinkFault, Outboxes};
 use std::alloc::{AllocError, Allocator};
 
-/// A body under its number, which goes to all processes but this one, and the count that is owed to one of them.
-#[derive(Clone, Copy)]
-struct Sent {
-    me: u8,
-    number: u64,
-    body: Body,
-    got: Option<(u8, u64)>,
-}
-
 /// Puts one frame. Memory can be refused only where the list has no room.
-pub fn put_frame<A: Allocator + Copy>(
+fn put_frame<A: Allocator + Copy>(
     frames: &mut Vec<Put, A>,
     to: u8,
     frame: Frame,
 ) -> Result<(), AllocError>
     ensures frames { OnOk result (frames.new.items ≡ frames.old.items ++ put_to to frame ∷ []) }
     ensures memory { OnErr result (vec_capacity frames.old ≤ length frames.old.items) }
+    ensures room { vec_capacity frames.old ≤ vec_capacity frames.new }
 {
     frames.push(Put { to, frame })?;
     Ok(())
@@ -39,7 +33,9 @@ fn put_got<A: Allocator + Copy>(
     to: u8,
     got: Option<(u8, u64)>,
 ) -> Result<(), AllocError>
-    ensures { OnOk result (frames.new.items ≡ frames.old.items ++ map (put_to to) (owed got to)) }
+    ensures frames { OnOk result (frames.new.items ≡ frames.old.items ++ map (put_to to) (owed got to)) }
+    ensures memory { OnErr result (vec_capacity frames.old < length frames.old.items + length (owed got to)) }
+    ensures room { vec_capacity frames.old ≤ vec_capacity frames.new }
 {
     match got {
         Some((peer, count)) if peer == to => put_frame(frames, to, Frame::Got { count }),
@@ -53,7 +49,9 @@ fn put_one<A: Allocator + Copy>(
     to: u8,
     sent: &Sent,
 ) -> Result<(), AllocError>
-    ensures { OnOk result (frames.new.items ≡ frames.old.items ++ map (put_to to) (sent_frames sent.now to)) }
+    ensures frames { OnOk result (frames.new.items ≡ frames.old.items ++ map (put_to to) (sent_frames sent.now to)) }
+    ensures memory { OnErr result (vec_capacity frames.old < length frames.old.items + length (sent_frames sent.now to)) }
+    ensures room { vec_capacity frames.old ≤ vec_capacity frames.new }
 {
     let Sent {
         me,
@@ -68,19 +66,37 @@ fn put_one<A: Allocator + Copy>(
     put_frame(frames, to, Frame::Numbered { number, body })
 }
 
-/// Puts a body, and the counts that are owed, for all other processes, by rising number.
+/// Puts a body, and the count that is owed, for all other processes, by rising number. Memory can be refused only where
+/// the list has not room for all.
 fn put_all<A: Allocator + Copy>(
     frames: &mut Vec<Put, A>,
     processes: u8,
     sent: &Sent,
 ) -> Result<(), AllocError>
     requires { frames.old.items ≡ [] }
-    ensures { OnOk result (frames.new.items ≡ puts (sent_frames sent.now) processes) }
+    ensures frames { OnOk result (frames.new.items ≡ puts (sent_frames sent.now) processes) }
+    ensures memory { OnErr result (vec_capacity frames.old < length (puts (sent_frames sent.now) processes)) }
 {
     for r in 0..processes {
         put_one(frames, r, sent)?;
     }
     Ok(())
+}
+
+/// Puts the frames of an event, in an empty list. Memory can be refused only where the list has not room for all.
+pub fn put_sends<A: Allocator + Copy>(
+    frames: &mut Vec<Put, A>,
+    sends: &Sends,
+) -> Result<(), AllocError>
+    requires { frames.old.items ≡ [] }
+    ensures frames { OnOk result (frames.new.items ≡ puts_of sends.now) }
+    ensures memory { OnErr result (vec_capacity frames.old < length (puts_of sends.now)) }
+{
+    match *sends {
+        Sends::Nothing => Ok(()),
+        Sends::Count { to, count } => put_frame(frames, to, Frame::Got { count }),
+        Sends::Broadcast { processes, sent } => put_all(frames, processes, &sent),
+    }
 }
 
 /// Queues a body for all other processes, where there are any, and gives its number.
@@ -107,39 +123,46 @@ fn queue_for_others<A: Allocator + Copy>(
     }
 }
 
-/// Queues a body for all other processes, and puts it in an empty list. Where memory is refused, the body may have been
-/// queued.
+/// Queues a body for all other processes, and tells what is put, in short. Where memory is refused, the body may have
+/// been queued.
 pub fn queue_on_all<A: Allocator + Copy>(
-    frames: &mut Vec<Put, A>,
     outboxes: &mut Outboxes<A>,
     me: u8,
     body: Body,
     got: Option<(u8, u64)>,
-) -> Result<(), AllocError>
-    requires empty { frames.old.items ≡ [] }
+) -> Result<Sends, AllocError>
     requires me { me < length (outs_of me outboxes.old) }
     requires few { length (outs_of me outboxes.old) ≤ MOST_PROCESSES }
     requires numbers { HasNumbers (outs_of me outboxes.old) }
-    ensures frames { OnOk result (frames.new.items ≡ puts (all_frames got me body (outs_of me outboxes.old)) (length (outs_of me outboxes.old))) }
+    ensures frames { IfOk result (λ sends. puts_of sends ≡ puts (all_frames got me body (outs_of me outboxes.old)) (length (outs_of me outboxes.old))) }
     ensures queued { OnOk result (outs_of me outboxes.new ≡ queue_outs 0 me body (outs_of me outboxes.old)) }
     ensures grown { IsGrown (outs_of me outboxes.old) (outs_of me outboxes.new) }
     ensures length { length (outs_of me outboxes.new) ≡ length (outs_of me outboxes.old) }
 {
-    let processes = outboxes.processes();
-    let count = processes.saturating_sub(1) + usize::from(got.is_some());
-    let Ok(()) = frames.reserve(count) else {
-        return Err(AllocError);
-    };
-    let Ok(number) = queue_for_others(outboxes, me, body) else {
-        return Err(AllocError);
-    };
+    let processes = outboxes.processes() as u8;
+    let number = queue_for_others(outboxes, me, body)?;
     let sent = Sent {
         me,
         number,
         body,
         got,
     };
-    put_all(frames, processes as u8, &sent)
+    Ok(Sends::Broadcast { processes, sent })
+}
+
+/// The frame at this place of those that are put again for a process: at most `limits::MOST_RESENT`.
+pub fn resend_at<A: Allocator + Copy>(
+    outboxes: &Outboxes<A>,
+    to: u8,
+    me: u8,
+    place: u64,
+) -> Option<Frame>
+    ensures { result ≡ slice_get (again_at me to (slice_index_or (outs_of me outboxes.now) to nothing)) place }
+{
+    if to == me || to as usize >= outboxes.processes() || place >= MOST_RESENT {
+        return None;
+    }
+    outboxes.resend(to, place)
 }
 
 /// Puts the first pending frames for a process again.

@@ -1,4 +1,4 @@
-pub mod Putting
+pub mod OnWires
 pub mod Sharing
 pub mod Packing
 pub mod run

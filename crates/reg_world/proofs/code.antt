@@ -11,6 +11,7 @@ pub mod Onward
 pub mod Ahead
 pub mod Answering
 pub mod Sending
+pub mod Briefly
 pub mod Merging
 pub mod Reading
 pub mod Noted

@@ -13,7 +13,7 @@ use reg_process::{Event, Reply, Step};
 use std::alloc::{AllocError, Allocator};
 
 /// Makes the step of an event. Where memory is refused the book hasn't changed.
-// (in line: it runs at each event, and an outcome handed back by a call would be copied once more)
+// (in line: it runs at each event, and what a call hands back would be copied once more)
 #[inline(always)]
 pub(crate) fn advance<F: FrontEnd, A: Allocator + Copy, W: WireStore<A>>(
     members: &mut Vec<Member<F, A, W>, A>,
@@ -28,15 +28,14 @@ pub(crate) fn advance<F: FrontEnd, A: Allocator + Copy, W: WireStore<A>>(
     ensures ahead { OnOk result (book.new.ahead ≡ drop 1 book.old.ahead) }
 {
     let member = &mut members[usize::from(process)];
-    let outcome = member.act(step)?;
+    let effect = member.act(step)?;
     let runs = member.process().busy();
-    book.enter(event, process, step, runs, &outcome)?;
-    member.reuse(outcome.frames);
-    Ok(outcome.reply)
+    book.enter(event, process, step, runs, &effect)?;
+    Ok(effect.reply)
 }
 
 /// Makes an event, or tells why it is refused.
-// (in line: it runs at each event, and an outcome handed back by a call would be copied once more)
+// (in line: it runs at each event, and what a call hands back would be copied once more)
 #[inline(always)]
 fn step_parts<F: FrontEnd, A: Allocator + Copy, W: WireStore<A>>(
     members: &mut Vec<Member<F, A, W>, A>,

@@ -14,7 +14,7 @@ use crate::order::{CopyRead, First};
 use crate::witnesses::{is_after, last_stamp};
 use reg_base::{Delivered, OpId, Shape, Stamp};
 use reg_checkers::{Entry, History};
-use reg_process::{Event, Outcome, Reply, Step};
+use reg_process::{Effect, Event, Reply, Step};
 use std::alloc::{AllocError, Allocator, Global};
 use std::marker::Model;
 
@@ -297,10 +297,10 @@ impl<A: Allocator + Copy> Book<A> {
         process: u8,
         step: &Step,
         runs: bool,
-        outcome: &Outcome<A>,
+        effect: &Effect<A>,
     ) -> Result<(), AllocError>
-        requires { MayEnter self.old process step.now runs outcome.now.cast outcome.now.delivered.items outcome.now.reply }
-        ensures { MatchResult result (λ _. self.new ≡ entered self.old event process step.now runs outcome.now.cast outcome.now.delivered.items outcome.now.reply) (λ _. self.new ≡ self.old) }
+        requires { MayEnter self.old process step.now runs effect.now.cast effect.now.delivered.items effect.now.reply }
+        ensures { MatchResult result (λ _. self.new ≡ entered self.old event process step.now runs effect.now.cast effect.now.delivered.items effect.now.reply) (λ _. self.new ≡ self.old) }
     {
         let at = self.accepted.len() as u32;
         reserve_all(
@@ -308,13 +308,13 @@ impl<A: Allocator + Copy> Book<A> {
             &mut self.history,
             &mut self.order,
             &mut self.reads,
-            outcome.delivered.len(),
+            effect.delivered.len(),
         )?;
-        let ids = enter_caller(&mut self.callers, process, step, runs, outcome.cast)?;
+        let ids = enter_caller(&mut self.callers, process, step, runs, effect.cast)?;
         push_call(&mut self.history, at, ids.called, step);
-        push_answer(&mut self.history, at, ids.answered, outcome.reply);
-        push_read(&mut self.reads, ids.answered, ids.is_copied, outcome.reply);
-        push_firsts(&mut self.order, &mut self.callers, at, &outcome.delivered);
+        push_answer(&mut self.history, at, ids.answered, effect.reply);
+        push_read(&mut self.reads, ids.answered, ids.is_copied, effect.reply);
+        push_firsts(&mut self.order, &mut self.callers, at, &effect.delivered);
         self.accepted.add(event);
         Ok(())
     }

@@ -13,6 +13,7 @@ pub mod laws;
 mod members;
 mod order;
 mod packed;
+mod putting;
 mod running;
 mod slices;
 mod stores;

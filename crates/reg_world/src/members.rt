@@ -1,18 +1,21 @@
 //! One process with its wires.
-ghost use Rattle.std.specs.Prelude.{◌≡◌, ◌≤◌, [], length, replicate, false, None, IfOk, slice_get, slice_index_or};
+ghost use Rattle.std.specs.Prelude.{◌≡◌, ◌<◌, ◌≤◌, [], length, replicate, false, Ok, IfOk, OnOk, IfErr, slice_get, slice_index_or};
 ghost use Rattle.reg_process.specs.Parts.{state_of, first_parts};
-ghost use Rattle.reg_process.specs.Faults.{step_fault};
-ghost use Rattle.reg_process.specs.Events.{Steps};
+ghost use Rattle.reg_process.specs.Sending.{puts_of};
+ghost use Rattle.reg_frames.specs.declared.puts.Put.{Put};
+ghost use Rattle.reg_base.specs.Order.{In};
+ghost use Rattle.reg_world.specs.Sent.{sent};
 ghost use Rattle.reg_base.specs.declared.limits.TheConstants.{MOST_PROCESSES};
 ghost use Rattle.reg_world.specs.Members.{MayAct, Acts, listed};
 ghost use Rattle.reg_world.specs.WorldParts.{first_standing};
 
+use crate::putting::{put_again, put_sends};
 use crate::slices::Wires;
 use crate::stores::WireStore;
 use reg_base::Shape;
 use reg_frames::Frame;
 use reg_front::FrontEnd;
-use reg_process::{Outcome, Process, ProcessFault, Put, Step};
+use reg_process::{Brief, Effect, Process, ProcessFault, Step};
 use std::alloc::{AllocError, Allocator};
 use std::marker::Model;
 
@@ -69,22 +72,40 @@ impl<F: FrontEnd, A: Allocator + Copy, W: WireStore<A>> Member<F, A, W> {
 
     /// Makes a step that no fault applies to, and puts its frames on their wires. It fails only where memory is
     /// refused; nothing is claimed of the member then.
-    // (in line: it runs at each event, and an outcome handed back by a call would be copied once more)
+    // (in line: it runs at each event, and what a call hands back would be copied once more)
     #[inline(always)]
-    pub(crate) fn act(&mut self, step: &Step) -> Result<Outcome<A>, AllocError>
+    pub(crate) fn act(&mut self, step: &Step) -> Result<Effect<A>, AllocError>
         requires { MayAct F.start self.old step.now }
         ensures { IfOk result (λ o. Acts F.start self.old step.now o.cast o.delivered.items o.reply self.new) }
     {
-        let outcome = act(&mut self.process, step)?;
-        self.wires.put_all(&outcome.frames)?;
-        Ok(outcome)
+        match *step {
+            Step::Call { op } => {
+                let brief = allocated(self.process.call_brief(op))?;
+                self.put(brief)
+            }
+            Step::Take { from, frame } => {
+                let brief = allocated(self.process.take_brief(from, &frame))?;
+                self.put(brief)
+            }
+            Step::Tick => {
+                let effect = allocated(self.process.tick_brief())?;
+                put_again(&mut self.wires, &self.process)?;
+                Ok(effect)
+            }
+        }
     }
 
-    /// Takes back the list of a step's frames for a later step. Nothing else changes.
-    pub(crate) fn reuse(&mut self, frames: Vec<Put, A>)
-        ensures { self.new ≡ self.old }
+    /// Puts the frames of a step that was made, and hands over the rest.
+    // (in line: it runs at each event, and what a call hands back would be copied once more)
+    #[inline(always)]
+    fn put(&mut self, brief: Brief<A>) -> Result<Effect<A>, AllocError>
+        requires { (p : Put) → In p (puts_of brief.sends) → p.to < length self.old.wires }
+        ensures put { OnOk result (self.new ≡ record self.old { wires = sent (puts_of brief.sends) self.old.wires }) }
+        ensures rest { IfOk result (λ o. (o.cast ≡ brief.effect.cast) × (o.delivered.items ≡ brief.effect.delivered.items) × (o.reply ≡ brief.effect.reply)) }
     {
-        self.process.reuse(frames);
+        let Brief { sends, effect } = brief;
+        put_sends(&mut self.wires, &sends)?;
+        Ok(effect)
     }
 }
 
@@ -97,21 +118,16 @@ impl<F: FrontEnd, A: Allocator + Copy> Member<F, A, Wires<A>> {
     }
 }
 
-/// Makes a step that no fault applies to.
-// (in line: it runs at each event, and an outcome handed back by a call would be copied once more)
+/// What a step gave to which no fault applies: memory alone can be refused.
+// (in line: it runs at each event, and what a call hands back would be copied once more)
 #[inline(always)]
-fn act<F: FrontEnd, A: Allocator + Copy>(
-    process: &mut Process<F, A>,
-    step: &Step,
-) -> Result<Outcome<A>, AllocError>
-    requires stands { process.old.failed ≡ false }
-    requires none { step_fault F.start process.old.state step.now ≡ None }
-    ensures { IfOk result (λ o. Steps F.start process.old step.now o.frames.items o.cast o.delivered.items o.reply process.new) }
+fn allocated<T>(given: Result<T, ProcessFault>) -> Result<T, AllocError>
+    requires { IfErr given (λ fault. fault ≡ ProcessFault.OutOfMemory) }
+    ensures { IfOk result (λ value. given ≡ Ok value) }
 {
-    match process.step(step) {
-        Ok(outcome) => Ok(outcome),
-        Err(ProcessFault::OutOfMemory) => Err(AllocError),
-        Err(_) => unreachable!(),
+    match given {
+        Ok(value) => Ok(value),
+        Err(_) => Err(AllocError),
     }
 }
 

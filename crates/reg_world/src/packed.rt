@@ -7,7 +7,7 @@ ghost use Rattle.reg_world.specs.Packed.{frame_of, IsKept, Says, Grows};
 use crate::stores::WireStore;
 use crate::strips::Strips;
 use crate::words::{FIRST_COUNT, MOST_SLOTS, Slot, Word};
-use reg_frames::{Body, Frame, Put};
+use reg_frames::{Body, Frame};
 use std::alloc::{AllocError, Allocator, Global};
 use std::marker::Model;
 
@@ -146,19 +146,6 @@ impl<A: Allocator + Copy> Model for PackedWires<A> {
     ghost invariant = { λ w. AreKept w.tables w.strips };
 }
 
-impl<A: Allocator + Copy> PackedWires<A> {
-    /// Puts a frame on its wire.
-    // (in line: it runs for each frame put or taken, and does little more than a call costs)
-    #[inline(always)]
-    fn put(&mut self, put: &Put) -> Result<(), AllocError>
-        requires { put.now.to < length self.old }
-        ensures { OnOk result (self.new ≡ slice_set self.old put.now.to (slice_index_or self.old put.now.to [] ++ put.now.frame ∷ [])) }
-    {
-        let slot = self.tables.slot(&put.frame)?;
-        self.strips.push(usize::from(put.to), Word::pack(slot))
-    }
-}
-
 impl<A: Allocator + Copy> WireStore<A> for PackedWires<A> {
     ghost wires = { λ w. w };
 
@@ -181,12 +168,10 @@ impl<A: Allocator + Copy> WireStore<A> for PackedWires<A> {
         }
     }
 
-    // (in line: it runs for each frame put or taken, and does little more than a call costs)
+    // (in line: it runs for each frame that is put, and does little more than a call costs)
     #[inline(always)]
-    fn put_all(&mut self, puts: &[Put]) -> Result<(), AllocError> {
-        for put in puts {
-            self.put(put)?;
-        }
-        Ok(())
+    fn put(&mut self, to: u8, frame: &Frame) -> Result<(), AllocError> {
+        let slot = self.tables.slot(frame)?;
+        self.strips.push(usize::from(to), Word::pack(slot))
     }
 }

@@ -1,9 +1,9 @@
 //! The wires of one process, with slices of its frames.
-ghost use Rattle.std.specs.Prelude.{◌≡◌, ◌<◌, ◌++◌, ◌∷◌, [], length, OnOk, slice_set, slice_index_or};
+ghost use Rattle.std.specs.Prelude.{◌≡◌, [], slice_index_or};
 
 use crate::stores::WireStore;
 use crate::strips::{Item, Strips};
-use reg_frames::{Frame, Put};
+use reg_frames::Frame;
 use std::alloc::{AllocError, Allocator, Global};
 use std::marker::Model;
 
@@ -39,16 +39,6 @@ impl<A: Allocator + Copy> Wires<A> {
     {
         self.strips.to(usize::from(to))
     }
-
-    /// Puts a frame on its wire.
-    // (in line: it runs for each frame that is put, and does little more than a call costs)
-    #[inline(always)]
-    fn put(&mut self, put: &Put) -> Result<(), AllocError>
-        requires { put.now.to < length self.old }
-        ensures { OnOk result (self.new ≡ slice_set self.old put.now.to (slice_index_or self.old put.now.to [] ++ put.now.frame ∷ [])) }
-    {
-        self.strips.push(usize::from(put.to), put.frame)
-    }
 }
 
 impl<A: Allocator + Copy> WireStore<A> for Wires<A> {
@@ -67,10 +57,9 @@ impl<A: Allocator + Copy> WireStore<A> for Wires<A> {
         self.strips.at(usize::from(to), number)
     }
 
-    fn put_all(&mut self, puts: &[Put]) -> Result<(), AllocError> {
-        for put in puts {
-            self.put(put)?;
-        }
-        Ok(())
+    // (in line: it runs for each frame that is put, and does little more than a call costs)
+    #[inline(always)]
+    fn put(&mut self, to: u8, frame: &Frame) -> Result<(), AllocError> {
+        self.strips.push(usize::from(to), *frame)
     }
 }

@@ -1,11 +1,8 @@
 //! What keeps the wires of one process.
-ghost use Rattle.std.specs.Prelude.{◌≡◌, ◌<◌, List, [], length, replicate, IfOk, OnOk, slice_get, slice_index_or};
-ghost use Rattle.reg_base.specs.Order.{In};
+ghost use Rattle.std.specs.Prelude.{◌≡◌, ◌<◌, ◌++◌, ◌∷◌, List, [], length, replicate, IfOk, OnOk, slice_get, slice_set, slice_index_or};
 ghost use Rattle.reg_frames.specs.declared.bodies.Frame.{Frame};
-ghost use Rattle.reg_frames.specs.declared.puts.Put.{Put};
-ghost use Rattle.reg_world.specs.Sent.{sent};
 
-use reg_frames::{Frame, Put};
+use reg_frames::Frame;
 use std::alloc::{AllocError, Allocator};
 
 /// All frames that a process ever put for each process.
@@ -25,8 +22,8 @@ pub trait WireStore<A: Allocator + Copy>: Drop {
     fn frame_at(&self, to: u8, number: u32) -> Option<Frame>
         ensures { result ≡ slice_get (slice_index_or (wires self.now) to []) number };
 
-    /// Puts the frames of an event on their wires. Where memory is refused nothing is claimed of the wires.
-    fn put_all(&mut self, puts: &[Put]) -> Result<(), AllocError>
-        requires { (p : Put) → In p puts.now → p.to < length (wires self.old) }
-        ensures { OnOk result (wires self.new ≡ sent puts.now (wires self.old)) };
+    /// Puts a frame for a process. Where memory is refused nothing is claimed of the wires.
+    fn put(&mut self, to: u8, frame: &Frame) -> Result<(), AllocError>
+        requires { to < length (wires self.old) }
+        ensures { OnOk result (wires self.new ≡ slice_set (wires self.old) to (slice_index_or (wires self.old) to [] ++ frame.now ∷ [])) };
 }

@@ -4,6 +4,7 @@ ghost use Rattle.reg_base.specs.Memory.{after, register_of};
 ghost use Rattle.reg_process.specs.Process.{unsettled, look as look_of, called, Held};
 ghost use Rattle.reg_process.specs.Steps.{Stops, StopsAt, Goes, cast_start, own_running, MakesCast};
 ghost use Rattle.reg_process.specs.Faults.{early_fault, full_at, is_cast};
+ghost use Rattle.reg_process.specs.Sending.{puts_of};
 ghost use Rattle.reg_front.specs.Fronts.{MayStart};
 ghost use Rattle.reg_frames.specs.declared.bodies.Body.TheVariants.{Cast};
 ghost use Rattle.reg_base.specs.declared.limits.TheConstants.{LAST_TIME, MOST_OPERATIONS};
@@ -11,14 +12,14 @@ ghost use Rattle.reg_base.specs.declared.memory.Answer.TheVariants.{Done};
 
 use super::Core;
 use crate::faults::ProcessFault;
-use crate::outcomes::Outcome;
+use crate::outcomes::Brief;
 use crate::puts::queue_on_all;
 use crate::running::Current;
-use crate::spare::Spare;
+use crate::sends::Sends;
 use crate::steps::Reply;
 use reg_base::limits::MOST_OPERATIONS;
 use reg_base::{Answer, Op, Stamp};
-use reg_frames::{Body, Put};
+use reg_frames::Body;
 use reg_front::Start;
 use std::alloc::Allocator;
 
@@ -65,38 +66,32 @@ impl<A: Allocator + Copy> Core<A> {
         None
     }
 
-    /// Starts an operation. One that is cast puts its frames into the spare list.
-    pub(crate) fn begin(
-        &mut self,
-        spare: &mut Spare<A>,
-        op: Op,
-        start: Start,
-    ) -> Result<Outcome<A>, ProcessFault>
+    /// Starts an operation.
+    pub(crate) fn begin(&mut self, op: Op, start: Start) -> Result<Brief<A>, ProcessFault>
         requires register { register_of op < length self.old.copy }
         requires calls { self.old.calls < MOST_OPERATIONS }
         requires may { MayStart op (unsettled self.old) start }
-        ensures goes { IfOk result (λ o. Goes (length self.old.peers) (called self.old op start) o.frames.items o.cast o.delivered.items o.reply self.new) }
+        ensures goes { IfOk result (λ b. Goes (length self.old.peers) (called self.old op start) (puts_of b.sends) b.effect.cast b.effect.delivered.items b.effect.reply self.new) }
         ensures room { OnOk result (full_at self.old.clock start ≡ None) }
         ensures fault { IfErr result (λ fault. StopsAt (full_at self.old.clock start) fault) }
         ensures memory { IfErr result (λ _. is_cast start ≡ true) }
-        ensures list { OnOk result (spare.new ≡ (if is_cast start then 0 else spare.old)) }
     {
         match start {
-            Start::Cast => {
-                let list = spare.take(self.alloc);
-                self.broadcast(list, op, true)
-            }
-            Start::CastAndAnswer => {
-                let list = spare.take(self.alloc);
-                self.broadcast(list, op, false)
-            }
+            Start::Cast => self.broadcast(op, true),
+            Start::CastAndAnswer => self.broadcast(op, false),
             Start::Look => {
                 let reply = self.look(op);
-                Ok(self.quiet(Vec::new(self.alloc), Some(reply)))
+                Ok(Brief {
+                    sends: Sends::Nothing,
+                    effect: self.quiet(Some(reply)),
+                })
             }
             Start::Hold => {
                 self.hold(op);
-                Ok(self.quiet(Vec::new(self.alloc), None))
+                Ok(Brief {
+                    sends: Sends::Nothing,
+                    effect: self.quiet(None),
+                })
             }
         }
     }
@@ -128,33 +123,26 @@ impl<A: Allocator + Copy> Core<A> {
         }
     }
 
-    /// Casts an operation with its frames in an empty list, and delivers what is clear.
-    fn broadcast(
-        &mut self,
-        mut frames: Vec<Put, A>,
-        op: Op,
-        runs: bool,
-    ) -> Result<Outcome<A>, ProcessFault>
-        requires empty { frames.items ≡ [] }
+    /// Casts an operation, and delivers what is clear.
+    fn broadcast(&mut self, op: Op, runs: bool) -> Result<Brief<A>, ProcessFault>
         requires register { register_of op < length self.old.copy }
         requires calls { self.old.calls < MOST_OPERATIONS }
-        ensures goes { IfOk result (λ o. Goes (length self.old.peers) (called self.old op (cast_start runs)) o.frames.items o.cast o.delivered.items o.reply self.new) }
+        ensures goes { IfOk result (λ b. Goes (length self.old.peers) (called self.old op (cast_start runs)) (puts_of b.sends) b.effect.cast b.effect.delivered.items b.effect.reply self.new) }
         ensures room { OnOk result (self.old.clock < LAST_TIME) }
         ensures fault { IfErr result (λ fault. Stops (nat_le LAST_TIME self.old.clock) fault) }
     {
         let place = self.delivered_count();
-        let stamp = self.cast(&mut frames, op, runs)?;
-        let mut outcome = self.finish(frames, Some(stamp))?;
-        outcome.reply = reply_to(runs, outcome.reply, place);
-        Ok(outcome)
+        let (stamp, sends) = self.cast(op, runs)?;
+        let mut effect = self.finish(Some(stamp))?;
+        effect.reply = reply_to(runs, effect.reply, place);
+        Ok(Brief { sends, effect })
     }
 
-    /// Makes an own cast, which the operation may run for, with its frames in an empty list.
-    fn cast(&mut self, frames: &mut Vec<Put, A>, op: Op, runs: bool) -> Result<Stamp, ProcessFault>
-        requires empty { frames.old.items ≡ [] }
+    /// Makes an own cast, which the operation may run for: its stamp, and what is put.
+    fn cast(&mut self, op: Op, runs: bool) -> Result<(Stamp, Sends), ProcessFault>
         requires register { register_of op < length self.old.copy }
         requires calls { self.old.calls < MOST_OPERATIONS }
-        ensures { MatchResult result (λ stamp. MakesCast self.old op runs stamp frames.new.items self.new) (λ fault. Stops (nat_le LAST_TIME self.old.clock) fault) }
+        ensures { MatchResult result (λ made. MakesCast self.old op runs made.0 (puts_of made.1) self.new) (λ fault. Stops (nat_le LAST_TIME self.old.clock) fault) }
     {
         let Ok(time) = self.clock.tick() else {
             return Err(ProcessFault::ClockFull);
@@ -164,7 +152,7 @@ impl<A: Allocator + Copy> Core<A> {
             process: self.me,
         };
         let body = Body::Cast { time, op };
-        let Ok(()) = queue_on_all(frames, &mut self.outboxes, self.me, body, None) else {
+        let Ok(sends) = queue_on_all(&mut self.outboxes, self.me, body, None) else {
             return Err(ProcessFault::OutOfMemory);
         };
         let Ok(()) = self.waiting.cast(stamp, op) else {
@@ -173,6 +161,6 @@ impl<A: Allocator + Copy> Core<A> {
         self.unsettled += 1;
         self.calls += 1;
         self.running = own(runs, stamp, op);
-        Ok(stamp)
+        Ok((stamp, sends))
     }
 }

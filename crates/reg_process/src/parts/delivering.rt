@@ -10,11 +10,10 @@ ghost use Rattle.reg_process.specs.Steps.{DeliversOne, DeliversNone, Delivers};
 use super::Core;
 use crate::awaited::Awaited;
 use crate::faults::ProcessFault;
-use crate::outcomes::Outcome;
+use crate::outcomes::Effect;
 use crate::running::Current;
 use crate::steps::Reply;
 use reg_base::{Delivered, Registers, Stamp};
-use reg_frames::Put;
 use std::alloc::{AllocError, Allocator};
 
 /// Applies a cast, and answers the running operation where this is due. `left` own casts stay held.
@@ -109,13 +108,9 @@ impl<A: Allocator + Copy> Core<A> {
         Ok(reply)
     }
 
-    /// Delivers all clear casts in an event that has put these frames and made this cast.
-    pub(crate) fn finish(
-        &mut self,
-        frames: Vec<Put, A>,
-        cast: Option<Stamp>,
-    ) -> Result<Outcome<A>, ProcessFault>
-        ensures put { IfOk result (λ o. (o.frames.items ≡ frames.items) × (o.cast ≡ cast)) }
+    /// Delivers all clear casts in an event that has made this cast.
+    pub(crate) fn finish(&mut self, cast: Option<Stamp>) -> Result<Effect<A>, ProcessFault>
+        ensures made { IfOk result (λ o. o.cast ≡ cast) }
         ensures done { IfOk result (λ o. Delivers self.old o.delivered.items o.reply self.new) }
         ensures fault { IfErr result (λ fault. fault ≡ ProcessFault.OutOfMemory) }
         ensures memory { IfErr result (λ _. clear_casts self.old ≢ []) }
@@ -124,8 +119,7 @@ impl<A: Allocator + Copy> Core<A> {
         let Ok(reply) = self.deliver(&mut delivered) else {
             return Err(ProcessFault::OutOfMemory);
         };
-        Ok(Outcome {
-            frames,
+        Ok(Effect {
             cast,
             delivered,
             reply,

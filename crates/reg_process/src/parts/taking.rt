@@ -3,7 +3,8 @@ ghost use Rattle.std.specs.Prelude.{◌≡◌, ◌<◌, ◌+◌, [], length, Mat
 ghost use Rattle.reg_base.specs.Memory.{after, register_of};
 ghost use Rattle.reg_process.specs.Process.{peer_at, seen_at, next_of, acknowledged, accepted, taken, time_of};
 ghost use Rattle.reg_process.specs.Steps.{Stops, StopsAt, is_peer as is_peer_of, FrameRefused, Goes, TakesCast, TakesAck, TakesBody};
-ghost use Rattle.reg_process.specs.Faults.{early_body, full_by, is_out as is_out_of, frame_fault, is_numbered, takes_memory, body_memory, is_stop};
+ghost use Rattle.reg_process.specs.Faults.{early_body, full_by, is_out as is_out_of, frame_fault, takes_memory, body_memory};
+ghost use Rattle.reg_process.specs.Sending.{puts_of};
 ghost use Rattle.reg_frames.specs.declared.bodies.Body.TheVariants.{Cast, Ack};
 ghost use Rattle.reg_frames.specs.declared.bodies.Frame.TheVariants.{Numbered, Got};
 ghost use Rattle.reg_base.specs.declared.limits.TheConstants.{LAST_TIME, FRAME_NUMBERS};
@@ -11,11 +12,11 @@ ghost use Rattle.reg_holdback.specs.Waiting.{receive_fault, received};
 
 use super::Core;
 use crate::faults::ProcessFault;
-use crate::outcomes::Outcome;
-use crate::puts::{put_frame, queue_on_all};
-use crate::spare::Spare;
+use crate::outcomes::Brief;
+use crate::puts::queue_on_all;
+use crate::sends::Sends;
 use reg_base::{Op, Stamp};
-use reg_frames::{Body, Frame, Put};
+use reg_frames::{Body, Frame};
 use reg_holdback::{HoldFault, Holdback};
 use reg_links::Inbox;
 use std::alloc::{AllocError, Allocator};
@@ -86,34 +87,28 @@ impl<A: Allocator + Copy> Core<A> {
         self.inboxes[from as usize].expected()
     }
 
-    /// Takes a frame. An answer to one with a body is put into the spare list.
+    /// Takes a frame.
     // (in line: it runs at each take, and a frame handed on by a call would be copied once more)
     #[inline(always)]
-    pub(crate) fn take_frame(
-        &mut self,
-        spare: &mut Spare<A>,
-        from: u8,
-        frame: &Frame,
-    ) -> Result<Outcome<A>, ProcessFault>
+    pub(crate) fn take_frame(&mut self, from: u8, frame: &Frame) -> Result<Brief<A>, ProcessFault>
         requires peer { from < length self.old.peers }
         requires other { from ≡ self.old.me → ⊥ }
-        ensures goes { IfOk result (λ o. Goes (length self.old.peers) (taken self.old from frame.now) o.frames.items o.cast o.delivered.items o.reply self.new) }
+        ensures goes { IfOk result (λ b. Goes (length self.old.peers) (taken self.old from frame.now) (puts_of b.sends) b.effect.cast b.effect.delivered.items b.effect.reply self.new) }
         ensures room { OnOk result (frame_fault self.old from frame.now ≡ None) }
         ensures fault { IfErr result (λ fault. FrameRefused (frame_fault self.old from frame.now) self.old fault self.new) }
-        ensures memory { IsErrOf result ProcessFault.OutOfMemory → takes_memory self.old spare.old from frame.now ≡ true }
-        ensures list { MatchResult result (λ _. spare.new ≡ (if is_numbered frame.now then 0 else spare.old)) (λ fault. is_stop fault ≡ false → spare.new ≡ spare.old) }
+        ensures memory { IsErrOf result ProcessFault.OutOfMemory → takes_memory self.old 1 from frame.now ≡ true }
     {
         match *frame {
-            Frame::Numbered { number, body } => self.take_body(spare, from, number, body),
+            Frame::Numbered { number, body } => self.take_body(from, number, body),
             Frame::Got { count } => self.take_got(from, count),
         }
     }
 
     /// Takes a count.
-    fn take_got(&mut self, from: u8, count: u64) -> Result<Outcome<A>, ProcessFault>
+    fn take_got(&mut self, from: u8, count: u64) -> Result<Brief<A>, ProcessFault>
         requires peer { from < length self.old.peers }
         requires other { from ≡ self.old.me → ⊥ }
-        ensures goes { IfOk result (λ o. Goes (length self.old.peers) (taken self.old from (Got count)) o.frames.items o.cast o.delivered.items o.reply self.new) }
+        ensures goes { IfOk result (λ b. Goes (length self.old.peers) (taken self.old from (Got count)) (puts_of b.sends) b.effect.cast b.effect.delivered.items b.effect.reply self.new) }
         ensures room { OnOk result (frame_fault self.old from (Got count) ≡ None) }
         ensures fault { IfErr result (λ fault. FrameRefused (frame_fault self.old from (Got count)) self.old fault self.new) }
         ensures ahead { IfErr result (λ fault. fault ≡ ProcessFault.Ahead) }
@@ -121,7 +116,10 @@ impl<A: Allocator + Copy> Core<A> {
         if !self.acknowledge(from, count) {
             return Err(ProcessFault::Ahead);
         }
-        Ok(self.quiet(Vec::new(self.alloc), None))
+        Ok(Brief {
+            sends: Sends::Nothing,
+            effect: self.quiet(None),
+        })
     }
 
     /// Drops what a process has accepted. False where the count is above what was queued.
@@ -137,34 +135,28 @@ impl<A: Allocator + Copy> Core<A> {
     /// Takes a data frame.
     // (in line: it runs at each take, and a frame handed on by a call would be copied once more)
     #[inline(always)]
-    fn take_body(
-        &mut self,
-        spare: &mut Spare<A>,
-        from: u8,
-        number: u64,
-        body: Body,
-    ) -> Result<Outcome<A>, ProcessFault>
+    fn take_body(&mut self, from: u8, number: u64, body: Body) -> Result<Brief<A>, ProcessFault>
         requires peer { from < length self.old.peers }
         requires other { from ≡ self.old.me → ⊥ }
-        ensures goes { IfOk result (λ o. Goes (length self.old.peers) (taken self.old from (Numbered number body)) o.frames.items o.cast o.delivered.items o.reply self.new) }
+        ensures goes { IfOk result (λ b. Goes (length self.old.peers) (taken self.old from (Numbered number body)) (puts_of b.sends) b.effect.cast b.effect.delivered.items b.effect.reply self.new) }
         ensures room { OnOk result (frame_fault self.old from (Numbered number body) ≡ None) }
         ensures fault { IfErr result (λ fault. FrameRefused (frame_fault self.old from (Numbered number body)) self.old fault self.new) }
-        ensures memory { IsErrOf result ProcessFault.OutOfMemory → takes_memory self.old spare.old from (Numbered number body) ≡ true }
-        ensures list { MatchResult result (λ _. spare.new ≡ 0) (λ fault. is_stop fault ≡ false → spare.new ≡ spare.old) }
+        ensures memory { IsErrOf result ProcessFault.OutOfMemory → takes_memory self.old 1 from (Numbered number body) ≡ true }
     {
         let expected = self.expected(from);
         if number != expected {
-            let mut frames = spare.take(self.alloc);
-            let Ok(()) = put_frame(&mut frames, from, Frame::Got { count: expected }) else {
-                return Err(ProcessFault::OutOfMemory);
-            };
-            return Ok(self.quiet(frames, None));
+            return Ok(Brief {
+                sends: Sends::Count {
+                    to: from,
+                    count: expected,
+                },
+                effect: self.quiet(None),
+            });
         }
         if let Some(fault) = self.refuses_body(from, &body) {
             return Err(fault);
         }
-        let list = spare.take(self.alloc);
-        self.accept(list, from, body)
+        self.accept(from, body)
     }
 
     /// Whether a body's cast names no register.
@@ -196,60 +188,42 @@ impl<A: Allocator + Copy> Core<A> {
         None
     }
 
-    /// Accepts an expected body, answers it in an empty list, and delivers what is clear.
-    fn accept(
-        &mut self,
-        mut frames: Vec<Put, A>,
-        from: u8,
-        body: Body,
-    ) -> Result<Outcome<A>, ProcessFault>
-        requires empty { frames.items ≡ [] }
+    /// Accepts an expected body, and delivers what is clear.
+    fn accept(&mut self, from: u8, body: Body) -> Result<Brief<A>, ProcessFault>
         requires peer { from < length self.old.peers }
         requires other { from ≡ self.old.me → ⊥ }
         requires early { early_body self.old from body ≡ None }
-        ensures goes { IfOk result (λ o. Goes (length self.old.peers) (accepted self.old from body) o.frames.items o.cast o.delivered.items o.reply self.new) }
+        ensures goes { IfOk result (λ b. Goes (length self.old.peers) (accepted self.old from body) (puts_of b.sends) b.effect.cast b.effect.delivered.items b.effect.reply self.new) }
         ensures room { OnOk result (full_by self.old body ≡ None) }
         ensures fault { IfErr result (λ fault. StopsAt (full_by self.old body) fault) }
-        ensures memory { IsErrOf result ProcessFault.OutOfMemory → body_memory self.old (vec_capacity frames) from body ≡ true }
+        ensures memory { IsErrOf result ProcessFault.OutOfMemory → body_memory self.old 1 from body ≡ true }
     {
-        self.accept_body(&mut frames, from, body)?;
-        self.finish(frames, None)
+        let sends = self.accept_body(from, body)?;
+        let effect = self.finish(None)?;
+        Ok(Brief { sends, effect })
     }
 
-    /// Accepts an expected body, and answers it in an empty list.
-    fn accept_body(
-        &mut self,
-        frames: &mut Vec<Put, A>,
-        from: u8,
-        body: Body,
-    ) -> Result<(), ProcessFault>
-        requires empty { frames.old.items ≡ [] }
+    /// Accepts an expected body, and tells what is put.
+    fn accept_body(&mut self, from: u8, body: Body) -> Result<Sends, ProcessFault>
         requires peer { from < length self.old.peers }
         requires other { from ≡ self.old.me → ⊥ }
         requires early { early_body self.old from body ≡ None }
-        ensures taken { MatchResult result (λ _. TakesBody self.old from body frames.new.items self.new) (λ fault. StopsAt (full_by self.old body) fault) }
-        ensures memory { IsErrOf result ProcessFault.OutOfMemory → body_memory self.old (vec_capacity frames.old) from body ≡ true }
+        ensures taken { MatchResult result (λ sends. TakesBody self.old from body (puts_of sends) self.new) (λ fault. StopsAt (full_by self.old body) fault) }
+        ensures memory { IsErrOf result ProcessFault.OutOfMemory → body_memory self.old 1 from body ≡ true }
     {
         match body {
-            Body::Cast { time, op } => self.accept_cast(frames, from, time, op),
-            Body::Ack { time } => self.accept_ack(frames, from, time),
+            Body::Cast { time, op } => self.accept_cast(from, time, op),
+            Body::Ack { time } => self.accept_ack(from, time),
         }
     }
 
     /// Takes in a cast of another process, and acknowledges it to all.
-    fn accept_cast(
-        &mut self,
-        frames: &mut Vec<Put, A>,
-        from: u8,
-        time: u64,
-        op: Op,
-    ) -> Result<(), ProcessFault>
-        requires empty { frames.old.items ≡ [] }
+    fn accept_cast(&mut self, from: u8, time: u64, op: Op) -> Result<Sends, ProcessFault>
         requires peer { from < length self.old.peers }
         requires other { from ≡ self.old.me → ⊥ }
         requires register { register_of op < length self.old.copy }
         requires fresh { seen_at self.old from < time }
-        ensures { MatchResult result (λ _. TakesCast self.old from time op frames.new.items self.new) (λ fault. Stops (nat_le LAST_TIME (max self.old.clock time)) fault) }
+        ensures { MatchResult result (λ sends. TakesCast self.old from time op (puts_of sends) self.new) (λ fault. Stops (nat_le LAST_TIME (max self.old.clock time)) fault) }
     {
         let Ok(now) = self.clock.receive(time) else {
             return Err(ProcessFault::ClockFull);
@@ -257,7 +231,7 @@ impl<A: Allocator + Copy> Core<A> {
         let count = self.inboxes[from as usize].expected() + 1;
         let ack = Body::Ack { time: now };
         let got = Some((from, count));
-        let Ok(()) = queue_on_all(frames, &mut self.outboxes, self.me, ack, got) else {
+        let Ok(sends) = queue_on_all(&mut self.outboxes, self.me, ack, got) else {
             return Err(ProcessFault::OutOfMemory);
         };
         let stamp = Stamp {
@@ -268,36 +242,27 @@ impl<A: Allocator + Copy> Core<A> {
             return Err(ProcessFault::OutOfMemory);
         };
         expect_next(&mut self.inboxes, from, Body::Cast { time, op });
-        Ok(())
+        Ok(sends)
     }
 
-    /// Takes in an acknowledgement of another process.
-    fn accept_ack(
-        &mut self,
-        frames: &mut Vec<Put, A>,
-        from: u8,
-        time: u64,
-    ) -> Result<(), ProcessFault>
-        requires empty { frames.old.items ≡ [] }
+    /// Takes in an acknowledgement of another process. It takes no memory.
+    fn accept_ack(&mut self, from: u8, time: u64) -> Result<Sends, ProcessFault>
         requires peer { from < length self.old.peers }
         requires other { from ≡ self.old.me → ⊥ }
         requires fresh { seen_at self.old from < time }
-        ensures taken { MatchResult result (λ _. TakesAck self.old from time frames.new.items self.new) (λ fault. Stops (nat_le LAST_TIME (max self.old.clock time)) fault) }
-        ensures memory { IsErrOf result ProcessFault.OutOfMemory → vec_capacity frames.old ≡ 0 }
+        ensures taken { MatchResult result (λ sends. TakesAck self.old from time (puts_of sends) self.new) (λ fault. Stops (nat_le LAST_TIME (max self.old.clock time)) fault) }
+        ensures memory { IfErr result (λ fault. fault ≡ ProcessFault.ClockFull) }
     {
         let Ok(_) = self.clock.receive(time) else {
             return Err(ProcessFault::ClockFull);
         };
         let count = self.inboxes[from as usize].expected() + 1;
-        let Ok(()) = put_frame(frames, from, Frame::Got { count }) else {
-            return Err(ProcessFault::OutOfMemory);
-        };
         let stamp = Stamp {
             time,
             process: from,
         };
         hear(&mut self.waiting, stamp);
         expect_next(&mut self.inboxes, from, Body::Ack { time });
-        Ok(())
+        Ok(Sends::Count { to: from, count })
     }
 }

@@ -6,6 +6,7 @@ use Rattle.std.proofs.lemmas.List.{append_assoc, drop_more, take_at, take-append
 use Rattle.reg_base.specs.declared.stamps.Stamp.{Stamp}
 use Rattle.reg_base.specs.declared.stamps.Delivered.{Delivered}
 use Rattle.reg_base.specs.Order.{In}
+use Rattle.reg_world.proofs.lists.Members.{in_drop}
 use Rattle.reg_checkers.specs.declared.entries.Entry.{Entry}
 use Rattle.reg_checkers.specs.declared.faults.HistoryFault.{HistoryFault}
 use Rattle.reg_checkers.specs.declared.faults.HistoryFault.TheVariants.{OutOfPlace, OutOfMemory}
@@ -21,7 +22,6 @@ use Rattle.reg_process.specs.declared.steps.Reply.{Reply}
 use Rattle.reg_world.specs.World.{op_id, calls_in, answers_in}
 use Rattle.reg_world.specs.Pages.{Pages, calls_after, entries_after, first_in, firsts_in, tally_at, TimesDiffer}
 use Rattle.reg_world.proofs.lists.Bodies.{place_last, place_first, place_within}
-use Rattle.reg_world.proofs.Putting.{in_drop}
 use Rattle.reg_world.proofs.code.Noted.{at_index}
 
 pub not_refused : (h : Log) (e : Entry) (fault : HistoryFault) → 1 ≤ h.room → IsHistory h.shape.processes h.shape.registers (h.entries ++ e ∷ []) → Refuses h e fault → ⊥

@@ -1,5 +1,5 @@
 -- Members of lists, and induction from the end.
-use Rattle.std.proofs.Common.{ℕ, ◌≡◌, suc, List, [], ◌∷◌, ◌++◌, map, Some, ap, sym, subst, inl, inr, refl, append_assoc}
+use Rattle.std.proofs.Common.{ℕ, ◌≡◌, zero, suc, ◌<◌, List, [], ◌∷◌, ◌++◌, map, Some, length, drop, get_or, ap, sym, subst, inl, inr, refl, arith, append_assoc}
 use Rattle.std.proofs.lemmas.List.{append-nil}
 use Rattle.reg_base.specs.Order.{In}
 use Rattle.reg_checkers.specs.History.{IsAt}
@@ -33,3 +33,8 @@ pub map_in : {X Y : Type 0} (f : X → Y) (y : Y) (xs : List X) → In y (map f 
 map_in f y [] h = absurd h
 map_in f y (x ∷ xs) (inl e) = (x, inl refl, e)
 map_in f y (x ∷ xs) (inr h) = let r = map_in f y xs h in (r.0, inr r.1, r.2)
+
+pub in_drop : {X : Type 0} (i : ℕ) (xs : List X) (x d : X) → i < length xs → x ≡ get_or xs i d → In x xs
+in_drop i [] x d l e = absurd (omega arith)
+in_drop zero (y ∷ xs) x d l e = inl e
+in_drop (suc i) (y ∷ xs) x d l e = inr (in_drop i xs x d (omega arith) e)

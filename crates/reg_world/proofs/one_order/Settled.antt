@@ -34,7 +34,7 @@ use Rattle.reg_world.specs.World.{move_of, whole}
 use Rattle.reg_world.proofs.one_order.NodeLaws.{inv_of}
 use Rattle.reg_world.proofs.run.Along.{along}
 use Rattle.reg_process.proofs.Deliver.{any_finds, count_cons}
-use Rattle.reg_process.proofs.Sends.{count_insert}
+use Rattle.reg_process.proofs.Sending.{count_insert}
 
 -- what runs has its cast among the held, or waits for one
 abbrev pub Runs : State → Option Running → Type 0

@@ -4,7 +4,7 @@ use Rattle.reg_process.specs.Process.{State, peer_at}
 use Rattle.reg_process.specs.Parts.{Parts}
 use Rattle.reg_process.specs.Queued.{outs_of}
 use Rattle.reg_process.proofs.Deliveries.{length-merged}
-use Rattle.reg_process.proofs.Sends.{merged_expected}
+use Rattle.reg_process.proofs.Sending.{merged_expected}
 use Rattle.reg_process.proofs.parts.Core.expected.Goals as goal
 
 pub index-requires : goal.index-requires

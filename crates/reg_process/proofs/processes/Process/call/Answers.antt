@@ -1,15 +1,11 @@
-use Rattle.std.proofs.Common.{true, ap, subst, ◌∙◌}
-use Rattle.reg_process.specs.declared.steps.Step.TheVariants.{Call}
-use Rattle.reg_process.specs.Events.{Kept, Steps, Refused}
-use Rattle.reg_process.proofs.Calls.{call_steps, call_refused}
+use Rattle.std.specs.Prelude.{vec_capacity}
+use Rattle.reg_process.specs.Process.{unsettled}
+use Rattle.reg_process.specs.Sending.{puts_of}
+use Rattle.reg_process.proofs.Calls.{err_says}
+use Rattle.reg_process.proofs.Listing.{call_memory}
 use Rattle.reg_process.proofs.processes.Process.call.Goals as goal
 
-pub returns-in-Ok-clause-called : goal.returns-in-Ok-clause-called
-returns-in-Ok-clause-called g c =
-    subst (λ (k : Kept). Steps g.F.FrontEnd.start k (Call c.args.op) c.in-Ok.outcome.frames.items c.in-Ok.outcome.cast c.in-Ok.outcome.delivered.items c.in-Ok.outcome.reply (record { failed = c.self.inside.failed; state = c.begin.new.self; room = c.begin.new.spare })) c.self.view_is
-    (call_steps g.F.FrontEnd.start c.self.inside.failed c.self.inside.core c.self.inside.spare c.begin.new.spare c.args.op c.start-start.result c.begin.new.self c.if-self.false c.in_default.ensures (c.start-start.ensures ∙ ap (g.F.FrontEnd.start c.args.op) c.unsettled.ensures) c.in-Ok.outcome.frames.items c.in-Ok.outcome.cast c.in-Ok.outcome.delivered.items c.in-Ok.outcome.reply c.in-Ok.ensures.room c.in-Ok.ensures.list c.in-Ok.ensures.goes)
-
-pub returns-in-Err-clause-called : goal.returns-in-Err-clause-called
-returns-in-Err-clause-called g c =
-    subst (λ (k : Kept). Refused g.F.FrontEnd.start k (Call c.args.op) c.in-Err.fault (record { failed = true; state = c.begin.new.self; room = c.begin.new.spare })) c.self.view_is
-    (call_refused g.F.FrontEnd.start c.self.inside.failed c.self.inside.core c.self.inside.spare c.begin.new.spare c.args.op c.start-start.result c.begin.new.self c.if-self.false c.in_default.ensures (c.start-start.ensures ∙ ap (g.F.FrontEnd.start c.args.op) c.unsettled.ensures) c.in-Err.fault c.in-Err.ensures.fault)
+pub returns-clause-memory : goal.returns-clause-memory
+returns-clause-memory g c = λ said.
+    let s = c.args.self.now.state in
+    call_memory s c.args.op (g.F.FrontEnd.start c.args.op (unsettled s)) (vec_capacity c.list_for-list.result) (puts_of c.in_ok-brief.brief.sends) c.in_ok-brief.ensures.called.outcome.put (err_says c.tell.result _ said c.tell.ensures.memory)

@@ -1,13 +1,13 @@
-use Rattle.std.proofs.Common.{rules, sym, subst, ◌∙◌}
-use Rattle.reg_process.specs.declared.steps.Step.TheVariants.{Take}
-use Rattle.reg_process.specs.Events.{Kept, Steps}
-use Rattle.reg_process.proofs.Calls.{take_steps}
+use Rattle.std.proofs.Common.{◌∙◌}
+use Rattle.std.specs.Prelude.{vec_capacity}
+use Rattle.reg_process.specs.Sending.{puts_of}
+use Rattle.reg_process.proofs.Calls.{err_says}
+use Rattle.reg_process.proofs.Listing.{take_memory, taken_within}
 use Rattle.reg_process.proofs.processes.Process.take.Goals as goal
 
-pub returns-in-Ok-clause-taken : goal.returns-in-Ok-clause-taken
-returns-in-Ok-clause-taken g c =
-    subst (λ (k : Kept). Steps g.F.FrontEnd.start k (Take c.args.from c.args.frame.now) c.in-Ok.outcome.frames.items c.in-Ok.outcome.cast c.in-Ok.outcome.delivered.items c.in-Ok.outcome.reply (record { failed = c.self.inside.failed; state = c.take_frame.new.self; room = c.take_frame.new.spare })) c.self.view_is
-    (take_steps g.F.FrontEnd.start c.self.inside.failed c.self.inside.core c.self.inside.spare c.args.from c.args.frame.now c.if-self.false (sym c.is_peer.ensures ∙ c.if-not-is_peer.false) c.take_frame.new.self c.take_frame.new.spare c.in-Ok.outcome.frames.items c.in-Ok.outcome.cast c.in-Ok.outcome.delivered.items c.in-Ok.outcome.reply c.in-Ok.ensures.room c.in-Ok.ensures.list c.in-Ok.ensures.goes)
-
-pub returns-in-Err-clause-taken : goal.returns-in-Err-clause-taken
-returns-in-Err-clause-taken g c = search rules
+pub returns-clause-memory : goal.returns-clause-memory
+returns-clause-memory g c = λ said.
+    let old = c.args.self.now in
+    let b = c.in_ok-brief.ensures.taken in
+    take_memory old.state old.room (vec_capacity c.list_for-list.result) c.args.from c.args.frame.now (puts_of c.in_ok-brief.brief.sends)
+    (taken_within g.F.FrontEnd.start old c.args.from c.args.frame.now b.no_fault) b.outcome.put (λ numbered. c.list_for-list.ensures.room (c.is_numbered.ensures ∙ numbered) ∙ b.room) (err_says c.tell.result _ said c.tell.ensures.memory)

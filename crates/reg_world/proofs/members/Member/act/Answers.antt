@@ -1,17 +1,37 @@
-use Rattle.std.proofs.Common.{◌∙◌, List, length, subst, ap, arith}
-use Rattle.reg_frames.specs.declared.puts.Put.{Put}
-use Rattle.reg_base.specs.Order.{In}
-use Rattle.reg_process.specs.Process.{step}
-use Rattle.reg_world.specs.Members.{Standing}
-use Rattle.reg_world.proofs.code.Sending.{puts_within}
+use Rattle.std.proofs.Common.{sym, subst, ◌∙◌}
+use Rattle.reg_process.specs.Sending.{puts_of}
+use Rattle.reg_process.specs.Events.{Kept, Briefs, Refused}
+use Rattle.reg_world.specs.Members.{MayAct, Acts}
+use Rattle.std.specs.Prelude.{IfOk, MatchResult}
+use Rattle.reg_process.specs.declared.steps.Step.{Step}
+use Rattle.reg_process.specs.declared.steps.Step.TheVariants.{Call, Take}
+use Rattle.reg_world.proofs.code.Briefly.{brief_is, only_memory, frames_within, acted}
 use Rattle.reg_world.proofs.members.Member.act.Goals as goal
 
-pub put_all-requires : goal.put_all-requires
-put_all-requires g c = λ p i.
-    let s = c.self.inside.process.state in
-    let there = subst (λ (l : List Put). In p l) (c.deref.ensures.value ∙ c.in_ok-outcome.ensures.outcome.put) i in
-    let l = puts_within (step g.F.FrontEnd.start s c.args.step.now).1.frames (length s.peers) p there in
-    let size = c.requires.wires in
-    let wires = ap (λ (x : Standing). length x.wires) c.self.view_is in
-    let peers = ap (λ (x : Standing). length x.state.peers) c.self.view_is in
-    omega (arith, l, size, wires, peers)
+pub allocated-requires : goal.allocated-requires
+allocated-requires g c =
+    let may = subst (λ (e : Step). MayAct g.F.FrontEnd.start c.args.self.now e) c.in-Call.is c.requires in
+    only_memory g.F.FrontEnd.start c.self.inside.process (g.W.WireStore.wires c.self.inside.wires) c.args.self.now (Call c.in-Call.op) c.self.view_is may c.call_brief.result _ c.call_brief.new.self c.call_brief.ensures.called
+
+pub put-requires : goal.put-requires
+put-requires g c =
+    let may = subst (λ (e : Step). MayAct g.F.FrontEnd.start c.args.self.now e) c.in-Call.is c.requires in
+    let b = c.in_ok-brief-in-Call.brief in
+    let made = brief_is c.call_brief.result b _ _ c.in_ok-brief-in-Call.ensures c.call_brief.ensures.called in
+    frames_within g.F.FrontEnd.start c.self.inside.process (g.W.WireStore.wires c.self.inside.wires) c.args.self.now (Call c.in-Call.op) c.self.view_is may (puts_of b.sends) b.effect.cast b.effect.delivered.items b.effect.reply c.call_brief.new.self made
+
+pub put-requires-in-Take : goal.put-requires-in-Take
+put-requires-in-Take g c =
+    let may = subst (λ (e : Step). MayAct g.F.FrontEnd.start c.args.self.now e) c.in-Take.is c.requires in
+    let b = c.in_ok-brief-in-Take.brief in
+    let made = brief_is c.take_brief.result b _ _ c.in_ok-brief-in-Take.ensures c.take_brief.ensures.taken in
+    frames_within g.F.FrontEnd.start c.self-in-Take.inside.process (g.W.WireStore.wires c.self-in-Take.inside.wires) c.args.self.now (Take c.in-Take.from c.in-Take.frame) c.self-in-Take.view_is may (puts_of b.sends) b.effect.cast b.effect.delivered.items b.effect.reply c.take_brief.new.self made
+
+pub returns-in_ok-brief-in-Call : goal.returns-in_ok-brief-in-Call
+returns-in_ok-brief-in-Call g c =
+    let may = subst (λ (e : Step). MayAct g.F.FrontEnd.start c.args.self.now e) c.in-Call.is c.requires in
+    let b = c.in_ok-brief-in-Call.brief in
+    let made = brief_is c.call_brief.result b _ _ c.in_ok-brief-in-Call.ensures c.call_brief.ensures.called in
+    subst (λ (e : Step). IfOk c.put.result (λ o. Acts g.F.FrontEnd.start c.args.self.now e o.cast o.delivered.items o.reply c.put.new.self)) (sym c.in-Call.is)
+    (acted g.F.FrontEnd.start c.self.inside.process (g.W.WireStore.wires c.self.inside.wires) c.args.self.now (Call c.in-Call.op) c.self.view_is may (puts_of b.sends) b.effect.cast b.effect.delivered.items b.effect.reply c.call_brief.new.self made
+    c.put.result (λ o. o.cast) (λ o. o.delivered.items) (λ o. o.reply) c.put.new.self c.put.ensures.put c.put.ensures.rest)

@@ -5,7 +5,7 @@ use Rattle.reg_frames.specs.declared.bodies.Frame.{Frame}
 use Rattle.reg_world.specs.declared.words.Slot.{Slot}
 use Rattle.reg_world.specs.Packed.{frame_of, IsKept, Says, frames_on}
 use Rattle.reg_world.proofs.Packing.{all_kept, put_on_one, after_push}
-use Rattle.reg_world.proofs.packed.PackedWires.put.Goals as goal
+use Rattle.reg_world.proofs.packed.PackedWiresWireStore.put.Goals as goal
 
 pub push-requires : goal.push-requires
 push-requires g c =
@@ -26,9 +26,9 @@ returns g c =
     let old = c.self.inside.tables in
     let new = c.slot.new.self in
     let strips = c.self.inside.strips in
-    let r = c.args.put.now.to in
+    let r = c.args.to in
     let slot = c.pack.result in
-    let f = c.args.put.now.frame in
+    let f = c.args.frame.now in
     let from : c.from.result ≡ r = c.from.ensures in
     let l : r < length strips = (let a = ap length c.self.view_is in let b = length-map strips (map (frame_of old)) in let e = c.requires in omega (arith, a, b, e)) in
     on_ok_weaker c.push.result

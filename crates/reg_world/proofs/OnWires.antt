@@ -1,0 +1,71 @@
+-- What an event puts goes to its wires.
+use Rattle.std.proofs.Common.{◌≡◌, ◌≢◌, ℕ, zero, suc, ◌+◌, ◌<◌, ◌≤◌, List, [], ◌∷◌, ◌++◌, map, length, take, get_or, set, Option, Some, None, refl, sym, ap, subst, ◌∙◌, inl, inr, arith, add-one, length-set}
+use Rattle.std.specs.Prelude.{slice_get}
+use Rattle.std.proofs.lemmas.Bool.{cases_lt}
+use Rattle.std.proofs.lemmas.List.{map-append}
+use Rattle.reg_base.specs.Order.{In}
+use Rattle.reg_frames.specs.declared.bodies.Frame.{Frame}
+use Rattle.reg_frames.specs.declared.puts.Put.{Put}
+use Rattle.reg_process.specs.Puts.{puts, put_to}
+use Rattle.reg_world.specs.Sent.{sent}
+use Rattle.reg_world.proofs.code.Sending.{sent_both}
+use Rattle.reg_base.proofs.Lists.{in_left, in_right}
+use Rattle.reg_world.proofs.lists.Members.{in_map}
+
+pub length-sent : (ps : List Put) (wires : List (List Frame)) → length (sent ps wires) ≡ length wires
+length-sent [] wires = refl
+length-sent (p ∷ ps) wires = length-sent ps (set wires p.to (get_or wires p.to [] ++ p.frame ∷ [])) ∙ length-set wires p.to (get_or wires p.to [] ++ p.frame ∷ [])
+
+puts_in : (frames : ℕ → List Frame) (r n : ℕ) (f : Frame) → r < n → In f (frames r) → In (put_to r f) (puts frames n)
+puts_in frames r zero f l i = absurd (omega arith)
+puts_in frames r (suc n) f l i = elim (cases_lt r n) [
+  | inl less ↦ in_left (put_to r f) (puts frames n) (map (put_to n) (frames n)) (puts_in frames r n f less i)
+  | inr not_less ↦
+      let same : r ≡ n = omega (arith, l, not_less) in
+      in_right (put_to r f) (puts frames n) (map (put_to n) (frames n)) (subst_in same (in_map (put_to r) f (frames r) i))
+]
+  where
+    subst_in : r ≡ n → In (put_to r f) (map (put_to r) (frames r)) → In (put_to r f) (map (put_to n) (frames n))
+    subst_in e = subst (λ k. In (put_to r f) (map (put_to k) (frames k))) e
+
+-- where frames are put for a process, it has a wire
+pub has_wire : (frames : ℕ → List Frame) (r n k : ℕ) → ((p : Put) → In p (puts frames n) → p.to < k) → r < n → frames r ≢ [] → r < k
+has_wire frames r n k all l some = go (frames r) refl
+  where
+    go : (fs : List Frame) → frames r ≡ fs → r < k
+    go [] e = absurd (some e)
+    go (f ∷ fs) e = all (put_to r f) (puts_in frames r n f l (subst (In f) (sym e) (inl refl)))
+
+-- the frames for one process more
+pub more_sent : (frames : ℕ → List Frame) (r : ℕ) (before wires wires1 : List (List Frame)) → wires ≡ sent (puts frames r) before → wires1 ≡ sent (map (put_to r) (frames r)) wires → wires1 ≡ sent (puts frames (r + 1)) before
+more_sent frames r before wires wires1 so_far now =
+    now
+    ∙ (ap (sent (map (put_to r) (frames r))) so_far
+    ∙ (sym (sent_both (puts frames r) (map (put_to r) (frames r)) before)
+    ∙ sym (ap (λ n. sent (puts frames n) before) (add-one r))))
+
+-- first some frames for a process, and then others
+pub both_sent : (r : ℕ) (fs gs : List Frame) (before wires wires1 : List (List Frame)) → wires ≡ sent (map (put_to r) fs) before → wires1 ≡ sent (map (put_to r) gs) wires → wires1 ≡ sent (map (put_to r) (fs ++ gs)) before
+both_sent r fs gs before wires wires1 first then =
+    then
+    ∙ (ap (sent (map (put_to r) gs)) first
+    ∙ (sym (sent_both (map (put_to r) fs) (map (put_to r) gs) before)
+    ∙ ap (λ ps. sent ps before) (sym (map-append (put_to r) fs gs))))
+
+take_next : {X : Type 0} (xs : List X) (i : ℕ) (x : X) → Some x ≡ slice_get xs i → take (suc i) xs ≡ take i xs ++ x ∷ []
+take_next [] i x h = absurd cc
+take_next (y ∷ ys) zero x h = let e : x ≡ y = cc in ap (λ z. z ∷ []) (sym e)
+take_next (y ∷ ys) (suc i) x h = ap (λ l. y ∷ l) (take_next ys i x h)
+
+-- one frame more of those that are put again
+pub again_sent : (r i : ℕ) (fs : List Frame) (f : Frame) (before wires wires1 : List (List Frame)) → Some f ≡ slice_get fs i → wires ≡ sent (map (put_to r) (take i fs)) before → wires1 ≡ set wires r (get_or wires r [] ++ f ∷ []) → wires1 ≡ sent (map (put_to r) (take (i + 1) fs)) before
+again_sent r i fs f before wires wires1 at so_far now =
+    both_sent r (take i fs) (f ∷ []) before wires wires1 so_far now
+    ∙ ap (λ l. sent (map (put_to r) l) before) (sym (take_next fs i f at) ∙ ap (λ k. take k fs) (sym (add-one i)))
+
+-- none is left
+pub all_again : {X : Type 0} (xs : List X) (i : ℕ) → None ≡ slice_get xs i → take i xs ≡ xs
+all_again [] zero h = refl
+all_again [] (suc i) h = refl
+all_again (x ∷ xs) zero h = absurd cc
+all_again (x ∷ xs) (suc i) h = ap (λ l. x ∷ l) (all_again xs i h)
