@@ -1,12 +1,12 @@
 //! The parts of a process that has not failed.
-ghost use Rattle.std.specs.Prelude.{◌≡◌, ◌≢◌, ℕ, ◌<◌, ◌+◌, ◌≤◌, length, IfOk, OnErr, [], not, None, is_some, slice_get};
+ghost use Rattle.std.specs.Prelude.{◌≡◌, ◌≢◌, ℕ, ◌<◌, ◌+◌, ◌≤◌, length, IfOk, OnErr, [], not, None, is_some, nat_lt, slice_get};
 ghost use Rattle.reg_process.specs.Process.{pending_of, peer_at, next_of, unsettled, resent};
 ghost use Rattle.reg_process.specs.Parts.{state_of, first_parts};
 ghost use Rattle.reg_process.specs.Puts.{puts};
 ghost use Rattle.reg_base.specs.declared.limits.TheConstants.{MOST_PROCESSES};
 
 use crate::outcomes::Effect;
-use crate::puts::{new_inboxes, new_outboxes, pending_in, resend_all, resend_at};
+use crate::puts::{is_pending_in, new_inboxes, new_outboxes, pending_in, resend_all, resend_at};
 use crate::running::Current;
 use crate::spare::Spare;
 use crate::steps::Reply;
@@ -120,6 +120,13 @@ impl<A: Allocator + Copy> Core<A> {
         ensures { result ≡ pending_of self.now.peers }
     {
         pending_in(&self.outboxes, self.me)
+    }
+
+    /// Whether some body is not acknowledged.
+    pub(crate) fn is_pending(&self) -> bool
+        ensures { result ≡ nat_lt 0 (pending_of self.now.peers) }
+    {
+        is_pending_in(&self.outboxes, self.me)
     }
 
     /// Puts what is pending again. Memory can be refused only where a frame is put.

@@ -1,5 +1,5 @@
 //! One process, with its stop.
-ghost use Rattle.std.specs.Prelude.{◌≡◌, ◌≢◌, ℕ, [], length, ◌<◌, ◌≤◌, MatchOption, MatchResult, IfOk, IfErr, slice_get, option_map, is_some, max, false, true, IsErrOf, vec_capacity, if◌then◌else◌};
+ghost use Rattle.std.specs.Prelude.{◌≡◌, ◌≢◌, ℕ, [], length, ◌<◌, ◌≤◌, MatchOption, MatchResult, IfOk, IfErr, slice_get, option_map, is_some, max, nat_lt, false, true, IsErrOf, vec_capacity, if◌then◌else◌};
 ghost use Rattle.reg_process.specs.Process.{next_of, peer_at, pending_of, resent, unsettled};
 ghost use Rattle.reg_process.specs.Parts.{state_of, first_parts};
 ghost use Rattle.reg_process.specs.declared.steps.Step.TheVariants.{Call, Take, Tick};
@@ -108,6 +108,13 @@ impl<F: FrontEnd, A: Allocator + Copy> Process<F, A> {
         ensures { result ≡ pending_of self.now.state.peers }
     {
         self.core.pending()
+    }
+
+    /// Whether some body is not acknowledged, so that a tick puts a frame.
+    pub fn is_pending(&self) -> bool
+        ensures { result ≡ nat_lt 0 (pending_of self.now.state.peers) }
+    {
+        self.core.is_pending()
     }
 
     /// Its copy of the registers.

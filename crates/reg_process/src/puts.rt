@@ -1,5 +1,5 @@
 //! Bodies queued for all other processes, and the frames put.
-ghost use Rattle.std.specs.Prelude.{◌≡◌, ◌≢◌, ◌<◌, ◌≤◌, ◌+◌, ◌++◌, ◌∷◌, [], length, map, replicate, IfOk, OnOk, OnErr, vec_capacity, slice_get, slice_index_or};
+ghost use Rattle.std.specs.Prelude.{◌≡◌, ◌≢◌, ◌<◌, ◌≤◌, ◌+◌, ◌++◌, ◌∷◌, [], length, map, replicate, IfOk, OnOk, OnErr, vec_capacity, slice_get, slice_index_or, nat_lt};
 ghost use Rattle.reg_links.specs.Sending.{link_to};
 ghost use Rattle.reg_base.specs.declared.limits.TheConstants.{FRAME_NUMBERS, MOST_PROCESSES};
 ghost use Rattle.reg_process.specs.Parts.{nothing};
@@ -228,6 +228,19 @@ pub fn pending_in<A: Allocator + Copy>(outboxes: &Outboxes<A>, me: u8) -> u64
         total += pending_to(outboxes, r, me);
     }
     total
+}
+
+/// Whether some other process has not acknowledged some body. It looks no further than the first.
+pub fn is_pending_in<A: Allocator + Copy>(outboxes: &Outboxes<A>, me: u8) -> bool
+    requires { length (outs_of me outboxes.now) ≤ MOST_PROCESSES }
+    ensures { result ≡ nat_lt 0 (pending_in_all (outs_of me outboxes.now)) }
+{
+    for r in 0..outboxes.processes() as u8 {
+        if pending_to(outboxes, r, me) > 0 {
+            return true;
+        }
+    }
+    false
 }
 
 /// As many inboxes as `count` says, each of which expects number 0.

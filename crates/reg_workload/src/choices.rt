@@ -141,7 +141,7 @@ impl Chances {
         ensures { Lists F.start player.now process self.old self.new }
     {
         self.calls = with_bit(self.calls, process, player.may_call(process));
-        self.ticks = with_bit(self.ticks, process, player.pending(process) > 0);
+        self.ticks = with_bit(self.ticks, process, player.is_pending(process));
         let place = usize::from(process);
         self.takes[place] = takes_from(player, process, self.takes[place]);
     }

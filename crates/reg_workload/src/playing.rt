@@ -1,5 +1,5 @@
 //! A world in which each process calls the operations of its script.
-ghost use Rattle.std.specs.Prelude.{◌≡◌, ◌<◌, ◌≤◌, ◌↔◌, ◌⊎◌, ◌+◌, ℕ, [], length, map, true, false, Some, None, IfOk, OnOk, IfSome};
+ghost use Rattle.std.specs.Prelude.{◌≡◌, ◌<◌, ◌≤◌, ◌↔◌, ◌⊎◌, ◌+◌, ℕ, [], length, map, nat_lt, true, false, Some, None, IfOk, OnOk, IfSome};
 ghost use Rattle.reg_base.specs.Shape.{Extent};
 ghost use Rattle.reg_process.specs.Process.{pending_of};
 ghost use Rattle.reg_base.specs.declared.limits.TheConstants.{MOST_PROCESSES, MOST_EVENTS};
@@ -139,14 +139,14 @@ impl<'w, F: FrontEnd, A: Allocator + Copy, W: WireStore<A>> Player<'w, F, A, W> 
         self.has_left(process) && self.is_idle(process)
     }
 
-    /// How many frames a process has to put again.
-    pub(crate) fn pending(&self, process: u8) -> u64
+    /// Whether a process has frames to put again.
+    pub(crate) fn is_pending(&self, process: u8) -> bool
         requires process { process < self.now.made.processes }
         requires going { self.now.made.failed ≡ false }
-        ensures { result ≡ pending_of ((run_in F.start self.now.made).nodes process).state.peers }
+        ensures { result ≡ nat_lt 0 (pending_of ((run_in F.start self.now.made).nodes process).state.peers) }
     {
         match self.world.process(process) {
-            Some(process) => process.pending(),
+            Some(process) => process.is_pending(),
             None => unreachable!(),
         }
     }
