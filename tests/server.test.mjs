@@ -49,7 +49,8 @@ test("a run without an origin is refused, and so is a page of another host", asy
 });
 
 test("there are no commands but its own", async () => {
-  for (const command of ["rm", "why%20x", "../why", "why/", "__proto__", ""]) {
+  for (const command of ["rm", "why%20x", "../why", "why/", "why/1", "outcome", "outcome/", "outcome/1x", "outcome/%31",
+    "__proto__", ""]) {
     assert.equal(await statusOf("POST", "/run/" + command, GOOD), 404, command);
   }
 });

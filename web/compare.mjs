@@ -18,14 +18,16 @@ const WORDS = {
   "judge": ["awshow", "judge"], "judge-report": ["awshow", "judge", "--report"],
   "schedule": ["awshow", "schedule"], "schedule-fair": ["awshow", "schedule", "--fair"],
   "short": ["awshow", "schedule", "--short"], "short-fair": ["awshow", "schedule", "--fair", "--short"],
-  "outcomes": ["awshow", "outcomes"], "outcomes-all": ["awshow", "outcomes", "--all"], "why": ["awshow", "why"],
+  "outcomes": ["awshow", "outcomes"], "outcomes 10": ["awshow", "outcomes", "--plays", "10"],
+  "outcomes-all": ["awshow", "outcomes", "--all"], "outcome 1": ["awshow", "outcomes", "--all", "1"],
+  "outcome 3": ["awshow", "outcomes", "--all", "3"], "why": ["awshow", "why"],
 };
 const FOLDERS = ["examples", "examples/litmus", "examples/exercises", "examples/exercises/tries"];
 
 // What is asked of a random text of a kind; a thousand plays of each would take hours.
 const ASKED = {
-  workload: ["play", "play-fair", "schedule", "schedule-fair", "short", "short-fair", "outcomes-all", "data", "trace",
-    "why"],
+  workload: ["play", "play-fair", "schedule", "schedule-fair", "short", "short-fair", "outcomes-all", "outcome 1",
+    "outcomes 10", "data", "trace", "why"],
   schedule: ["replay", "trace", "draw", "data", "page", "rest", "why"],
   report: ["check", "find-serial", "find-points", "judge", "judge-report", "why"],
   record: ["verify"],

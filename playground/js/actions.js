@@ -8,7 +8,7 @@ import { judged } from "./judged.js";
 import { fragmentOf } from "./links.js";
 import { Menu } from "./menu.js";
 import { takeLine, tickLine } from "./next.js";
-import { outcomesTable, say, showOutput, verdictLines } from "./output.js";
+import { allOutcomesTable, button, outcomesTable, say, showOutput, verdictLines } from "./output.js";
 import { eventLines, upTo, withEvent, withSeed } from "./texts.js";
 
 export class Actions {
@@ -102,7 +102,15 @@ export class Actions {
   async outcomes() {
     const { output, error } = await ask("outcomes", this.text);
     const choose = seed => this.playground.setText(withSeed(this.text, seed));
-    showOutput("1,000 plays", output ? outcomesTable(output, choose) : html("p", { class: "no" }, error));
+    showOutput("1,000 plays", output ? outcomesTable(output, choose) : html("p", { class: "no" }, error),
+      html("p", {}, button("All that the scripts can have", "all-outcomes", () => this.allOutcomes())));
+  }
+
+  /** All outcomes of a workload's scripts, each with a button that makes a run with it the text. */
+  async allOutcomes() {
+    const { output, error } = await ask("outcomes-all", this.text);
+    const show = number => this.asSchedule(`outcome ${number}`);
+    showOutput("All outcomes", output ? allOutcomesTable(output, show) : html("p", { class: "no" }, error));
   }
 
   async link() {

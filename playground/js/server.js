@@ -5,11 +5,14 @@
 /** @type {AbortController} */
 let stopping = new AbortController();
 
-/** @param {string} command @param {string} text @returns {Promise<{status: number, output: string, error: string}>} */
+/**
+ * What a command makes of a text. A number may stand behind a command that takes one, as in "outcome 3".
+ * @param {string} command @param {string} text @returns {Promise<{status: number, output: string, error: string}>}
+ */
 export async function ask(command, text) {
   const { signal } = stopping, isStopped = () => signal.aborted;
   try {
-    const answer = await fetch("/run/" + command, {
+    const answer = await fetch("/run/" + command.replace(" ", "/"), {
       method: "POST", body: new Blob([text]), headers: { "Content-Type": "application/octet-stream" }, signal,
     });
     const told = await answer.json();

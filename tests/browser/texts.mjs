@@ -110,6 +110,20 @@ function triesOfKinds({ session }) {
       assert.match(await session.inside("#offers"), /tick/);
     },
 
+    async "a workload: all outcomes of its scripts, and a run with one"() {
+      const source = example("lossy-play.toml");
+      await session.open(fragment(source));
+      await session.clickForOutput("#outcomes");
+      await browser.click("#all-outcomes");
+      await browser.until("document.getElementById('outcome-1')");
+      const count = +/^outcomes (\d+)$/m.exec(made("awshow", ["outcomes", "--all"], source).output)[1];
+      assert.equal(await browser.value(`document.querySelectorAll("#output tr").length`), count);
+      await session.click(`#outcome-${count}`);
+      await browser.until("document.getElementById('workload').hidden");
+      await session.shown();
+      assert.equal(await session.text(), made("awshow", ["outcomes", "--all", String(count)], source).output);
+    },
+
     async "a report: what check says of it"() {
       await session.open(fragment(example("stale-linear.report")));
       assert.match(await session.inside("#verdict"), /points no: falling at 1/);

@@ -12,7 +12,10 @@ const PAGE_BYTES = 65536;
 
 // The commands that play a workload: they read it in its one layout.
 const PLAYS = new Set(["play", "play-fair", "schedule", "schedule-fair", "short", "short-fair", "outcomes",
-  "outcomes-all"]);
+  "outcomes-all", "outcome"]);
+
+// The commands that take a number, and the number where none is given: how many plays, and which outcome.
+const NUMBERS = { outcomes: 1000, outcome: 1 };
 
 // The commands that show the run of a schedule, and of a workload that of its play.
 const SHOWS = new Set(["data", "trace", "draw", "page", "rest"]);
@@ -76,11 +79,13 @@ class Instance {
     this.view.setBigUint64(this.room + 8, BigInt(this.end - this.free), true);
   }
 
-  run(call, text) {
+  /** Calls a function with a text, and with a number where it takes one. */
+  run(call, text, ...numbers) {
     const at = this.place(text);
     this.lend();
-    const given = [this.room, at, text.length, this.output, OUTPUT_BYTES, this.errors, ERROR_BYTES, this.lengths];
-    const status = call(...given.map(BigInt));
+    const given = [this.room, at, text.length].map(BigInt);
+    const taken = [this.output, OUTPUT_BYTES, this.errors, ERROR_BYTES, this.lengths].map(BigInt);
+    const status = call(...given, ...numbers, ...taken);
     this.free = this.number(this.room);
     const many = this.number(this.lengths), few = this.number(this.lengths + 8);
     if (many > OUTPUT_BYTES) throw new RangeError("too much output");
@@ -104,7 +109,7 @@ export class Engine {
 
   /**
    * What a command makes of a text. A workload that is played is put into its layout first, and one whose run is
-   * shown is played first.
+   * shown is played first. A number may stand behind a command that takes one, as in "outcome 3".
    * @param {string} command @param {Uint8Array} text
    * @returns {{status: number, output: Uint8Array, error: Uint8Array}}
    */
@@ -117,12 +122,14 @@ export class Engine {
 
   /** The command that makes of a text what this command reads, where it doesn't read the text itself. */
   before(command, text) {
-    if (PLAYS.has(command)) return "layout";
+    if (PLAYS.has(command.split(" ")[0])) return "layout";
     return SHOWS.has(command) && this.kindOf(text) === "workload" ? "schedule" : null;
   }
 
   call(command, text) {
-    return this.within(instance => instance.run(instance.exports[nameOf(command)], text));
+    const [word, number = NUMBERS[word]] = command.split(" ");
+    const numbers = word in NUMBERS ? [+number] : [];
+    return this.within(instance => instance.run(instance.exports[nameOf(command)], text, ...numbers));
   }
 
   /** What a text is: "schedule", "workload" or "report". @param {Uint8Array} text */
@@ -143,4 +150,4 @@ export class Engine {
   }
 }
 
-const nameOf = command => "tellwydar_" + command.replaceAll("-", "_");
+const nameOf = command => "tellwydar_" + command.split(" ")[0].replaceAll("-", "_");

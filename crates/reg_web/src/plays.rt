@@ -1,10 +1,12 @@
 //! The functions that the host calls of workloads. Each works in the room that is lent to it, and leaves in it what it
 //! did not touch.
-ghost use Rattle.std.specs.Prelude.{true, false, None};
+ghost use Rattle.std.specs.Prelude.{min, max, true, false, None};
 ghost use Rattle.reg_commands.specs.Lent.{Fills};
 ghost use Rattle.reg_commands.specs.Replays.{start_of};
 ghost use Rattle.reg_outcomes.specs.AllText.{ShowsAll};
+ghost use Rattle.reg_outcomes.specs.declared.tables.plays.TheConstants.{MOST_PLAYS};
 ghost use Rattle.reg_show.specs.AllOutcomes.{StopsAll};
+ghost use Rattle.reg_show.specs.OneOutcome.{ShowsOutcome, StopsOutcome};
 ghost use Rattle.reg_show.specs.Outcomes.{ShowsOutcomes, StopsPlays};
 ghost use Rattle.reg_show.specs.Schedules.{ShowsSchedule, StopsSchedule};
 ghost use Rattle.reg_show.specs.Seeds.{reseeded};
@@ -15,10 +17,8 @@ use crate::layouts::{InLayout, LayOut, Play};
 use crate::telling::tell_in;
 use reg_commands::Lengths;
 use reg_heap::Room;
-use reg_show::{EveryOutcome, FullSchedule, ManyPlays, Player, ShortSchedule};
-
-/// How many plays of a workload are counted.
-const PLAYS: u32 = 1_000;
+use reg_outcomes::MOST_PLAYS;
+use reg_show::{EveryOutcome, FullSchedule, ManyPlays, OneOutcome, Player, ShortSchedule};
 
 /// Puts the workload that a text seems to say into its layout. The answer is the layout, and the status 0; or 1 with
 /// the line of a fault.
@@ -142,20 +142,21 @@ pub extern "C" fn tellwydar_short_fair(
     tell_in(command, room, text, output, errors, lengths)
 }
 
-/// Plays a workload that is in its layout a thousand times. The answer is the table of what the plays told, and the
-/// status 0; or 1 with the line of a fault.
+/// Plays a workload that is in its layout so many times; a number above `MOST_PLAYS` counts as that. The answer is the
+/// table of what the plays told, and the status 0; or 1 with the line of a fault.
 #[unsafe(no_mangle)]
 pub extern "C" fn tellwydar_outcomes(
     room: &mut Room,
     text: &[u8],
+    plays: u32,
     output: &mut [u8],
     errors: &mut [u8],
     lengths: &mut Lengths,
 ) -> u8
-    ensures { Fills (IsShownOf (λ fault work. StopsPlays PLAYS (start_of work.front) (reseeded None work) fault) (λ Wrote work. ShowsOutcomes PLAYS (start_of work.front) Wrote (reseeded None work)) text.now) result output.old output.new errors.old errors.new lengths.new }
+    ensures { Fills (IsShownOf (λ fault work. StopsPlays (min plays MOST_PLAYS) (start_of work.front) (reseeded None work) fault) (λ Wrote work. ShowsOutcomes (min plays MOST_PLAYS) (start_of work.front) Wrote (reseeded None work)) text.now) result output.old output.new errors.old errors.new lengths.new }
 {
-    let (plays, seed) = (PLAYS, None);
-    let command = ManyPlays { plays, seed };
+    let plays = plays.min(MOST_PLAYS);
+    let command = ManyPlays { plays, seed: None };
     let command = InLayout { command };
     tell_in(command, room, text, output, errors, lengths)
 }
@@ -173,6 +174,25 @@ pub extern "C" fn tellwydar_outcomes_all(
     ensures { Fills (IsShownOf (λ fault work. StopsAll work fault) (λ Wrote work. ShowsAll work.scripts work.shape.registers Wrote) text.now) result output.old output.new errors.old errors.new lengths.new }
 {
     let command = EveryOutcome;
+    let command = InLayout { command };
+    tell_in(command, room, text, output, errors, lengths)
+}
+
+/// Finds the outcome of this number among all that the scripts of a workload in its layout can have, counted from 1; 0
+/// counts as 1. The answer is the schedule of a run with it, and the status 0; or 1 with the line of a fault.
+#[unsafe(no_mangle)]
+pub extern "C" fn tellwydar_outcome(
+    room: &mut Room,
+    text: &[u8],
+    number: u32,
+    output: &mut [u8],
+    errors: &mut [u8],
+    lengths: &mut Lengths,
+) -> u8
+    ensures { Fills (IsShownOf (λ fault work. StopsOutcome (max number 1) work fault) (λ Wrote work. ShowsOutcome (max number 1) (start_of work.front) Wrote work) text.now) result output.old output.new errors.old errors.new lengths.new }
+{
+    let number = number.max(1);
+    let command = OneOutcome { number };
     let command = InLayout { command };
     tell_in(command, room, text, output, errors, lengths)
 }
