@@ -32,7 +32,7 @@ unlisted_moved : (start : Op → ℕ → Start) (w : World) (e : Event) (m : ℕ
 unfolding after_move
 unlisted_moved start w e m = refl
 
-count_moved : (start : Op → ℕ → Start) (w : World) (e : Event) (m : ℕ × Step) → length (moved start w e (Some m)).accepted ≡ length w.accepted + 1
+pub count_moved : (start : Op → ℕ → Start) (w : World) (e : Event) (m : ℕ × Step) → length (moved start w e (Some m)).accepted ≡ length w.accepted + 1
 count_moved start w e m = length-append w.accepted (e ∷ [])
 
 pub alike_same : (start : Op → ℕ → Start) (u v : Made) → u ≡ v → AreAlike start u v
@@ -45,7 +45,7 @@ alike_same start u v e = record {
 }
 
 -- the run with one more event
-next_run : (start : Op → ℕ → Start) (w : Made) (e : Event) (m : ℕ × Step) → move_of w.processes w.registers (run_in start w) e ≡ Some m → run_in start (with_event start w e) ≡ moved start (run_in start w) e (Some m)
+pub next_run : (start : Op → ℕ → Start) (w : Made) (e : Event) (m : ℕ × Step) → move_of w.processes w.registers (run_in start w) e ≡ Some m → run_in start (with_event start w e) ≡ moved start (run_in start w) e (Some m)
 next_run start w e m h = one_more start w.processes w.registers w.accepted e ∙ ap (moved start (run_in start w) e) h
 
 next_alike : (start : Op → ℕ → Start) (u v : Made) (e f : Event) (m : ℕ × Step) → AreAlike start u v

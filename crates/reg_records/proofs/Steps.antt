@@ -21,7 +21,7 @@ use Rattle.reg_world.proofs.one_memory.Refusals.{refused_by_fault}
 use Rattle.reg_records.specs.Playing.{IsEventOf, Moves}
 
 -- a test that holds where something came of it
-if_some : {X : Type 0} (b : Bool) (o : Option X) (x : X) → cond b o None ≡ Some x → (b ≡ true) × (o ≡ Some x)
+pub if_some : {X : Type 0} (b : Bool) (o : Option X) (x : X) → cond b o None ≡ Some x → (b ≡ true) × (o ≡ Some x)
 if_some true o x h = (refl, h)
 if_some false o x h = absurd cc
 
@@ -40,7 +40,7 @@ take_is from to p step (Some f) h =
     (f, refl, ap (λ (x : ℕ × Step). x.0) e, ap (λ (x : ℕ × Step). x.1) e)
 
 -- the event of an accepted step is one of that step
-event_moves : (n registers : ℕ) (w : Nodes) (p : ℕ) (step : Step) (e : Event) → step_of n registers w e ≡ Some (p, step) → IsEventOf w p step e
+pub event_moves : (n registers : ℕ) (w : Nodes) (p : ℕ) (step : Step) (e : Event) → step_of n registers w e ≡ Some (p, step) → IsEventOf w p step e
 event_moves n registers w p step (CallOf q op) h =
     let same : (q, Call op) ≡ (p, step) = if_is (nat_lt q n && (not (is_some (w q).state.running) && (nat_lt (register_of op) registers && nat_lt (w q).state.calls MOST_OPERATIONS))) (q, Call op) (p, step) h in
     let process : q ≡ p = ap (λ (x : ℕ × Step). x.0) same in

@@ -13,5 +13,8 @@ mod verifying;
 
 pub use entries::{LogEntry, Receipt};
 pub use faults::CloseFault;
-pub use playing::play;
+pub use finding::{event_of, hinted_event};
+pub use hints::Hints;
+pub use playing::{make_event, play};
+pub use tallies::{bump, entry_at, no_counts};
 pub use verifying::{verify, verify_in};

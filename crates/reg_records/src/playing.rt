@@ -1,7 +1,8 @@
 //! A record played as a run.
 ghost use Rattle.std.specs.Prelude.{◌≡◌, ◌<◌, ◌+◌, length, map, false, true, MatchResult, IfOk, IsTrue, ◌↔◌};
 ghost use Rattle.reg_records.specs.Records.{IsFaithful};
-ghost use Rattle.reg_records.specs.Playing.{AreTallied, IsMade, IsTurn};
+ghost use Rattle.reg_world.specs.Worlds.{run_in};
+ghost use Rattle.reg_records.specs.Playing.{AreTallied, IsEventOf, IsMade, IsTurn};
 ghost use Rattle.reg_records.specs.Receipts.{IsPlayFault};
 
 use crate::entries::LogEntry;
@@ -11,7 +12,7 @@ use crate::hints::Hints;
 use crate::tallies::{bump, entry_at, is_left, no_counts};
 use reg_base::Shape;
 use reg_front::FrontEnd;
-use reg_process::Reply;
+use reg_process::{Event, Reply};
 use reg_world::{WireStore, World, WorldFault};
 use std::alloc::{AllocError, Allocator};
 
@@ -29,6 +30,30 @@ fn is_same(reply: Option<Reply>, other: Option<Reply>) -> bool
     reply == other
 }
 
+/// Makes an event of the entry's step, and tells whether it is accepted and gives the entry's reply. Where it doesn't,
+/// no event is that step with that reply, and nothing is claimed of the world.
+pub fn make_event<F: FrontEnd, A: Allocator + Copy, W: WireStore<A>>(
+    world: &mut World<F, A, W>,
+    event: &Event,
+    process: u8,
+    entry: &LogEntry,
+) -> Result<bool, AllocError>
+    requires going { world.old.failed ≡ false }
+    requires step { IsEventOf (run_in F.start world.old).nodes process entry.now.step event.now }
+    ensures { IfOk result (λ made. IsMade F.start world.old process entry.now made world.new) }
+{
+    match world.step_reply(event) {
+        Ok(reply) => Ok(is_same(reply, entry.reply)),
+        Err(fault) => {
+            if is_memory(fault) {
+                Err(AllocError)
+            } else {
+                Ok(false)
+            }
+        }
+    }
+}
+
 /// Makes the step of an entry, and tells whether it is an event that gives the entry's reply. Where it isn't, nothing
 /// is claimed of the world.
 fn make<F: FrontEnd, A: Allocator + Copy, W: WireStore<A>>(
@@ -43,16 +68,7 @@ fn make<F: FrontEnd, A: Allocator + Copy, W: WireStore<A>>(
     let Some(event) = event_of(hints, world, process, &entry.step)? else {
         return Ok(false);
     };
-    match world.step_reply(&event) {
-        Ok(reply) => Ok(is_same(reply, entry.reply)),
-        Err(fault) => {
-            if is_memory(fault) {
-                Err(AllocError)
-            } else {
-                Ok(false)
-            }
-        }
-    }
+    make_event(world, &event, process, entry)
 }
 
 /// Plays one more mention, and tells whether it stands for an entry that comes next in a run. Where it doesn't, nothing

@@ -7,7 +7,7 @@ use crate::entries::LogEntry;
 use std::alloc::{AllocError, Allocator};
 
 /// The counts of the given number of processes, none of which was mentioned yet.
-pub(crate) fn no_counts<A: Allocator + Copy>(
+pub fn no_counts<A: Allocator + Copy>(
     alloc: A,
     processes: usize,
 ) -> Result<Vec<usize, A>, AllocError>
@@ -22,7 +22,7 @@ pub(crate) fn no_counts<A: Allocator + Copy>(
 }
 
 /// Counts one more mention.
-pub(crate) fn bump<A: Allocator + Copy>(counts: &mut Vec<usize, A>, order: &[u8], place: usize)
+pub fn bump<A: Allocator + Copy>(counts: &mut Vec<usize, A>, order: &[u8], place: usize)
     requires within { place < length order.now }
     requires fits { place + 1 < 2 ^ 64 }
     requires tallied { AreTallied counts.old.items order.now place }
@@ -36,7 +36,7 @@ pub(crate) fn bump<A: Allocator + Copy>(counts: &mut Vec<usize, A>, order: &[u8]
 }
 
 /// The entry of a process's log at this place.
-pub(crate) fn entry_at<A: Allocator + Copy>(
+pub fn entry_at<A: Allocator + Copy>(
     logs: &[Vec<LogEntry, A>],
     process: usize,
     at: usize,

@@ -1,0 +1,5 @@
+pub mod Alone
+pub mod Further
+pub mod Counts
+pub mod Verdicts
+pub mod Placed
