@@ -26,6 +26,21 @@ pub enum Why {
     /// The value of a compare-and-swap is not two values.
     #[error("wanted value, the expected value and the new one")]
     BadPair,
+    /// In EDN, there is something else than an entry, or an entry is no map of keywords and values.
+    #[error("wanted an entry, a map of EDN whose keys are keywords")]
+    BadEntry,
+    /// In EDN, a bracket closes none, or one of another kind.
+    #[error("wanted brackets in pairs")]
+    BadBracket,
+    /// In EDN, more than `MOST_OPEN` brackets of an entry are open at once.
+    #[error("wanted at most 100 brackets within one another")]
+    TooDeep,
+    /// In EDN, `#` or a backslash stands where none is read.
+    #[error("wanted a form of EDN, and no #_")]
+    BadForm,
+    /// In EDN, the text ends within a word, a string, a character, an entry or the vector of all entries.
+    #[error("wanted the end of what is begun")]
+    Unfinished,
     /// The first value of registers is neither an integer of 64 bits nor a string nor null.
     #[error("wanted an integer, a string or null, as JSON has it")]
     BadFirst,
@@ -50,6 +65,17 @@ pub(crate) enum Untold {
     Line(Why),
     /// There was no memory.
     OutOfMemory,
+}
+
+impl From<Why> for Untold {
+    ghost use Rattle.std.specs.Prelude.{◌≡◌};
+    ghost use Rattle.reg_observed.specs.declared.faults.Untold.TheVariants.{Line};
+
+    ghost from_gives = { λ why e. e ≡ Line why };
+
+    fn from(why: Why) -> Untold {
+        Untold::Line(why)
+    }
 }
 
 impl From<AllocError> for Untold {
