@@ -106,8 +106,8 @@ pub enum ReadFault {
     /// This line, counted from 1, is the first that is refused.
     #[error("line {line}: {why}")]
     Line { line: u32, why: Why },
-    /// There are more lines than `limits::MOST_EVENTS`.
-    #[error("more than 1048576 lines")]
+    /// There are more lines, or entries of EDN, than `limits::MOST_EVENTS`.
+    #[error("more than 1048576 lines or entries")]
     TooLong,
     /// There was no memory for it.
     #[error("out of memory")]
@@ -158,7 +158,7 @@ pub enum JudgeFault {
     #[error("--first: {why}")]
     First { why: Why },
     /// A first value was asked for, and the history is a report, whose registers begin with 0.
-    #[error("--first is for lines of JSON: the registers of a report begin with 0")]
+    #[error("--first is for lines of JSON and EDN: the registers of a report begin with 0")]
     FirstOfReport,
     /// A history with its point order is beyond the limits of a report.
     #[error("beyond the limits of a report")]
