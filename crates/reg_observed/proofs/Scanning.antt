@@ -1,10 +1,10 @@
 -- Bytes of a text of EDN, one after another.
-use Rattle.std.proofs.Common.{ℕ, ◌≡◌, ◌+◌, ◌<◌, ◌≤◌, List, [], ◌∷◌, Bool, true, false, Option, Result, Ok, Err, ap, drop, get_or, length, if◌then◌else◌, refl, sym, ◌∙◌}
+use Rattle.std.proofs.Common.{ℕ, ◌≡◌, ◌+◌, ◌<◌, ◌≤◌, List, [], ◌∷◌, true, false, Option, Result, Ok, Err, ap, drop, get_or, length, if◌then◌else◌, sym, ◌∙◌}
 use Rattle.reg_rulings.proofs.Lists.{from_here, past_end}
 use Rattle.reg_observed.specs.declared.faults.Why.{Why}
 use Rattle.reg_observed.specs.declared.faults.Why.TheVariants.{Unfinished}
 use Rattle.reg_observed.specs.Edn.{Scanned, behind, behind_blanks, byte_in, edn_from, is_blank, is_whole, line_behind, told_by}
-use Rattle.reg_observed.specs.Reading.{Tellings, after_line}
+use Rattle.reg_observed.specs.Reading.{after_line}
 use Rattle.reg_observed.specs.Told.{Telling}
 
 -- one more byte, which tells this

@@ -1,13 +1,13 @@
 -- What a text of EDN tells. To be believed: promises speak of it.
-use Rattle.std.specs.Prelude.{ℕ, ◌+◌, ◌==◌, ◌&&◌, ◌||◌, Bool, true, false, not, List, [], ◌∷◌, ◌++◌, codes, drop, min, nat_eq, nat_lt, Option, Some, None, Result, Ok, Err, if◌then◌else◌}
+use Rattle.std.specs.Prelude.{ℕ, ◌+◌, ◌==◌, ◌&&◌, ◌||◌, Bool, true, false, not, List, [], ◌∷◌, ◌++◌, codes, drop, min, nat_eq, nat_lt, Option, None, Result, Ok, Err, if◌then◌else◌}
 use Rattle.std.specs.List.{starts_with}
 use Rattle.reg_observed.specs.declared.edn_bytes.Mode.{Mode}
-use Rattle.reg_observed.specs.declared.edn_bytes.Mode.TheVariants.{Between, Comment, Dispatch, Tag, Character, Word, Quoted, Escaped}
+use Rattle.reg_observed.specs.declared.edn_bytes.Mode.TheVariants.{Between, Comment}
 use Rattle.reg_observed.specs.declared.edn_bytes.Does.{Does}
 use Rattle.reg_observed.specs.declared.edn_bytes.Does.TheVariants.{Nothing, Keep, Code, EndString, Open, Close, Refuse}
 use Rattle.reg_observed.specs.declared.edn_bytes.Turn.{Turn}
 use Rattle.reg_observed.specs.declared.edn_entries.Listing.{Listing}
-use Rattle.reg_observed.specs.declared.edn_entries.Listing.TheVariants.{Fresh, Bare, Listed, Closed}
+use Rattle.reg_observed.specs.declared.edn_entries.Listing.TheVariants.{Listed}
 use Rattle.reg_observed.specs.declared.faults.Why.{Why}
 use Rattle.reg_observed.specs.declared.faults.Why.TheVariants.{BadForm, Unfinished}
 use Rattle.reg_observed.specs.EdnBytes.{turn_at}

@@ -1,6 +1,5 @@
 -- What each byte of a text of EDN does, by where it stands. To be believed: promises speak of it.
-use Rattle.std.specs.Prelude.{ℕ, ◌==◌, ◌||◌, Bool, true, false, nat_lt, if◌then◌else◌}
-use Rattle.reg_observed.specs.declared.edn_bytes.Bracket.{Bracket}
+use Rattle.std.specs.Prelude.{ℕ, ◌==◌, ◌||◌, true, false, nat_lt, if◌then◌else◌}
 use Rattle.reg_observed.specs.declared.edn_bytes.Bracket.TheVariants.{Round, Square, Curly, Set}
 use Rattle.reg_observed.specs.declared.edn_bytes.Sort.{Sort}
 use Rattle.reg_observed.specs.declared.edn_bytes.Sort.TheVariants as sorts

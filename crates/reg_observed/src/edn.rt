@@ -1,6 +1,7 @@
 //! Reading a history of EDN.
-ghost use Rattle.std.specs.Prelude.{◌≡◌, ◌⊎◌, ℕ, [], List, Ok, Err, Some, IfOk, IfErr, OnOk};
-ghost use Rattle.reg_observed.specs.Edn.{at_start, begins_edn as begins_edn_in, begins_form as begins_form_in, behind, behind_blanks as behind_blanks_of, byte_does, byte_in, edn_from, edn_tells, end_word as end_word_in, is_blank as is_blank_byte, is_listed as is_listed_at, is_rest as is_rest_at, is_whole as is_whole_in, line_behind as line_behind_byte, told_by, word_in};
+ghost use Rattle.std.specs.Prelude.{◌≡◌, ◌⊎◌, ℕ, [], List, Ok, Err, IfOk, IfErr, OnOk};
+ghost use Rattle.reg_observed.specs.Edn.{at_start, begins_edn as begins_edn_in, begins_form as begins_form_in, behind, behind_blanks as behind_blanks_of, byte_does, byte_in, edn_tells, end_word as end_word_in, is_blank as is_blank_byte, is_listed as is_listed_at, is_rest as is_rest_at, is_whole as is_whole_in, line_behind as line_behind_byte, told_by, word_in};
+ghost use Rattle.reg_observed.specs.EdnWords.{json_text};
 ghost use Rattle.reg_observed.specs.Reading.{AreEvents};
 ghost use Rattle.reg_observed.specs.Told.{Gives, Telling};
 ghost use Rattle.reg_observed.specs.declared.faults.Why.{Why as AnyWhy};
@@ -79,7 +80,7 @@ impl Scan {
 
     /// Ends the string.
     fn end_string(&mut self, global: Global) -> Result<(), Untold>
-        ensures { Gives (λ _. self.new) result (byte_does Does.EndString 0 self.old) }
+        ensures { Gives (λ _. self.new) result (word_in (json_text self.old.word) self.old) }
     {
         let json = quoted(global, &self.word)?;
         self.put(&json)

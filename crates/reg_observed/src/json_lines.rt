@@ -1,7 +1,7 @@
 //! A line of JSON, and the event that it tells of.
 ghost use Rattle.std.specs.Prelude.{◌≡◌, codes, option_map, option_and_then, string_bytes, IfOk, IsUtf8, Ok, Some, is_some};
 ghost use Rattle.std.specs.Str.{bytes_eq};
-ghost use Rattle.serde_json.specs.Find.{as_str, get};
+ghost use Rattle.serde_json.specs.Find.{as_str};
 ghost use Rattle.serde_json.specs.View.{items_view, view};
 ghost use Rattle.serde_json.specs.Written.{compact_text};
 ghost use Rattle.reg_observed.specs.Told.{Gives, act_named, failed_as, has_no_value, moment_named, moment_of as moment_of_line};

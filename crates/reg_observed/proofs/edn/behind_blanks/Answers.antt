@@ -1,4 +1,4 @@
-use Rattle.std.proofs.Common.{arith, sym, ◌∙◌}
+use Rattle.std.proofs.Common.{sym, ◌∙◌}
 use Rattle.std.proofs.lemmas.List.{take_rest}
 use Rattle.reg_observed.proofs.Scanning.{blank_passed, blanks_alone, other_stays}
 use Rattle.reg_observed.proofs.edn.behind_blanks.Goals as goal

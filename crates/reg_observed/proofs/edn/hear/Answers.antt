@@ -1,6 +1,4 @@
-use Rattle.std.proofs.Common.{Ok, Err, ap, arith, inl, inr, refl, subst, sym, ◌∙◌}
-use Rattle.reg_observed.specs.Edn.{edn_from}
-use Rattle.reg_observed.specs.Reading.{Tellings}
+use Rattle.std.proofs.Common.{Ok, Err, inl, inr, refl, sym, ◌∙◌}
 use Rattle.reg_observed.proofs.Hearing.{heard_all, heard_more, refused_next}
 use Rattle.reg_observed.proofs.Scanning.{byte_more, text_breaks, text_ends}
 use Rattle.reg_observed.proofs.edn.hear.Goals as goal
