@@ -1,5 +1,6 @@
 -- What stands of an entry of EDN, and of the text around it. To be believed: promises speak of it. An entry is kept in
--- JSON: its map is an object, and each other form between brackets, a nested map too, is an array of its forms.
+-- JSON: its map is an object, a vector or a list is an array, and a nested map or a set is an object with one member,
+-- the array of its forms.
 use Rattle.std.specs.Prelude.{ℕ, ◌-◌, ◌==◌, ◌&&◌, Bool, true, false, not, nat_lt, List, [], ◌∷◌, ◌++◌, length, take, slice_get, Option, Some, None, Result, Ok, Err, codes, if◌then◌else◌}
 use Rattle.reg_observed.specs.declared.edn_bytes.Bracket.{Bracket}
 use Rattle.reg_observed.specs.declared.edn_bytes.Bracket.TheVariants.{Round, Square, Curly, Set}
@@ -50,9 +51,22 @@ form_in text d =
 abbrev pub begun : Listing → Drafted
 begun listing = record { listing = listing; inside = true; brackets = []; named = false; fresh = true; json = codes "{" }
 
+-- how a form between brackets begins in JSON, and how it ends
+abbrev pub opening : Bracket → List ℕ
+opening Round = codes "["
+opening Square = codes "["
+opening Curly = 123 ∷ 34 ∷ 34 ∷ 58 ∷ 91 ∷ []
+opening Set = 123 ∷ 34 ∷ 34 ∷ 58 ∷ 91 ∷ []
+
+abbrev pub closing : Bracket → List ℕ
+closing Round = codes "]"
+closing Square = codes "]"
+closing Curly = codes "]}"
+closing Set = codes "]}"
+
 abbrev pub open_inside : Bracket → Drafted → Result Drafted Why
 open_inside bracket d =
-    if nat_lt (length d.brackets) MOST_OPEN then Ok (record d { brackets = d.brackets ++ bracket ∷ []; fresh = true; json = (d.json ++ separator d) ++ codes "[" }) else Err TooDeep
+    if nat_lt (length d.brackets) MOST_OPEN then Ok (record d { brackets = d.brackets ++ bracket ∷ []; fresh = true; json = (d.json ++ separator d) ++ opening bracket }) else Err TooDeep
 
 -- outside of entries { begins one, and a first [ the vector in which they stand
 abbrev pub open_outside : Bracket → Listing → Drafted → Result Drafted Why
@@ -67,7 +81,7 @@ open_in bracket d = if d.inside then open_inside bracket d else open_outside bra
 
 abbrev pub close_last : Bracket → Bracket → Drafted → Result Drafted Why
 close_last close opened d =
-    if closes close opened then Ok (record d { brackets = take (length d.brackets - 1) d.brackets; named = named_next (length d.brackets - 1) d.named; fresh = false; json = d.json ++ codes "]" }) else Err BadBracket
+    if closes close opened then Ok (record d { brackets = take (length d.brackets - 1) d.brackets; named = named_next (length d.brackets - 1) d.named; fresh = false; json = d.json ++ closing opened }) else Err BadBracket
 
 abbrev pub end_entry : Bracket → Drafted → Result Drafted Why
 end_entry Curly d = Ok (record d { inside = false; json = d.json ++ codes "}" })

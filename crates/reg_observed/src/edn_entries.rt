@@ -1,6 +1,6 @@
 //! What stands of an entry of EDN, as JSON, and of the text around it.
 ghost use Rattle.std.specs.Prelude.{◌≡◌, [], Ok, true, false};
-ghost use Rattle.reg_observed.specs.EdnEntries.{begun, close_in, close_last as close_last_in, close_outside as close_outside_of, closes, end_entry as end_entry_of, form_in, named_next, open_in, open_inside as open_inside_of, open_outside as open_outside_of, separator as separator_of};
+ghost use Rattle.reg_observed.specs.EdnEntries.{begun, close_in, close_last as close_last_in, close_outside as close_outside_of, closes, closing as closing_of, end_entry as end_entry_of, form_in, named_next, opening as opening_of, open_in, open_inside as open_inside_of, open_outside as open_outside_of, separator as separator_of};
 ghost use Rattle.reg_observed.specs.Told.{Gives};
 
 use crate::edn_bytes::Bracket;
@@ -8,8 +8,8 @@ use crate::faults::{Untold, Why};
 use std::alloc::Global;
 use std::marker::Model;
 
-/// How many brackets of an entry may be open at once.
-pub const MOST_OPEN: usize = 100;
+/// How many brackets of an entry may be open at once. In JSON each is at most two levels, of the 127 that the kit reads.
+pub const MOST_OPEN: usize = 60;
 
 /// Where entries stand.
 #[derive(Clone, Copy, PartialEq, Eq)]
@@ -57,6 +57,27 @@ fn is_pair(close: Bracket, opened: Bracket) -> bool
         Bracket::Square => opened == Bracket::Square,
         Bracket::Curly => opened == Bracket::Curly || opened == Bracket::Set,
         Bracket::Set => false,
+    }
+}
+
+/// How a form between brackets begins in JSON: a vector and a list as an array, a map and a set as an object with an
+/// array, so that they are no pair of values.
+fn opening(bracket: Bracket) -> &'static [u8]
+    ensures { result.now ≡ opening_of bracket }
+{
+    match bracket {
+        Bracket::Round | Bracket::Square => b"[",
+        Bracket::Curly | Bracket::Set => b"{\"\":[",
+    }
+}
+
+/// How it ends.
+fn closing(bracket: Bracket) -> &'static [u8]
+    ensures { result.now ≡ closing_of bracket }
+{
+    match bracket {
+        Bracket::Round | Bracket::Square => b"]",
+        Bracket::Curly | Bracket::Set => b"]}",
     }
 }
 
@@ -120,7 +141,7 @@ impl Draft {
         }
         let separator = self.separator();
         self.json.extend_from_slice(separator)?;
-        self.json.push(b'[')?;
+        self.json.extend_from_slice(opening(bracket))?;
         self.brackets.push(bracket)?;
         self.fresh = true;
         Ok(())
@@ -174,7 +195,7 @@ impl Draft {
             return Err(Untold::Line(Why::BadBracket));
         }
         let _ = self.brackets.pop();
-        self.json.push(b']')?;
+        self.json.extend_from_slice(closing(opened))?;
         self.named = self.named_behind(self.brackets.len());
         self.fresh = false;
         Ok(())

@@ -33,7 +33,7 @@ pub enum Why {
     #[error("wanted brackets in pairs")]
     BadBracket,
     /// In EDN, more than `MOST_OPEN` brackets of an entry are open at once.
-    #[error("wanted at most 100 brackets within one another")]
+    #[error("wanted at most 60 brackets within one another")]
     TooDeep,
     /// In EDN, `#` or a backslash stands where none is read.
     #[error("wanted a form of EDN, and no #_")]

@@ -81,7 +81,7 @@ const NO_END: &str = "refused: line 1: wanted the end of what is begun\n";
 
 const NO_FORM: &str = "refused: line 1: wanted a form of EDN, and no #_\n";
 
-const ROWS: [Row; 30] = [
+const ROWS: [Row; 31] = [
     ("judge", STALE, (1, STALE_TOLD, "")),
     ("judge", STALE_IN_VECTOR, (1, STALE_TOLD, "")),
     ("judge", ASIDE, (0, ASIDE_TOLD, "")),
@@ -143,6 +143,15 @@ const ROWS: [Row; 30] = [
     (
         "judge",
         "{:process 0 :type :invoke :f :write :key :x :value [:y 1]}",
+        (
+            1,
+            "",
+            "refused: line 1: wanted value, an integer, a string or null\n",
+        ),
+    ),
+    (
+        "judge",
+        "{:process 0 :type :invoke :f :write :value {:x 1}}",
         (
             1,
             "",
