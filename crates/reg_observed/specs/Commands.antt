@@ -27,8 +27,8 @@ IsAnswerWith false registers entries points text = Says (is_some points) text
 abbrev pub IsAnswer : {A : Type 0} → Bool → Verdict A → List ℕ → Type 0
 IsAnswer report v text = IsAnswerWith report v.history.shape.registers v.history.entries v.points text
 
--- The text tells a history, as lines of JSON or as EDN, this is found out of it, and the answer was written: a report or a word, as the
--- flags ask. `Wrote` says how a text was written.
+-- The text tells a history, as lines of JSON or as EDN, this is found out of it, and the answer was written: a report
+-- or a word, as the flags ask. `Wrote` says how a text was written.
 pub record IsJudgedText (flags : JudgeFlags) (found : Bool) (Wrote : List ℕ → Type 0) (text : List ℕ) : Type 0 where
   pub told : List (ℕ × Telling)
   pub tells : text_tells text ≡ Ok told

@@ -21,8 +21,8 @@ is_integer word = is_natural (without_minus word)
 abbrev pub json_text : List ℕ → List ℕ
 json_text text = 34 ∷ (text ++ 34 ∷ [])
 
--- A word in JSON: a keyword is the string of its name, nil is null, and an integer is itself. All others are no values of
--- a history, and become false.
+-- A word in JSON: a keyword is the string of its name, nil is null, and an integer is itself. All others are no values
+-- of a history, and become false.
 abbrev pub json_word : List ℕ → List ℕ
 json_word word =
     if starts_with nat_eq word (codes ":") then json_text (drop 1 word) else

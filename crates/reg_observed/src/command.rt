@@ -167,8 +167,8 @@ fn write_refused<E: Write>(global: Global, errors: &mut E, fault: CommandFault) 
     }
 }
 
-/// Judges the history on the reader, a report, lines of JSON or EDN: it reads the whole input, and writes one text once all
-/// is found out. Its first line is `yes` where the history has a point order, and `no` where it has none; then come
+/// Judges the history on the reader, a report, lines of JSON or EDN: it reads the whole input, and writes one text once
+/// all is found out. Its first line is `yes` where the history has a point order, and `no` where it has none; then come
 /// lines for a person, of which no clause speaks. Where the flags ask for a report and there is a point order, the text
 /// is that report. The answer is the status: 0 for a yes, and 1 for a no; or for a refusal, of which `errors` is told
 /// by a line that begins with `refused: `, or where the writer failed, and then a first part of the text went out.

@@ -8,7 +8,7 @@ use crate::faults::{Untold, Why};
 use std::alloc::Global;
 use std::marker::Model;
 
-/// How many brackets of an entry may be open at once. In JSON each is at most two levels, of the 127 that the kit reads.
+/// How many brackets of an entry may be open at once. In JSON each is at most two levels, and the kit reads 127.
 pub const MOST_OPEN: usize = 60;
 
 /// Where entries stand.
