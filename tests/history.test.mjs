@@ -47,7 +47,7 @@ const line = (process, type, f, value, more = {}) =>
 
 test("the examples of the judge's document are judged alike", () => {
   const blocks = readFileSync(join(TOP, "docs/JUDGE.md"), "utf8").split(/^```\n/m).filter((_, place) => place % 2 === 1)
-    .map(block => block.split("\n").filter(one => one.startsWith("{")).map(one => one + "\n").join(""));
+    .map(block => block.split("\n").filter(one => one.startsWith("{\"")).map(one => one + "\n").join(""));
   const histories = blocks.filter(Boolean);
   assert.equal(histories.length, 3);
   assert.deepEqual(histories.map(text => agree(text).output.split("\n")[0]), ["no", "no", "yes"]);
@@ -68,7 +68,7 @@ print(json.dumps(["\\n".join(tries.history(random.Random(seed))[0]) + "\\n" for 
 
 test("what is refused is refused at the same line for the same reason", () => {
   const call = line(0, "invoke", "write", 1);
-  for (const text of ["{\n", "{}\n", "[]\n", "7\n", "{\"process\": 1.5}\n", line(null, "invoke", "read"),
+  for (const text of ["{\n", "{}\n", call + "[]\n", "7\n", "{\"process\": 1.5}\n", line(null, "invoke", "read"),
     line(0, "begin", "read"), line(0, "invoke", "scan"), line(0, "invoke", "write"), line(0, "invoke", "cas", [1]),
     line(0, "invoke", "cas", 1), line(0, "invoke", "cas", [1, null]), line(0, "invoke", "read", true),
     line(0, "invoke", "read", null, { key: [] }), line(0, "ok", "read", 1), call + call,

@@ -53,60 +53,46 @@ pub front_all : (ts : List (ℕ × Telling)) → all_in_front ts (Ok []) ≡ Ok 
 front_all [] = refl
 front_all (t ∷ ts) = ap (in_front t) (front_all ts)
 
--- what a loop over lines keeps: these were told, and the whole is they and what the lines to come tell
-pub record Heard (v : Vocabulary) (events : List Event) (first : ℕ) (all : List (List ℕ)) (next : ℕ) (left : List (List ℕ)) : Type 0 where
+-- what a loop over a text keeps: these were told, and the whole is they and what is told of the rest
+pub record Heard (v : Vocabulary) (events : List Event) (whole rest : Tellings) : Type 0 where
   pub told : List (ℕ × Telling)
   pub are : AreEvents v told events
-  pub whole : lines_tell first all ≡ all_in_front told (lines_tell next left)
+  pub is_whole : whole ≡ all_in_front told rest
 
-module _ (v : Vocabulary) (events : List Event) (first : ℕ) (all : List (List ℕ)) (next : ℕ) (line : List ℕ) (left : List (List ℕ)) (heard : Heard v events first all next (line ∷ left)) where
-  says : (r : Result (Option Telling) Why) → line_says line ≡ r → lines_tell first all ≡ all_in_front heard.told (after_line next r (lines_tell (next + 1) left))
-  unfolding lines_tell
-  says r e = heard.whole ∙ ap (λ r. all_in_front heard.told (after_line next r (lines_tell (next + 1) left))) e
+pub heard_first : (v : Vocabulary) (whole : Tellings) → Heard v [] whole whole
+heard_first v whole = record { told = []; are = tt; is_whole = refl }
 
-  -- the line tells nothing
-  pub heard_none : line_says line ≡ Ok None → Heard v events first all (next + 1) left
-  heard_none e = record { told = heard.told; are = heard.are; whole = says (Ok None) e }
+-- nothing is left
+pub heard_all : (v : Vocabulary) (events : List Event) (whole rest : Tellings) → Heard v events whole rest → rest ≡ Ok [] → (told : List (ℕ × Telling)) × (whole ≡ Ok told) × AreEvents v told events
+heard_all v events whole rest heard e = (heard.told, heard.is_whole ∙ (ap (all_in_front heard.told) e ∙ front_all heard.told), heard.are)
 
-  -- the line tells this
-  pub heard_one : (w : Vocabulary) (told : Telling) (e : Event) (now : List Event) → line_says line ≡ Ok (Some told) → Widens v w → Speaks w (next, told) e → now ≡ events ++ e ∷ [] → Heard w now first all (next + 1) left
-  heard_one w told e now is wider s grown = record {
-    told = heard.told ++ (next, told) ∷ [];
-    are = let P : List Event → Type 0 = λ es. AreEvents w (heard.told ++ (next, told) ∷ []) es in subst P (sym grown) (one_more v w wider heard.told events (next, told) e heard.are s);
-    whole = says (Ok (Some told)) is ∙ front_push heard.told (next, told) (lines_tell (next + 1) left);
-  }
+-- what comes next is refused
+pub refused_next : (v : Vocabulary) (events : List Event) (whole rest : Tellings) (refused : ℕ × Why) → Heard v events whole rest → rest ≡ Err refused → whole ≡ Err refused
+refused_next v events whole rest refused heard e = heard.is_whole ∙ (ap (all_in_front heard.told) e ∙ front_refused heard.told refused)
 
-  -- the line is refused
-  pub refused_here : (why : Why) → line_says line ≡ Err why → lines_tell first all ≡ Err (next, why)
-  refused_here why e = says (Err why) e ∙ front_refused heard.told (next, why)
-
-pub heard_first : (v : Vocabulary) (first : ℕ) (all : List (List ℕ)) → Heard v [] first all first all
-heard_first v first all = record { told = []; are = tt; whole = refl }
-
-pub heard_all : (v : Vocabulary) (events : List Event) (first : ℕ) (all : List (List ℕ)) (next : ℕ) (left : List (List ℕ)) → Heard v events first all next left → left ≡ [] → (told : List (ℕ × Telling)) × (lines_tell first all ≡ Ok told) × AreEvents v told events
-unfolding lines_tell
-heard_all v events first all next left heard e = (heard.told, heard.whole ∙ (ap (λ l. all_in_front heard.told (lines_tell next l)) e ∙ front_all heard.told), heard.are)
-
--- one more line
-pub heard_more : (old new : Told) (first : ℕ) (all : List (List ℕ)) (next : ℕ) (lines : List (List ℕ)) (line : List ℕ) (left : List (List ℕ)) (o : Option Telling) → Heard old.words old.events.items first all next lines → lines ≡ line ∷ left
-    → line_says line ≡ Ok o → Hears old new next o → Heard new.words new.events.items first all (next + 1) left
-heard_more old new first all next lines line left o heard e says hears = go o hears says
+-- one more is heard
+pub heard_more : (old new : Told) (whole rest others : Tellings) (next : ℕ) (o : Option Telling) → Heard old.words old.events.items whole rest → rest ≡ after_line next (Ok o) others → Hears old new next o → Heard new.words new.events.items whole others
+heard_more old new whole rest others next o heard e hears = go o e hears
   where
-    here : Heard old.words old.events.items first all next (line ∷ left)
-    here = let P : List (List ℕ) → Type 0 = λ l. Heard old.words old.events.items first all next l in subst P e heard
+    go : (o : Option Telling) → rest ≡ after_line next (Ok o) others → Hears old new next o → Heard new.words new.events.items whole others
+    go None e (Nothing same) =
+        let P : Told → Type 0 = λ h. Heard h.words h.events.items whole others in
+        let here : Heard old.words old.events.items whole others = record { told = heard.told; are = heard.are; is_whole = heard.is_whole ∙ ap (all_in_front heard.told) e } in
+        subst P (sym same) here
+    go (Some told) e (Call event wider s grown) = record {
+      told = heard.told ++ (next, told) ∷ [];
+      are = let P : List Event → Type 0 = λ es. AreEvents new.words (heard.told ++ (next, told) ∷ []) es in subst P (sym grown) (one_more old.words new.words wider heard.told old.events.items (next, told) event heard.are s);
+      is_whole = heard.is_whole ∙ (ap (all_in_front heard.told) e ∙ front_push heard.told (next, told) others);
+    }
 
-    go : (o : Option Telling) → Hears old new next o → line_says line ≡ Ok o → Heard new.words new.events.items first all (next + 1) left
-    go None (Nothing same) says =
-        let P : Told → Type 0 = λ h. Heard h.words h.events.items first all (next + 1) left in
-        subst P (sym same) (heard_none old.words old.events.items first all next line left here says)
-    go (Some told) (Call e wider s grown) says = heard_one old.words old.events.items first all next line left here new.words told e new.events.items says wider s grown
+-- lines that are left: none, or one that says this and others
+pub no_line : (next : ℕ) (lines : List (List ℕ)) → lines ≡ [] → lines_tell next lines ≡ Ok []
+unfolding lines_tell
+no_line next lines e = ap (lines_tell next) e
 
--- the next line is refused
-pub refused_next : (v : Vocabulary) (events : List Event) (first : ℕ) (all : List (List ℕ)) (next : ℕ) (lines : List (List ℕ)) (line : List ℕ) (left : List (List ℕ)) (why : Why) → Heard v events first all next lines → lines ≡ line ∷ left
-    → line_says line ≡ Err why → lines_tell first all ≡ Err (next, why)
-refused_next v events first all next lines line left why heard e says =
-    let P : List (List ℕ) → Type 0 = λ l. Heard v events first all next l in
-    refused_here v events first all next line left (subst P e heard) why says
+pub line_more : (next : ℕ) (lines : List (List ℕ)) (line : List ℕ) (left : List (List ℕ)) (r : Result (Option Telling) Why) → lines ≡ line ∷ left → line_says line ≡ r → lines_tell next lines ≡ after_line next r (lines_tell (next + 1) left)
+unfolding lines_tell
+line_more next lines line left r e says = ap (lines_tell next) e ∙ ap (λ r. after_line next r (lines_tell (next + 1) left)) says
 
 pub hears_nothing : (h : Told) (number : ℕ) (o : Option Telling) → o ≡ None → Hears h h number o
 hears_nothing h number o e = let P : Option Telling → Type 0 = λ o. Hears h h number o in subst P (sym e) (Nothing refl)

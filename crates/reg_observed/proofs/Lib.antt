@@ -1,6 +1,7 @@
 pub mod Utf8
 pub mod Numbering
 pub mod Hearing
+pub mod Scanning
 pub mod Turning
 pub mod Rowing
 pub mod Finding

@@ -8,13 +8,13 @@ use Rattle.reg_commands.specs.declared.kinds.Kind.{Kind}
 use Rattle.reg_commands.specs.declared.kinds.Kind.TheVariants.{Report, Schedule, Workload}
 use Rattle.reg_history.specs.Reports.{Contents, report_text}
 use Rattle.reg_rulings.specs.Reported.{IsReportOf, JudgesReport, Says}
-use Rattle.reg_text.specs.Lines.{lines_of}
 use Rattle.reg_observed.specs.declared.flags.JudgeFlags.{JudgeFlags}
 use Rattle.reg_observed.specs.declared.heard.Heard.{Heard}
 use Rattle.reg_observed.specs.declared.judging.Verdict.{Verdict}
 use Rattle.reg_observed.specs.Told.{Telling}
 use Rattle.reg_observed.specs.Heard.{AreDistinct}
-use Rattle.reg_observed.specs.Reading.{AreEvents, lines_tell}
+use Rattle.reg_observed.specs.Reading.{AreEvents}
+use Rattle.reg_observed.specs.Histories.{text_tells}
 use Rattle.reg_observed.specs.Verdicts.{IsJudged}
 
 -- The text of a report, where one is asked for and there are points; and else one that begins with a word, with lines
@@ -27,11 +27,11 @@ IsAnswerWith false registers entries points text = Says (is_some points) text
 abbrev pub IsAnswer : {A : Type 0} → Bool → Verdict A → List ℕ → Type 0
 IsAnswer report v text = IsAnswerWith report v.history.shape.registers v.history.entries v.points text
 
--- The lines of the text tell a history, this is found out of it, and the answer was written: a report or a word, as the
--- flags ask. `Wrote` says how a text was written.
+-- The text tells a history, as lines of JSON or as EDN, this is found out of it, and the answer was written: a report
+-- or a word, as the flags ask. `Wrote` says how a text was written.
 pub record IsJudgedText (flags : JudgeFlags) (found : Bool) (Wrote : List ℕ → Type 0) (text : List ℕ) : Type 0 where
   pub told : List (ℕ × Telling)
-  pub tells : lines_tell 1 (lines_of text) ≡ Ok told
+  pub tells : text_tells text ≡ Ok told
   pub heard : Heard
   pub events : AreEvents heard.words told heard.events.items
   pub processes : AreDistinct heard.words.processes
@@ -43,7 +43,7 @@ pub record IsJudgedText (flags : JudgeFlags) (found : Bool) (Wrote : List ℕ �
   pub written : (answer : List ℕ) × IsAnswer flags.report verdict answer × Wrote answer
 
 -- What is judged of a text by its kind: the history of a report, whose registers begin with 0, so that no first value
--- is asked for; or else lines of JSON.
+-- is asked for; or else lines of JSON or EDN.
 abbrev pub IsJudgedAs : Kind → JudgeFlags → Bool → (List ℕ → Type 0) → List ℕ → Type 0
 IsJudgedAs Report flags found Wrote text = (is_some flags.first ≡ false) × JudgesReport flags.report found Wrote text
 IsJudgedAs Schedule flags found Wrote text = IsJudgedText flags found Wrote text

@@ -37,9 +37,6 @@ value_said text = value_or_none (read text)
 abbrev pub word_in : List ℕ → Why → Data → Result (List ℕ) Why
 word_in name why d = word_of why (get name d)
 
-abbrev pub named_or_null : List ℕ → Why → Data → Result (List ℕ) Why
-named_or_null name why d = word_or_null_of why (get name d)
-
 -- the string of this name
 abbrev pub string_in : List ℕ → Data → Option (List ℕ)
 string_in name d = option_and_then as_str (get name d)
@@ -90,11 +87,11 @@ value_pair None = Ok (codes "null", codes "null")
 value_pair (Some d) = if is_some (as_null d) then Ok (codes "null", codes "null") else array_pair (as_array d)
 
 -- the value of another call: nothing is expected
-abbrev pub one_value : Data → Result (List ℕ × List ℕ) Why
-one_value d = named_or_null (codes "value") BadValue d >>= λ value. Ok (codes "null", value)
+abbrev pub one_value : Option Data → Result (List ℕ × List ℕ) Why
+one_value value = word_or_null_of BadValue value >>= λ word. Ok (codes "null", word)
 
-abbrev pub values_in : Act → Data → Result (List ℕ × List ℕ) Why
-values_in act d = if is_compare_and_swap act then value_pair (get (codes "value") d) else one_value d
+abbrev pub values_of : Act → Option Data → Result (List ℕ × List ℕ) Why
+values_of act value = if is_compare_and_swap act then value_pair value else one_value value
 
 -- it is said that the register had another value than the expected one
 abbrev pub says_unequal : Data → Bool
@@ -104,15 +101,19 @@ says_unequal d = is_named (codes "error") (codes "unequal") d
 abbrev pub is_nemesis : Data → Bool
 is_nemesis d = is_named (codes "process") (codes "nemesis") d
 
--- the event that the value tells of
-unfoldable pub told_in : Data → Result Telling Why
-told_in d = do
+-- the event that the value tells of, with this key and this value
+unfoldable pub told_at : Option Data → Option Data → Data → Result Telling Why
+told_at key value d = do
   process ← word_in (codes "process") BadProcess d
   moment ← moment_in d
   act ← act_in d
-  key ← named_or_null (codes "key") BadKey d
-  values ← values_in act d
+  key ← word_or_null_of BadKey key
+  values ← values_of act value
   with_value (record { process = process; moment = moment_of moment act (says_unequal d); act = act; key = key; expected = values.0; value = values.1 })
+
+-- the event that the value tells of
+abbrev pub told_in : Data → Result Telling Why
+told_in d = told_at (get (codes "key") d) (get (codes "value") d) d
 
 -- what the value tells, and nothing where it is of no call
 unfoldable pub call_in : Data → Result (Option Telling) Why

@@ -1,7 +1,13 @@
 pub mod Told
 pub mod JsonLines
+pub mod EdnBytes
+pub mod EdnWords
+pub mod EdnEntries
+pub mod EdnSays
 pub mod Heard
 pub mod Reading
+pub mod Edn
+pub mod Histories
 pub mod Turns
 pub mod Rows
 pub mod Verdicts

@@ -10,7 +10,7 @@ use crate::answers::{Answer, answer_of, has_points, write_of};
 use crate::faults::JudgeFault;
 use crate::flags::JudgeFlags;
 use crate::judging::judge;
-use crate::reading::read_json_lines;
+use crate::reading::read_history;
 use reg_commands::{Fault, Kind, Refusal, TextCommand, kind_of, read_input};
 use reg_rulings::{JudgeReport, RuleFault, RulingFault};
 use reg_text::write_bytes;
@@ -62,11 +62,11 @@ impl From<RulingFault> for CommandFault {
     }
 }
 
-/// What a text of JSON lines comes to, and what is written of that.
+/// What a text of JSON lines or of EDN comes to, and what is written of that.
 fn judged(global: Global, flags: JudgeFlags<'_>, text: &str) -> Result<(bool, Answer), JudgeFault>
     ensures { IfOk result (λ p. IsJudgedText flags.entry p.0 (λ answer. answer ≡ answer_text p.1) text.now) }
 {
-    let mut heard = read_json_lines(global, text)?;
+    let mut heard = read_history(global, text)?;
     let verdict = judge(global, global, &mut heard, flags.first)?;
     // (for the proof: that no word has two numbers)
     heard.words.processes.count_distinct();
@@ -77,7 +77,7 @@ fn judged(global: Global, flags: JudgeFlags<'_>, text: &str) -> Result<(bool, An
     Ok((found, answer))
 }
 
-/// Judges lines of JSON, and writes what was found out. The answer is whether there is a point order.
+/// Judges lines of JSON or EDN, and writes what was found out. The answer is whether there is a point order.
 fn answer_lines<W: Write>(
     global: Global,
     flags: JudgeFlags<'_>,
@@ -167,8 +167,8 @@ fn write_refused<E: Write>(global: Global, errors: &mut E, fault: CommandFault) 
     }
 }
 
-/// Judges the history on the reader, a report or lines of JSON: it reads the whole input, and writes one text once all
-/// is found out. Its first line is `yes` where the history has a point order, and `no` where it has none; then come
+/// Judges the history on the reader, a report, lines of JSON or EDN: it reads the whole input, and writes one text once
+/// all is found out. Its first line is `yes` where the history has a point order, and `no` where it has none; then come
 /// lines for a person, of which no clause speaks. Where the flags ask for a report and there is a point order, the text
 /// is that report. The answer is the status: 0 for a yes, and 1 for a no; or for a refusal, of which `errors` is told
 /// by a line that begins with `refused: `, or where the writer failed, and then a first part of the text went out.

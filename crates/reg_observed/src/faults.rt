@@ -26,6 +26,21 @@ pub enum Why {
     /// The value of a compare-and-swap is not two values.
     #[error("wanted value, the expected value and the new one")]
     BadPair,
+    /// In EDN, there is something else than an entry, or an entry is no map of keywords and values.
+    #[error("wanted an entry, a map of EDN whose keys are keywords")]
+    BadEntry,
+    /// In EDN, a bracket closes none, or one of another kind.
+    #[error("wanted brackets in pairs")]
+    BadBracket,
+    /// In EDN, more than `MOST_OPEN` brackets of an entry are open at once.
+    #[error("wanted at most 60 brackets within one another")]
+    TooDeep,
+    /// In EDN, `#` or a backslash stands where none is read.
+    #[error("wanted a form of EDN, and no #_")]
+    BadForm,
+    /// In EDN, the text ends within a word, a string, a character, an entry or the vector of all entries.
+    #[error("wanted the end of what is begun")]
+    Unfinished,
     /// The first value of registers is neither an integer of 64 bits nor a string nor null.
     #[error("wanted an integer, a string or null, as JSON has it")]
     BadFirst,
@@ -50,6 +65,17 @@ pub(crate) enum Untold {
     Line(Why),
     /// There was no memory.
     OutOfMemory,
+}
+
+impl From<Why> for Untold {
+    ghost use Rattle.std.specs.Prelude.{◌≡◌};
+    ghost use Rattle.reg_observed.specs.declared.faults.Untold.TheVariants.{Line};
+
+    ghost from_gives = { λ why e. e ≡ Line why };
+
+    fn from(why: Why) -> Untold {
+        Untold::Line(why)
+    }
 }
 
 impl From<AllocError> for Untold {
@@ -80,8 +106,8 @@ pub enum ReadFault {
     /// This line, counted from 1, is the first that is refused.
     #[error("line {line}: {why}")]
     Line { line: u32, why: Why },
-    /// There are more lines than `limits::MOST_EVENTS`.
-    #[error("more than 1048576 lines")]
+    /// There are more lines, or entries of EDN, than `limits::MOST_EVENTS`.
+    #[error("more than 1048576 lines or entries")]
     TooLong,
     /// There was no memory for it.
     #[error("out of memory")]
@@ -132,7 +158,7 @@ pub enum JudgeFault {
     #[error("--first: {why}")]
     First { why: Why },
     /// A first value was asked for, and the history is a report, whose registers begin with 0.
-    #[error("--first is for lines of JSON: the registers of a report begin with 0")]
+    #[error("--first is for lines of JSON and EDN: the registers of a report begin with 0")]
     FirstOfReport,
     /// A history with its point order is beyond the limits of a report.
     #[error("beyond the limits of a report")]

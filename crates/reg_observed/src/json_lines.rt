@@ -1,11 +1,11 @@
 //! A line of JSON, and the event that it tells of.
-ghost use Rattle.std.specs.Prelude.{◌≡◌, codes, option_map, option_and_then, string_bytes, IfOk, IsUtf8, Ok, Some};
+ghost use Rattle.std.specs.Prelude.{◌≡◌, codes, option_map, option_and_then, string_bytes, IfOk, IsUtf8, Ok, Some, is_some};
 ghost use Rattle.std.specs.Str.{bytes_eq};
-ghost use Rattle.serde_json.specs.Find.{as_str, get};
+ghost use Rattle.serde_json.specs.Find.{as_str};
 ghost use Rattle.serde_json.specs.View.{items_view, view};
 ghost use Rattle.serde_json.specs.Written.{compact_text};
 ghost use Rattle.reg_observed.specs.Told.{Gives, act_named, failed_as, has_no_value, moment_named, moment_of as moment_of_line};
-ghost use Rattle.reg_observed.specs.JsonLines.{act_in, both_texts, call_in, items_pair, line_says, is_named, is_nemesis, is_word, moment_in, named_or_null, one_value, pair_of, told_in, value_pair, value_said, values_in, word_in, word_or_null_of};
+ghost use Rattle.reg_observed.specs.JsonLines.{act_in, both_texts, call_in, items_pair, line_says, is_named, is_nemesis, is_word, moment_in, one_value, pair_of, string_in, told_at as told_at_key, told_in, value_pair, value_said, values_of, word_in, word_or_null_of};
 
 use crate::events::Moment;
 use crate::faults::{Untold, Why};
@@ -107,18 +107,25 @@ pub(crate) fn read_value(global: Global, text: &str) -> Result<String, Untold>
     }
 }
 
-/// The text of the member of this name, a string, an integer or null, and null where there is no such member.
-fn word_or_null(global: Global, value: &Value, name: &str, why: Why) -> Result<String, Untold>
-    ensures { Gives string_bytes result (named_or_null name.now why (view value.now)) }
+/// The text of a value, a string, an integer or null, and null where there is none.
+fn word_or_null(global: Global, value: Option<&Value>, why: Why) -> Result<String, Untold>
+    ensures { Gives string_bytes result (word_or_null_of why (option_map (λ v. view v.now) value.entry)) }
 {
-    match value.get(name) {
-        Some(member) => value_text(global, member, why),
+    match value {
+        Some(value) => value_text(global, value, why),
         None => Ok(String::from_str(global, "null")?),
     }
 }
 
+/// Whether the member of this name is a string.
+pub(crate) fn is_text(value: &Value, name: &str) -> bool
+    ensures { result ≡ is_some (string_in name.now (view value.now)) }
+{
+    value.get(name).and_then(Value::as_str).is_some()
+}
+
 /// Whether the member of this name is this string.
-fn says(value: &Value, name: &str, text: &str) -> bool
+pub(crate) fn says(value: &Value, name: &str, text: &str) -> bool
     ensures { result ≡ is_named name.now text.now (view value.now) }
 {
     match value.get(name).and_then(Value::as_str) {
@@ -139,15 +146,13 @@ fn moment(value: &Value) -> Result<Moment, Untold>
     }
 }
 
-fn act(value: &Value) -> Result<Act, Untold>
-    ensures { Gives (λ a. a) result (act_in (view value.now)) }
+/// The operation that the member `f` names.
+pub(crate) fn act(value: &Value) -> Result<Act, Why>
+    ensures { result ≡ act_in (view value.now) }
 {
     match value.get("f").and_then(Value::as_str) {
-        Some(name) => match act_of(name) {
-            Ok(act) => Ok(act),
-            Err(why) => Err(Untold::Line(why)),
-        },
-        None => Err(Untold::Line(Why::BadFunction)),
+        Some(name) => act_of(name),
+        None => Err(Why::BadFunction),
     }
 }
 
@@ -205,33 +210,33 @@ fn array_of_two(global: Global, items: &[Value]) -> Result<(String, String), Unt
 }
 
 /// The expected and the new value of a compare-and-swap.
-fn pair(global: Global, value: &Value) -> Result<(String, String), Untold>
-    ensures { Gives both_texts result (value_pair (get (codes "value") (view value.now))) }
+fn pair(global: Global, value: Option<&Value>) -> Result<(String, String), Untold>
+    ensures { Gives both_texts result (value_pair (option_map (λ v. view v.now) value.entry)) }
 {
-    let Some(member) = value.get("value") else {
+    let Some(value) = value else {
         return nulls(global);
     };
-    if member.is_null() {
+    if value.is_null() {
         return nulls(global);
     }
-    match member.as_array() {
+    match value.as_array() {
         Some(items) => array_of_two(global, items),
         None => Err(Untold::Line(Why::BadPair)),
     }
 }
 
 /// The value of a call that expects none.
-fn single(global: Global, value: &Value) -> Result<(String, String), Untold>
-    ensures { Gives both_texts result (one_value (view value.now)) }
+fn single(global: Global, value: Option<&Value>) -> Result<(String, String), Untold>
+    ensures { Gives both_texts result (one_value (option_map (λ v. view v.now) value.entry)) }
 {
-    let value = word_or_null(global, value, "value", Why::BadValue)?;
+    let value = word_or_null(global, value, Why::BadValue)?;
     let expected = String::from_str(global, "null")?;
     Ok((expected, value))
 }
 
 /// What a call expects, null where it is no compare-and-swap, and its value.
-fn values(global: Global, value: &Value, act: Act) -> Result<(String, String), Untold>
-    ensures { Gives both_texts result (values_in act (view value.now)) }
+fn values(global: Global, value: Option<&Value>, act: Act) -> Result<(String, String), Untold>
+    ensures { Gives both_texts result (values_of act (option_map (λ v. view v.now) value.entry)) }
 {
     if act == Act::CompareAndSwap {
         pair(global, value)
@@ -240,16 +245,22 @@ fn values(global: Global, value: &Value, act: Act) -> Result<(String, String), U
     }
 }
 
-#[tactic(auto, unfolding(crate::specs::JsonLines::told_in))]
-fn told(global: Global, value: &Value) -> Result<Told, Untold>
-    ensures { Gives (λ t. t) result (told_in (view value.now)) }
+/// The event that the value tells of, with this key and this value.
+#[tactic(auto, unfolding(crate::specs::JsonLines::told_at))]
+pub(crate) fn told_at(
+    global: Global,
+    value: &Value,
+    key: Option<&Value>,
+    said: Option<&Value>,
+) -> Result<Told, Untold>
+    ensures { Gives (λ t. t) result (told_at_key (option_map (λ v. view v.now) key.entry) (option_map (λ v. view v.now) said.entry) (view value.now)) }
 {
     let process = word(global, value, "process", Why::BadProcess)?;
     let moment = moment(value)?;
     let act = act(value)?;
-    let key = word_or_null(global, value, "key", Why::BadKey)?;
+    let key = word_or_null(global, key, Why::BadKey)?;
     let moment = told_moment(moment, act, says(value, "error", "unequal"));
-    let (expected, value) = values(global, value, act)?;
+    let (expected, value) = values(global, said, act)?;
     if lacks_value(moment, act, value.as_str()) {
         return Err(Untold::Line(Why::NoValue));
     }
@@ -261,6 +272,13 @@ fn told(global: Global, value: &Value) -> Result<Told, Untold>
         expected,
         value,
     })
+}
+
+/// The event that the value tells of.
+pub(crate) fn told(global: Global, value: &Value) -> Result<Told, Untold>
+    ensures { Gives (λ t. t) result (told_in (view value.now)) }
+{
+    told_at(global, value, value.get("key"), value.get("value"))
 }
 
 /// What the value tells, None where it is of no call.

@@ -5,6 +5,11 @@
 mod answers;
 mod command;
 mod details;
+mod edn;
+mod edn_bytes;
+mod edn_entries;
+mod edn_says;
+mod edn_words;
 mod events;
 mod faults;
 mod first_values;
@@ -21,10 +26,12 @@ mod turns;
 mod words;
 
 pub use command::{CommandFault, judge_text};
+pub use edn::read_edn;
+pub use edn_entries::MOST_OPEN;
 pub use events::{Event, Moment};
 pub use faults::{JudgeFault, ReadFault, Why};
 pub use flags::JudgeFlags;
 pub use heard::{Heard, Vocabulary};
 pub use judging::{Verdict, judge};
-pub use reading::read_json_lines;
+pub use reading::{read_history, read_json_lines};
 pub use words::Words;

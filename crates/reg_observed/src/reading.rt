@@ -1,11 +1,14 @@
-//! Reading a history of JSON lines.
-ghost use Rattle.std.specs.Prelude.{◌≡◌, ◌⊎◌, ◌<◌, ◌+◌, [], ℕ, List, Ok, Err, IfOk, IfErr, OnOk, length};
+//! Reading a history of JSON lines, or of EDN.
+ghost use Rattle.std.specs.Prelude.{◌≡◌, ◌⊎◌, false, ◌<◌, ◌+◌, [], ℕ, List, Ok, Err, IfOk, IfErr, OnOk, length};
 ghost use Rattle.reg_text.specs.Lines.{lines_of};
 ghost use Rattle.reg_observed.specs.Told.{Telling};
 ghost use Rattle.reg_observed.specs.JsonLines.{line_says};
 ghost use Rattle.reg_observed.specs.Reading.{AreEvents, Hears, lines_tell};
 ghost use Rattle.reg_observed.specs.declared.faults.Why.{Why as AnyWhy};
+ghost use Rattle.reg_observed.specs.Edn.{begins_edn as begins_edn_in};
+ghost use Rattle.reg_observed.specs.Histories.{text_tells};
 
+use crate::edn::{begins_edn, read_edn};
 use crate::faults::{ReadFault, Untold};
 use crate::heard::Heard;
 use crate::json_lines::read_line;
@@ -15,7 +18,7 @@ use reg_text::Lines;
 use std::alloc::Global;
 
 /// Adds what was told on the line of this number, where it is of a call.
-fn add(heard: &mut Heard, number: u32, told: Option<Told>) -> Result<(), ReadFault>
+pub(crate) fn add(heard: &mut Heard, number: u32, told: Option<Told>) -> Result<(), ReadFault>
     ensures told { OnOk result (Hears heard.old heard.new number told) }
     ensures why { IfErr result (λ f. f ≡ ReadFault.OutOfMemory) }
 {
@@ -75,4 +78,21 @@ pub fn read_json_lines(global: Global, text: &str) -> Result<Heard, ReadFault>
     let mut lines = Lines::new(text.as_bytes());
     hear(global, &mut lines, &mut heard)?;
     Ok(heard)
+}
+
+/// The history that a text tells, as EDN where it begins so, and else as lines of JSON.
+///
+/// # Errors
+///
+/// `Line` names the first line that is refused, and why; `TooLong` is told of more than `limits::MOST_EVENTS` lines of
+/// JSON.
+pub fn read_history(global: Global, text: &str) -> Result<Heard, ReadFault>
+    ensures read { IfOk result (λ h. (told : List (ℕ × Telling)) × (text_tells text.now ≡ Ok told) × AreEvents h.words told h.events.items) }
+    ensures refused { IfErr result (λ f. (f ≡ ReadFault.OutOfMemory) ⊎ ((f ≡ ReadFault.TooLong) × (begins_edn_in text.now ≡ false) × (MOST_EVENTS < length (lines_of text.now))) ⊎ ((line : ℕ) × (why : AnyWhy) × (f ≡ ReadFault.Line line why) × (text_tells text.now ≡ Err (line, why)))) }
+{
+    if begins_edn(text.as_bytes()) {
+        read_edn(global, text)
+    } else {
+        read_json_lines(global, text)
+    }
 }

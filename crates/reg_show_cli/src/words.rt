@@ -64,9 +64,9 @@ usage: awshow replay                 reads a schedule, prints the report of its 
        awshow rest                   reads the same, prints the schedule with the events that bring the run to rest
        awshow why                    reads any of these texts but JSON, prints what is wrong with it, and where
        awshow verify                 reads a record of processes that ran apart, prints the report of their run
-       awshow judge                  reads a history, as JSON lines or a report, prints whether it is linearizable,
+       awshow judge                  reads a history, as JSON lines, EDN or a report, prints whether it is linearizable,
                                      key by key or register by register
-       awshow judge --first VALUE    the same of JSON lines, of registers with this first value, as JSON has it
+       awshow judge --first VALUE    the same of JSON lines or EDN, of registers with this first value, as JSON has it
        awshow judge --report         prints a report of the history in place of a yes, with the points that were found
        awshow help                   prints this; so do a command's word and --help
        awshow --version              prints the version

@@ -22,7 +22,7 @@ pub(crate) const STALE: &str = "\
 {\"process\": 2, \"type\": \"ok\", \"f\": \"read\", \"key\": \"x\", \"value\": 2}
 ";
 
-const STALE_TOLD: &str = "no
+pub(crate) const STALE_TOLD: &str = "no
 key \"x\": not linearizable
   by line 7: process 2 read 1
   under way line 3: process 1 write 2
@@ -134,7 +134,7 @@ const UNEQUAL: &str = "\
 {\"process\": 0, \"type\": \"fail\", \"f\": \"cas\", \"key\": \"x\", \"value\": [0, 1], \"error\": \"unequal\"}
 ";
 
-const UNEQUAL_TOLD: &str = "no
+pub(crate) const UNEQUAL_TOLD: &str = "no
 key \"x\": not linearizable
   by line 2: process 0 cas unequal
 first value: 0
@@ -148,7 +148,7 @@ const FAILED: &str = "\
 {\"process\": 0, \"type\": \"fail\", \"f\": \"cas\", \"key\": \"x\", \"value\": [0, 1]}
 ";
 
-const FAILED_TOLD: &str = "yes
+pub(crate) const FAILED_TOLD: &str = "yes
 key \"x\": linearizable
 first value: 0
 point order: yes

@@ -7,6 +7,8 @@
 #[cfg(test)]
 mod all_shown;
 #[cfg(test)]
+mod edn_judged;
+#[cfg(test)]
 mod given;
 #[cfg(test)]
 mod histories_judged;

@@ -184,7 +184,7 @@ end
 ";
 
 const FIRST_REFUSED: &str =
-    "refused: --first is for lines of JSON: the registers of a report begin with 0\n";
+    "refused: --first is for lines of JSON and EDN: the registers of a report begin with 0\n";
 
 const ROWS: [Row; 12] = [
     ("judge", STALE, (1, STALE_TOLD, "")),
