@@ -98,11 +98,11 @@ function triesOfTables({ session, browser, shots }) {
       assert.match(await session.inside("#front-verdict"), /It is local-read/);
       assert.match(await choose(["read 1", "look"]), /it would miss the own write\. Break it, section 9: /);
       if (shots) await browser.picture(join(shots, "table.png"));
-      assert.match(await choose(["read 1", "hold"], ["write 0", "answer"]), /lawful, and none of the three/);
+      assert.match(await choose(["read 1", "hold"], ["write 0", "answer"]), /lawful, and starts some call otherwise/);
       assert.match(await session.text(), /^front local-read$/m);
       assert.match(await choose(["write 1", "answer"]), /It is local-write/);
       assert.match(await session.text(), /^front local-write$/m);
-      assert.match(await choose(["swap 0", "look"]), /has to be cast[^]*No run is stored that shows it/);
+      assert.match(await choose(["swap 0", "look"]), /has to be cast[^]*Break it, section 15: /);
       await choose(["read 1", "look"]);
       await browser.value("document.querySelector('#front-verdict a').focus()");
       await session.press("Enter");
