@@ -44,10 +44,10 @@ test("each of the 4,096 tables breaks the laws that it breaks, and no others", (
 });
 
 /**
- * What a process that starts its operations by a table does of what decides how the next one starts: whether an own cast
- * or a hold runs, and how many own casts are not yet delivered, up to three. Each step is worked by hand from the
- * definitions: a cast runs until its own delivery, own casts are delivered in the order of their calls, and a hold ends
- * at a delivery after which none is left. Gives each cell of the table by which an operation starts.
+ * Each cell of a table by which an operation of some process starts. What decides how the next one starts is whether an
+ * own cast or a hold runs, and how many own casts are not yet delivered: all such states are gone through, up to three
+ * casts. Each step is worked by hand from the definitions: a cast runs until its own delivery, own casts are delivered
+ * in the order of their calls, and a hold ends at a delivery after which none is left.
  */
 function cellsReached(starts) {
   const seen = new Set(), cells = new Set(), ahead = [["nothing", 0]];
