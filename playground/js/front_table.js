@@ -7,10 +7,12 @@ import { withFront } from "./texts.js";
 const LABELS = { read: "read", write: "write", swap: "swap, cas" };
 const PLACES = ["with no own cast on its way", "with own casts on their way"];
 const REAL_TIME = "linear-casts-reads";
-const NAMELESS = "It is lawful, and starts some call otherwise than each of the three. The history of each of its runs " +
-  "has a serial order. Points it doesn't promise, since those come only where everything is cast. No program here " +
-  "runs it: they choose a front end by its name, and another one is another program. ";
-const UNREACHED = "nothing is answered before its delivery here, so no operation is called with own casts on their way. ";
+const NAMELESS = "It is lawful, and starts some call otherwise than each of the three. The history of each of its " +
+  "runs has a serial order. Points it doesn't promise, since those come only where everything is cast. No program " +
+  "here runs it: they choose a front end by its name, and another one is another program. ";
+const UNREACHED = "No run comes to this: nothing is answered before its delivery here. ";
+const ALIKE = ", which the programs run. No operation is called with own casts on their way, since nothing is " +
+  "answered before its delivery.";
 
 export class FrontTable {
   /** @param {import("./playground.js").Playground} playground */
@@ -50,12 +52,12 @@ export class FrontTable {
     const line = (kind, ...kids) => html("p", { class: "line " + kind }, kids);
     this.verdict.replaceChildren(...faults.map(({ kind, place, law, runs, isReached }) => line("bad",
       html("b", {}, `${LABELS[kind]}, ${PLACES[place]}: `), law, " ",
-      isReached ? "" : "No run comes to this: " + UNREACHED, this.links(runs))));
+      isReached ? "" : UNREACHED, this.links(runs))));
     if (name) {
       this.verdict.append(line("good", "It is ", html("code", {}, name), ", which the programs run."));
     } else if (sameAs) {
       this.verdict.append(line("good", faults.length ? "" : "It is lawful. ", "Each of its runs is one of ",
-        html("code", {}, sameAs), ", which the programs run: " + UNREACHED));
+        html("code", {}, sameAs), ALIKE));
     } else if (!faults.length) {
       const castsReads = this.table.read.every(start => start === "cast");
       this.verdict.append(line("good", NAMELESS, castsReads ? "" : this.links([REAL_TIME])));

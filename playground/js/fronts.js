@@ -70,8 +70,8 @@ const spelled = (/** @type {Table} */ table) => ROWS.map(kind => table[kind].joi
 const leavesCasts = table => ROWS.some(kind => table[kind][0] === "answer");
 
 /**
- * Which laws a table breaks, and where; which of the three it is, or null; and as which of them it starts each call that
- * comes, or null.
+ * Which laws a table breaks, and where; which of the three it is, or null; and as which of them it starts each call
+ * that comes, or null.
  * @param {Table} table @returns {{faults: Found[], name: string | null, sameAs: string | null}}
  */
 export function judgeTable(table) {
