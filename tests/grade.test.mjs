@@ -2,8 +2,8 @@
 import { test } from "node:test";
 import assert from "node:assert/strict";
 import { spawnSync } from "node:child_process";
-import { copyFileSync, mkdirSync, mkdtempSync, readFileSync, readdirSync, rmSync, symlinkSync, writeFileSync }
-  from "node:fs";
+import { chmodSync, copyFileSync, mkdirSync, mkdtempSync, readFileSync, readdirSync, rmSync, symlinkSync,
+  writeFileSync } from "node:fs";
 import { tmpdir } from "node:os";
 import { join } from "node:path";
 import { exercises, TOP } from "../tools/programs.mjs";
@@ -125,6 +125,17 @@ test("a variant for each student: a handout, what solves it, and the text of a n
   assert.match(grade(texts, "--variant", "autumn/ann", "--memory", "0").stdout,
     /^ann  12-too-late  solved\nbob  12-too-late  solved\n$/);
 }));
+
+const isRoot = process.getuid?.() === 0;
+
+test("a folder that can't be read keeps no other from being graded", { skip: isRoot ? "root reads all" : false }, () =>
+  withFolder(folder => {
+    for (const name of ["ann", "bob"]) mkdirSync(join(folder, name));
+    copyFileSync(join(tries, "08-the-lock.solution"), join(folder, "bob", "08.sched"));
+    chmodSync(join(folder, "ann"), 0);
+    const { stdout } = grade(folder, "--memory", "0");
+    assert.equal(stdout, "ann  ann  not solved\n    missing: can't be read\nbob  08-the-lock  solved\n");
+  }));
 
 test("a text whose lines end as another system's do", () => withFolder(folder => {
   const text = readFileSync(join(tries, "12-too-late.solution"), "utf8");
