@@ -1,7 +1,7 @@
 // Front ends as tables, all of them, by the laws as docs/DEFINITIONS.md has them. Run by `node --test tests`.
 import { test } from "node:test";
 import assert from "node:assert/strict";
-import { existsSync } from "node:fs";
+import { existsSync, readFileSync } from "node:fs";
 import { join } from "node:path";
 import { judgeTable, NAMED, STARTS } from "../playground/js/fronts.js";
 import { withFront } from "../playground/js/texts.js";
@@ -96,6 +96,11 @@ test("each law is one sentence, and each run that shows it is stored", () => {
     "swap 0 swap-is-cast", "swap 0 swap-waits", "swap 1 compare-and-swap-waits", "swap 1 swap-is-cast",
     "swap 1 swap-waits", "write 0 held-for-own-casts", "write 0 write-is-cast", "write 1 write-is-cast"]);
   assert.ok(faults.every(({ runs }) => runs.length));
+  const page = readFileSync(join(TOP, "docs", "BREAK_IT.md"), "utf8"), runs = new Set(faults.flatMap(it => it.runs));
+  const sections = [...page.matchAll(/^## (\d+)\. (?:(?!^## )[^])*?broken\/([\w-]+)\/rule\.edit/gm)];
+  assert.deepEqual(sections.filter(([, , run]) => runs.has(run)).map(([, number]) => +number),
+    [9, 10, 11, 14, 15, 16, 21]);
+  assert.match(page, /whose runs show it \(9 to 11, 14 to 16 and 21\)/);
   for (const words of shown) assert.ok(existsSync(join(TOP, "examples", "broken", words.split(" ")[2], "report.txt")));
 });
 
