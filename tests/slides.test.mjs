@@ -1,11 +1,12 @@
-// The slides are those of their Markdown, in one file. Run by `node --test tests`.
+// The slides are those of their Markdown, in one file, and their histories are those of examples. Run by
+// `node --test tests`.
 import { test } from "node:test";
 import assert from "node:assert/strict";
 import { spawnSync } from "node:child_process";
 import { mkdtempSync, readFileSync, rmSync } from "node:fs";
 import { tmpdir } from "node:os";
 import { join } from "node:path";
-import { TOP } from "../tools/programs.mjs";
+import { made as printed, TOP } from "../tools/programs.mjs";
 
 const source = join("docs", "slides", "slides.md");
 const made = readFileSync(join(TOP, "docs", "slides", "slides.html"), "utf8");
@@ -31,4 +32,13 @@ test("pandoc makes the same words of the Markdown", { skip: isAtHand ? false : "
   } finally {
     rmSync(folder, { recursive: true });
   }
+});
+
+test("each history on a slide is one of the examples that TEACHING.md names", () => {
+  const read = path => readFileSync(join(TOP, "examples", path), "utf8");
+  const reports = [printed("awreg", ["replay"], read("stale-read.sched")).output, read("stale-linear.report"),
+    read("broken/equal-times/report.txt")];
+  const shown = [...readFileSync(join(TOP, source), "utf8").matchAll(/^```\n(.*?)^```$/gms)].map(([, block]) => block);
+  assert.equal(shown.length, reports.length);
+  shown.forEach((block, at) => assert.ok(reports[at].includes(block), block));
 });

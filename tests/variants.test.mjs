@@ -85,6 +85,16 @@ test("a seed gives one variant, however its letters are composed, and most seeds
   assert.ok(new Set(seeds.map(seed => variantOf(exercise, seed).task)).size >= 15);
 });
 
+test("there are as many variants of each exercise as EXERCISES.md says", () => {
+  const many = Array.from({ length: 3000 }, (_, i) => `student ${i}`);
+  const counts = all.map(exercise => new Set(many.map(seed => JSON.stringify(variantOf(exercise, seed)))).size);
+  const said = { "04": 40, "06": 40, "09": 20, 16: 20 };
+  all.forEach(({ name }, i) => {
+    const wanted = said[name.slice(0, 2)];
+    assert.ok(wanted ? counts[i] === wanted : counts[i] >= 99, `${name}: ${counts[i]}`);
+  });
+});
+
 test("no exercise with a workload varies its processes: another script would have another play", () => {
   for (const { start, varies } of all) {
     assert.ok(varies.every(what => ["processes", "registers", "values"].includes(what)));

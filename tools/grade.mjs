@@ -57,12 +57,23 @@ function exerciseOf(all, name) {
   return all.find(exercise => exercise.name === word || exercise.name.split("-")[0] === word.split("-")[0]) || null;
 }
 
-/** The students' files: of whom, of which exercise, and where. */
+/** The names in a student's folder, or null where it can't be read. */
+function namesIn(folder) {
+  try {
+    return readdirSync(folder).sort();
+  } catch {
+    return null;
+  }
+}
+
+/** The students' files: of whom, of which exercise, and where; and a student's folder that can't be read. */
 function filesIn(folder, all, only) {
   return readdirSync(folder, { withFileTypes: true }).sort((a, b) => a.name < b.name ? -1 : 1).flatMap(entry => {
     const path = join(folder, entry.name);
     if (!entry.isDirectory()) return [{ student: parse(entry.name).name, exercise: only, path }];
-    return readdirSync(path).sort().map(name =>
+    const names = namesIn(path);
+    if (!names) return [{ student: entry.name, exercise: only, path, fault: "can't be read" }];
+    return names.map(name =>
       ({ student: entry.name, exercise: only || exerciseOf(all, name), path: join(path, name) }));
   });
 }
@@ -84,16 +95,17 @@ function variantsWithStarts() {
 }
 
 /** What is missing of an exercise: nothing where it is solved. */
-function missingOf({ exercise, path }, variantFor, make) {
+function missingOf({ exercise, path, fault }, variantFor, make) {
+  if (fault) return [fault];
   if (!exercise) return ["no exercise has this name"];
   try {
     const { variant, start } = variantFor(exercise), seen = seenOf(textOf(path), asksFor(variant), make);
     const told = judge(variant, start, seen);
     const first = seen.kind === "refused" ? [`refused: ${seen.why.split("\n")[0]}`] : [];
     return [...first, ...told.filter(({ isMet }) => !isMet).map(({ say }) => say)];
-  } catch (fault) {
-    if (fault instanceof Refused || fault.code) return [fault.message];
-    throw fault;
+  } catch (refusal) {
+    if (refusal instanceof Refused || refusal.code) return [refusal.message];
+    throw refusal;
   }
 }
 

@@ -1,4 +1,7 @@
-"""What a tool needs beside Python: it says in one line what is missing and what makes it, and what goes on while it waits."""
+"""What a tool needs beside Python: it says in one line what is missing and what makes it, and what goes on while it waits; and
+another tool, as a module."""
+import importlib.machinery
+import importlib.util
 import os
 import shutil
 import subprocess
@@ -42,6 +45,14 @@ def require_top():
     """Ends a tool that was not started at the top of the repository."""
     if not os.path.isfile("crates.txt"):
         sys.exit(f"{name()}: run it at the top of the repository, where crates.txt is")
+
+
+def other_tool(name):
+    """Another tool of this folder, as a module."""
+    loader = importlib.machinery.SourceFileLoader(name.replace("-", "_"), f"{TOP}/tools/{name}")
+    module = importlib.util.module_from_spec(importlib.util.spec_from_loader(loader.name, loader))
+    loader.exec_module(module)
+    return module
 
 
 def run_aloud(what, words, **more):

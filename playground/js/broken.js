@@ -8,7 +8,7 @@ import { showOutput, verdictLines } from "./output.js";
  * The history of a report: what each operation is and what it was answered, by the operation.
  * @param {string} report @returns {Map<string, {call: string, answer: string}>}
  */
-export function historyOf(report) {
+function historyOf(report) {
   const told = new Map();
   for (const line of report.split("\n")) {
     const found = /^ +(\d+) +(p\d+) +(#\d+) +(call|answer) +(.*)$/.exec(line);

@@ -7,8 +7,12 @@ import { withFront } from "./texts.js";
 const LABELS = { read: "read", write: "write", swap: "swap, cas" };
 const PLACES = ["with no own cast on its way", "with own casts on their way"];
 const REAL_TIME = "linear-casts-reads";
-const NAMELESS = "It is lawful, and none of the three: no program here runs it. The history of each of its runs " +
-  "has a serial order. Points it doesn't promise, since those come only where everything is cast. ";
+const NAMELESS = "It is lawful, and starts some call otherwise than each of the three. The history of each of its " +
+  "runs has a serial order. Points it doesn't promise, since those come only where everything is cast. No program " +
+  "here runs it: they choose a front end by its name, and another one is another program. ";
+const UNREACHED = "No run comes to this: nothing is answered before its delivery here. ";
+const ALIKE = ", which the programs run. No operation is called with own casts on their way, since nothing is " +
+  "answered before its delivery.";
 
 export class FrontTable {
   /** @param {import("./playground.js").Playground} playground */
@@ -44,17 +48,19 @@ export class FrontTable {
 
   /** Says what the table comes to. */
   show() {
-    const { faults, name } = judgeTable(this.table);
+    const { faults, name, sameAs } = judgeTable(this.table);
     const line = (kind, ...kids) => html("p", { class: "line " + kind }, kids);
-    if (faults.length) {
-      this.verdict.replaceChildren(...faults.map(({ kind, place, law, runs }) => line("bad",
-        html("b", {}, `${LABELS[kind]}, ${PLACES[place]}: `), law, " ",
-        runs.length ? this.links(runs) : "No run is stored that shows it.")));
-    } else if (name) {
-      this.verdict.replaceChildren(line("good", "It is ", html("code", {}, name), ", which the programs run."));
-    } else {
+    this.verdict.replaceChildren(...faults.map(({ kind, place, law, runs, isReached }) => line("bad",
+      html("b", {}, `${LABELS[kind]}, ${PLACES[place]}: `), law, " ",
+      isReached ? "" : UNREACHED, this.links(runs))));
+    if (name) {
+      this.verdict.append(line("good", "It is ", html("code", {}, name), ", which the programs run."));
+    } else if (sameAs) {
+      this.verdict.append(line("good", faults.length ? "" : "It is lawful. ", "Each of its runs is one of ",
+        html("code", {}, sameAs), ALIKE));
+    } else if (!faults.length) {
       const castsReads = this.table.read.every(start => start === "cast");
-      this.verdict.replaceChildren(line("good", NAMELESS, castsReads ? "" : this.links([REAL_TIME])));
+      this.verdict.append(line("good", NAMELESS, castsReads ? "" : this.links([REAL_TIME])));
     }
   }
 
@@ -72,11 +78,11 @@ export class FrontTable {
     });
   }
 
-  /** Gives a front end that has a name to the run. */
+  /** Gives the run the front end that has a name and starts each call as the table does. */
   set() {
-    const { playground } = this, { name } = judgeTable(this.table), { kind } = playground.seen;
-    if (!name || kind !== "schedule" && kind !== "workload") return;
-    const { text } = playground.editor, changed = withFront(text, name);
+    const { playground } = this, { sameAs } = judgeTable(this.table), { kind } = playground.seen;
+    if (!sameAs || kind !== "schedule" && kind !== "workload") return;
+    const { text } = playground.editor, changed = withFront(text, sameAs);
     if (changed !== text) playground.setText(changed);
   }
 }

@@ -8,7 +8,7 @@
  * @typedef {Record<Kind, [none: Start, some: Start]>} Table how each kind starts, with no own cast on its way and with
  * some
  * @typedef {{law: string, runs: string[]}} Fault the law, and the folders of examples/broken whose runs show it
- * @typedef {{kind: Kind, place: number} & Fault} Found
+ * @typedef {{kind: Kind, place: number, isReached: boolean} & Fault} Found whether some call of a run starts so
  */
 
 /** @type {Kind[]} */
@@ -27,6 +27,7 @@ export const NAMED = {
 
 const CHANGES = "What may change a register has to be cast: no other process hears of it otherwise.";
 const ANSWERED = "Only what is answered Done on every memory may be answered at once, and the answer of ";
+const HELD = "held-for-own-casts";
 
 /** @type {Record<Kind, Partial<Record<Start, [Fault | null, Fault | null]>>>} */
 const FAULTS = {
@@ -34,13 +35,12 @@ const FAULTS = {
     look: [null, { law: "A read looks at the copy at once only while no own cast is on its way: it would miss the " +
       "own write.", runs: ["read-waits"] }],
     hold: [{ law: "A read is held only while an own cast is on its way, since the delivery of the last one ends the " +
-      "hold.", runs: [] }, null],
-    answer: same({ law: ANSWERED + "a read is a value.", runs: [] }),
+      "hold.", runs: [HELD] }, null],
+    answer: same({ law: ANSWERED + "a read is a value.", runs: ["read-answers-value"] }),
   },
-  write: { look: same({ law: CHANGES, runs: [] }), hold: same({ law: CHANGES, runs: [] }) },
+  write: uncast("write-is-cast"),
   swap: {
-    look: same({ law: CHANGES, runs: [] }),
-    hold: same({ law: CHANGES, runs: [] }),
+    ...uncast("swap-is-cast"),
     answer: same({ law: ANSWERED + "a swap or a compare-and-swap depends on what its register holds at its place in " +
       "the order.", runs: ["swap-waits", "compare-and-swap-waits"] }),
   },
@@ -51,18 +51,37 @@ function same(fault) {
   return [fault, fault];
 }
 
+/**
+ * What isn't cast though it may change a register: looked at, or held, which with no own cast on its way may never end.
+ * @param {string} run @returns {{look: [Fault, Fault], hold: [Fault, Fault]}}
+ */
+function uncast(run) {
+  return { look: same({ law: CHANGES, runs: [run] }), hold: [{ law: CHANGES, runs: [run, HELD] },
+    { law: CHANGES, runs: [run] }] };
+}
+
 const spelled = (/** @type {Table} */ table) => ROWS.map(kind => table[kind].join()).join();
 
 /**
- * Which laws a table breaks, and where. One that breaks none may be a front end that has a name; if it casts
- * everything, its runs have points.
- * @param {Table} table @returns {{faults: Found[], name: string | null, castsAll: boolean}}
+ * Whether some operation is called with own casts on their way: only one that is cast and answered at once leaves its
+ * cast to the next call. Each other one that is cast runs until its delivery, which comes after all earlier own ones.
+ * @param {Table} table
+ */
+const leavesCasts = table => ROWS.some(kind => table[kind][0] === "answer");
+
+/**
+ * Which laws a table breaks, and where; which of the three it is, or null; and as which of them it starts each call
+ * that comes, or null.
+ * @param {Table} table @returns {{faults: Found[], name: string | null, sameAs: string | null}}
  */
 export function judgeTable(table) {
+  const places = leavesCasts(table) ? [0, 1] : [0];
   const faults = ROWS.flatMap(kind => table[kind].flatMap((start, place) => {
     const fault = FAULTS[kind][start]?.[place];
-    return fault ? [{ kind, place, ...fault }] : [];
+    return fault ? [{ kind, place, isReached: places.includes(place), ...fault }] : [];
   }));
-  const name = Object.keys(NAMED).find(one => spelled(NAMED[one]) === spelled(table)) || null;
-  return { faults, name, castsAll: ROWS.every(kind => table[kind].every(start => start === "cast")) };
+  const named = (/** @type {(one: Table) => boolean} */ isIt) =>
+    Object.keys(NAMED).find(one => isIt(NAMED[one])) || null;
+  return { faults, name: named(one => spelled(one) === spelled(table)),
+    sameAs: named(one => ROWS.every(kind => places.every(place => one[kind][place] === table[kind][place]))) };
 }

@@ -5,7 +5,7 @@ import { join } from "node:path";
 import { example } from "./session.mjs";
 
 /** Whether lines are those that a chapter shows, in which `..` stands for any number of lines. */
-export function isShownAs(lines, shown) {
+function isShownAs(lines, shown) {
   const [line, ...rest] = shown;
   if (line === undefined) return lines.length === 0;
   if (line === "..") return lines.some((_, at) => isShownAs(lines.slice(at), rest)) || isShownAs([], rest);
