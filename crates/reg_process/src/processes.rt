@@ -166,8 +166,8 @@ impl<F: FrontEnd, A: Allocator + Copy> Process<F, A> {
         self.core.resend(to, place)
     }
 
-    /// What goes out of a tick, its frames aside, which `resend` gives: nothing. The process stays as it is. `Failed` is
-    /// the only fault, and it takes no memory.
+    /// What goes out of a tick, aside from its frames, which `resend` gives: nothing. The process stays as it is.
+    /// `Failed` is the only fault. It takes no memory.
     pub fn tick_brief(&self) -> Result<Effect<A>, ProcessFault>
         ensures ticked { MatchResult result (λ e. Briefs F.start self.now Tick (puts (resent self.now.state) (length self.now.state.peers)) e.cast e.delivered.items e.reply self.now) (λ fault. Refused F.start self.now Tick fault self.now) }
         ensures memory { IfErr result (λ fault. fault ≡ ProcessFault.Failed) }
@@ -210,8 +210,8 @@ impl<F: FrontEnd, A: Allocator + Copy> Process<F, A> {
         self.tell(list, brief)
     }
 
-    /// Takes a frame as `take` does, and tells what is put in short. No frame takes memory then: an acknowledgement does
-    /// where it makes a cast clear, and a cast.
+    /// Takes a frame as `take` does, and tells what is put in short, which takes no memory. What can take some is a
+    /// cast, and an acknowledgement that makes a cast clear.
     // (in line: it runs at each take, and a frame handed on by a call would be copied once more)
     #[inline(always)]
     pub fn take_brief(&mut self, from: u8, frame: &Frame) -> Result<Brief<A>, ProcessFault>
