@@ -9,9 +9,9 @@ ghost use Rattle.reg_c.specs.NodeCodes.{bad_names};
 ghost use Rattle.reg_text.specs.Lines.{lines_of};
 ghost use Rattle.reg_text.specs.Words.{names_text};
 
+use crate::codes::{NO_FRONT, NO_SHAPE};
 use crate::events::code_of_refusal;
 use crate::node_codes::BAD_NAMES;
-use crate::processes::{NO_FRONT, NO_SHAPE};
 use reg_base::limits::MOST_REGISTERS;
 use reg_base::{Names, Shape};
 use reg_commands::fill;

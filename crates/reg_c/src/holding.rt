@@ -6,6 +6,7 @@ ghost use Rattle.reg_c.specs.declared.holding.Kept.{Kept};
 ghost use Rattle.reg_c.specs.Events.{compare_and_swap_event, event_of, fault_code};
 ghost use Rattle.reg_c.specs.Worlds.{Goes, GoesIn, HasOrders, HasPoints, IsOrder, Steps, events_in, history_in, kept_at_first, looked, number_of, refusal_of, unmade};
 
+use crate::codes::{CLOSED, NO_EVENT, NO_FRONT, NO_SHAPE};
 use crate::events::{code_of_fault, code_of_reply, compare_and_swap_call, event, value_of_answer};
 use crate::looking::{Look, look_at, of_entry, of_id, of_point};
 use crate::unboxed::Unboxed;
@@ -15,15 +16,6 @@ use reg_front::{FrontEnd, Linear, LocalRead, LocalWrite, RealTime};
 use reg_process::Reply;
 use reg_world::{Event, PackedWires, World, WorldFault};
 use std::alloc::Global;
-
-/// These numbers say no event.
-const NO_EVENT: u32 = 32;
-/// There is no world: it was closed.
-const NO_WORLD: u32 = 33;
-/// There is no world of this shape.
-const NO_SHAPE: u32 = 34;
-/// There is no front end of this number.
-const NO_FRONT: u32 = 35;
 
 /// A world whose wires take four bytes a frame.
 type Packed<F> = World<F, Global, PackedWires<Global>>;
@@ -114,7 +106,7 @@ fn go_in(kept: &mut Kept, event: &Event) -> (Option<Reply>, u32)
         Kept::Linear(world) => go(world, event),
         Kept::LocalRead(world) => go(world, event),
         Kept::LocalWrite(world) => go(world, event),
-        Kept::Closed => (None, NO_WORLD),
+        Kept::Closed => (None, CLOSED),
     }
 }
 

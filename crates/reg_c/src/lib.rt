@@ -4,6 +4,7 @@
 #![tactic(auto)]
 
 mod beginning;
+mod codes;
 mod events;
 pub mod holding;
 mod judging;

@@ -7,10 +7,11 @@ ghost use Rattle.reg_c.specs.Events.{compare_and_swap_of, op_of, refusal_code};
 ghost use Rattle.reg_c.specs.Nodes.{HandsAs, HandsIn, HearsAs, HearsIn, IsNothing, MarksAs, MarksIn, NodeCalls, NodeHands, NodeHears, NodeMarks, NodeSteps, NodeTakes, NoStep, Steps, StepsIn, TellsBytes, frames_handed};
 ghost use Rattle.reg_c.specs.Processes.{TellsFrames};
 
+use crate::codes::{CLOSED, NO_EVENT, NO_FRAME};
 use crate::events;
 use crate::events::{code_of_refusal, code_of_reply, operation};
 use crate::node_codes::{NOT_LOGGED, NOTHING_DUE, code_of_hello, code_of_logged};
-use crate::processes::{NO_FRAME, NO_OPERATION, NO_PROCESS, tell_frames};
+use crate::processes::tell_frames;
 use crate::unboxed::Unboxed;
 use reg_base::Op;
 use reg_commands::fill;
@@ -107,7 +108,7 @@ fn make_in(alloc: Global, kept: &mut KeptNode, step: &Step) -> Written
         KeptNode::LocalWrite(node) => make(alloc, node, step),
         KeptNode::Closed => Written {
             bytes: Vec::new(alloc),
-            code: NO_PROCESS,
+            code: CLOSED,
         },
     }
 }
@@ -138,7 +139,7 @@ fn call_op(held: &mut HeldNode, op: Option<Op>) -> u32
         Some(op) => step(held, &Step::Call { op }),
         None => {
             skip(held);
-            NO_OPERATION
+            NO_EVENT
         }
     }
 }
@@ -202,7 +203,7 @@ fn hear_in(kept: &mut KeptNode, other: u8, count: u64) -> u32
         KeptNode::Linear(node) => note(node, other, count),
         KeptNode::LocalRead(node) => note(node, other, count),
         KeptNode::LocalWrite(node) => note(node, other, count),
-        KeptNode::Closed => NO_PROCESS,
+        KeptNode::Closed => CLOSED,
     }
 }
 
@@ -229,7 +230,7 @@ fn mark_in(kept: &mut KeptNode, count: u64) -> u32
         KeptNode::Linear(node) => mark(node, count),
         KeptNode::LocalRead(node) => mark(node, count),
         KeptNode::LocalWrite(node) => mark(node, count),
-        KeptNode::Closed => NO_PROCESS,
+        KeptNode::Closed => CLOSED,
     }
 }
 
@@ -267,7 +268,7 @@ fn hand_in(kept: &mut KeptNode) -> Handed
         KeptNode::LocalWrite(node) => hand(node),
         KeptNode::Closed => Handed {
             output: None,
-            code: NO_PROCESS,
+            code: CLOSED,
         },
     }
 }

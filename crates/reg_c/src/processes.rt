@@ -9,6 +9,7 @@ ghost use Rattle.reg_c.specs.declared.processes.KeptProcess.{KeptProcess};
 ghost use Rattle.reg_c.specs.Events.{compare_and_swap_of, no_frame, op_of, refusal_code};
 ghost use Rattle.reg_c.specs.Processes.{AllFit, Calls, IsFirstProcess, IsUnspelled, Made, Makes, MakesIn, Takes, TellsFrames, TellsKnown, all_bytes, process_at_first, process_looked, process_number, process_refusal, put_bytes, running_code, state_in, state_part, unmade_process, with_room};
 
+use crate::codes::{CLOSED, NO_EVENT, NO_FRAME, NO_FRONT, NO_SHAPE};
 use crate::events;
 use crate::events::{code_of_refusal, code_of_reply, operation, value_of_answer};
 use crate::parts::{ProcessLook, StatePart, of_known, peer_look, process_look};
@@ -20,17 +21,6 @@ use reg_front::{FrontEnd, Linear, LocalRead, LocalWrite};
 use reg_process::{Awaited, Known, Process, ProcessFault, Put, Reply, Step};
 use std::alloc::Global;
 use std::mem;
-
-/// These numbers say no operation.
-pub(crate) const NO_OPERATION: u32 = 32;
-/// There is no process: it was closed.
-pub(crate) const NO_PROCESS: u32 = 33;
-/// There is no process of this shape.
-pub(crate) const NO_SHAPE: u32 = 34;
-/// There is no front end of this number.
-pub(crate) const NO_FRONT: u32 = 35;
-/// Bytes were no frame, or a frame has none.
-pub(crate) const NO_FRAME: u32 = 48;
 
 /// A process under the front end that its caller named, or none: it was closed.
 #[derive(Drop)]
@@ -141,7 +131,7 @@ fn make_in(kept: &mut KeptProcess, list: Vec<Put>, step: &Step) -> Given
         KeptProcess::Closed => Given {
             frames: Vec::new(*list.allocator()),
             reply: None,
-            code: NO_PROCESS,
+            code: CLOSED,
         },
     }
 }
@@ -164,7 +154,7 @@ fn call_op(held: &mut HeldProcess, op: Option<Op>) -> u32
 {
     match op {
         Some(op) => step(held, &Step::Call { op }),
-        None => NO_OPERATION,
+        None => NO_EVENT,
     }
 }
 
