@@ -6,7 +6,8 @@ use Rattle.reg_process.specs.declared.steps.Step.{Step}
 use Rattle.reg_log.specs.declared.recorded.Recorded.{Recorded}
 use Rattle.reg_log.specs.declared.writing.LineFault.{LineFault}
 use Rattle.reg_log.specs.declared.writing.LineFault.TheVariants.{OutOfMemory, Unfit}
-use Rattle.reg_log.specs.RecordLines.{RecordedFits, StepFits}
+use Rattle.reg_log.specs.RecordLines.{Account, RecordedFits, StepFits}
+use Rattle.reg_text.specs.Lines.{AllFit}
 
 abbrev pub IsFrameFault : Frame → LineFault → Type 0
 IsFrameFault frame Unfit = ¬ Fits frame
@@ -20,3 +21,8 @@ IsStepFault names step OutOfMemory = ⊤
 abbrev pub IsEntryFault : List (List ℕ) → Recorded → LineFault → Type 0
 IsEntryFault names recorded Unfit = ¬ RecordedFits names recorded
 IsEntryFault names recorded OutOfMemory = ⊤
+
+-- one of its steps is not fit for a text
+abbrev pub IsRecordFault : Account → LineFault → Type 0
+IsRecordFault a Unfit = ¬ (AllFit (λ _ r. RecordedFits a.names r) a.steps)
+IsRecordFault a OutOfMemory = ⊤

@@ -2,3 +2,5 @@ pub mod Logs
 pub mod Adding
 pub mod Verifies
 pub mod Judging
+pub mod Merges
+pub mod Laying

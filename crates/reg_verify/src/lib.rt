@@ -1,11 +1,14 @@
-//! The command that judges a record of processes that ran apart: what they did is a run, whose report is printed, or
-//! the first line is named with which it is no run.
+//! The commands over a record of processes that ran apart: one judges it, and prints the report of the run that it is,
+//! or names the first line with which it is none; one puts its steps into an order that is a run.
 #![tactic(auto)]
 
 mod faults;
+mod laying;
 mod logs;
+mod merging;
 mod verifying;
 
 pub use faults::VerifyFault;
+pub use merging::Merge;
 pub use reg_log::{Record, RecordFault, Recorded, parse_record};
 pub use verifying::{Verify, read_record_text, report_by_front};

@@ -47,7 +47,7 @@ fn add<A: Allocator + Copy>(
 }
 
 /// The log of each process. The steps of further processes are in none.
-fn logs_of<A: Allocator + Copy>(
+pub(crate) fn logs_of<A: Allocator + Copy>(
     alloc: A,
     processes: u32,
     steps: &[Recorded],

@@ -22,7 +22,7 @@ use std::alloc::Allocator;
 use std::io::Write;
 
 /// The first line of a step.
-const FIRST_STEP: u64 = 5;
+pub(crate) const FIRST_STEP: u64 = 5;
 
 /// The record that a text spells.
 ///
