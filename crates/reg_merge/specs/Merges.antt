@@ -10,8 +10,8 @@ use Rattle.reg_records.specs.Records.{IsFaithful, Plays, entry_of, mentions}
 use Rattle.reg_merge.specs.declared.merging.MergeFault.{MergeFault}
 use Rattle.reg_merge.specs.declared.merging.MergeFault.TheVariants.{Other, TooMany, OutOfMemory}
 
--- The order is a run of first entries of the logs, one mention for each, which ends in this world. The k-th mention of a
--- process stands for the k-th entry of its log.
+-- The order is a run of first entries of the logs, one mention for each, which ends in this world. The k-th mention of
+-- a process stands for the k-th entry of its log.
 abbrev pub IsRun : (Op → ℕ → Start) → Extent → List (List LogEntry) → List ℕ → Made → Type 0
 IsRun start shape logs order w = Plays start shape order logs (length order) w
 

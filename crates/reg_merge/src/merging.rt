@@ -15,8 +15,8 @@ use thiserror::Error;
 /// Why logs have no order. `OutOfMemory` may stand in place of any other.
 #[derive(Clone, Copy, Debug, PartialEq, Eq, Error)]
 pub enum MergeFault {
-    /// The entry of this process at this place of its log, from 0, is none that its process makes after those before it,
-    /// or it has another reply: it is in no run of first entries of the logs.
+    /// The entry of this process at this place of its log, from 0, is none that its process makes after those before
+    /// it, or it has another reply: it is in no run of first entries of the logs.
     #[error("process {process}: entry {place}: unfaithful")]
     Other { process: u8, place: u64 },
     /// The logs have more entries than a run can have.
@@ -48,10 +48,11 @@ pub struct Left {
 /// An order of entries, and what it leaves out.
 #[derive(Debug, Drop)]
 pub struct Merged<A: Allocator + Copy> {
-    /// The processes of the entries in their order: the k-th mention of a process stands for the k-th entry of its log.
+    /// The processes of the entries in their order: the k-th mention of a process stands for the k-th entry of its
+    /// log.
     pub order: Vec<u8, A>,
-    /// The first entry that is left of the first log with one. It takes a frame that was not put before it in any run of
-    /// first entries of the logs.
+    /// The first entry that is left of the first log with one. It takes a frame that was not put before it in any run
+    /// of first entries of the logs.
     pub left: Option<Left>,
 }
 
