@@ -5,33 +5,35 @@ use Rattle.std.specs.List.{filter}
 use Rattle.std.proofs.Math.Seq.{take-length}
 use Rattle.std.proofs.lemmas.Bool.{cases_eq, cases_lt, ne_eqb}
 use Rattle.std.proofs.lemmas.Bool.Decides.{eqb_tells}
-use Rattle.std.proofs.lemmas.List.{length-map, take_more}
+use Rattle.std.proofs.lemmas.List.{length-map, length-take-le, map-append, take_more}
 use Rattle.std.proofs.lemmas.List.Sums.{sum_by-take-drop}
-use Rattle.std.proofs.lemmas.Option.{get_or_from_slice_get, same_Some, slice_get_within}
+use Rattle.std.proofs.lemmas.Option.{get_or_from_slice_get, same_Some, slice_get-get_or, slice_get_within}
+use Rattle.reg_base.specs.declared.limits.TheConstants.{MOST_EVENTS}
 use Rattle.reg_base.specs.declared.memory.Op.{Op}
 use Rattle.reg_base.specs.Shape.{Extent}
 use Rattle.reg_front.specs.declared.starts.Start.{Start}
 use Rattle.reg_checkers.specs.History.{IsAt}
-use Rattle.reg_checkers.proofs.Places.{IsAt-map, element_at}
+use Rattle.reg_checkers.proofs.Places.{IsAt-map, element_at, get_push_other, get_push_same}
 use Rattle.reg_world.specs.Worlds.{Made}
 use Rattle.reg_records.specs.declared.entries.LogEntry.{LogEntry}
+use Rattle.reg_records.specs.Playing.{AreTallied}
 use Rattle.reg_records.specs.Records.{IsFaithful, NothingLeft, Plays, Turn, entry_of, mentions}
-use Rattle.reg_merge.specs.Merges.{NoneHasMore}
+use Rattle.reg_merge.specs.Merges.{IsFirstLeft, IsFull, IsGreatest, NoneHasMore}
 use Rattle.reg_merge.proofs.Alone.{mention_more, mention_same}
-use Rattle.reg_merge.proofs.Verdicts.{has_log, stands_below}
+use Rattle.reg_merge.proofs.Verdicts.{has_log, not_full, stands_below}
 use Rattle.reg_log.specs.declared.recorded.Recorded.{Recorded}
-use Rattle.reg_log.specs.RecordLines.{RecordedFits}
+use Rattle.reg_log.specs.RecordLines.{EntryFits, RecordedFits}
 use Rattle.reg_text.specs.Lines.{AllFit}
 use Rattle.reg_verify.specs.Laying.{AllStand, AllWithin, AreLaidOut, IsStepOf}
 use Rattle.reg_verify.specs.Logs.{AreLogs, log_of, order_of}
-use Rattle.reg_verify.specs.Merges.{IsOrdering, IsStuckAt, Orders}
-use Rattle.reg_verify.proofs.Logged.{as_many, one_more_step}
+use Rattle.reg_verify.specs.Merges.{IsOrdering, IsStuckAt, Merges, Orders}
+use Rattle.reg_verify.proofs.Logged.{as_many, nothing_left, one_more_step}
 
 take_all : {X : Type 0} (xs : List X) (k : ℕ) → slice_get xs k ≡ None → take k xs ≡ xs
 take_all [] zero none = refl
 take_all [] (suc k) none = refl
 take_all (x ∷ xs) zero none = absurd cc
-take_all (x ∷ xs) (suc k) none = ap (λ (l : List X). x ∷ l) (take_all xs k none)
+take_all (x ∷ xs) (suc k) none = ap (λ l. x ∷ l) (take_all xs k none)
 
 -- the log of p behind one more step, which is of p or of another process
 log_head : (p : ℕ) (s : Recorded) (steps : List Recorded) (b : Bool) → (s.process == p) ≡ b → log_of p (s ∷ steps) ≡ map (λ r. r.entry) (cond b (s ∷ filter (λ (r : Recorded). r.process == p) steps) (filter (λ (r : Recorded). r.process == p) steps))
@@ -77,7 +79,7 @@ fits_ordered names steps ordered same fits k r at =
     let i = in_log r.process ordered k r at refl in
     let f = of_log r.process steps i.0 r.entry (sym (ap (λ (l : List LogEntry). slice_get l i.0) (same r.process)) ∙ i.1) in
     let there : RecordedFits names f.1 = fits f.0 f.1 f.2 in
-    (subst (λ (p : ℕ). p ≤ 255) f.3 there.0, subst (λ (e : LogEntry). (RecordedFits names (record { process = f.1.process; entry = e })).1) f.4 there.1)
+    (subst (λ (p : ℕ). p ≤ 255) f.3 there.0, subst (λ (e : LogEntry). EntryFits names e) f.4 there.1)
 
 module _ (logs : List (List LogEntry)) (order : List ℕ) (steps : List Recorded) (laid : AreLaidOut order logs steps) where
   mentioned : (k : ℕ) (r : Recorded) → IsAt steps k r → IsAt order k r.process
@@ -229,3 +231,74 @@ has_number n steps logs p number entry split is =
     let many = as_many p steps in
     let less = slice_get_within (log_of p steps) number entry there in
     omega (arith, many, less)
+
+any_default : (xs : List ℕ) (i d e : ℕ) → i < length xs → get_or xs i d ≡ get_or xs i e
+any_default xs i d e lt = same_Some (get_or xs i d) (get_or xs i e) (sym (slice_get-get_or xs i d lt) ∙ slice_get-get_or xs i e lt)
+
+-- the entry of a mention
+pub next_stands : (order counts : List ℕ) (logs : List (List LogEntry)) (place p i n : ℕ) → AllStand order logs → place < length order → IsAt order place p → i ≡ p → AreTallied counts order place → length counts ≡ length logs → n ≡ get_or counts i n
+    → (o : Option LogEntry) → o ≡ entry_of logs i n → (entry : LogEntry) × (o ≡ Some entry) × (entry_of logs p (mentions p (take place order)) ≡ Some entry)
+next_stands order counts logs place p i n all lt at is tallied len read o got =
+    let e = all place p at in
+    let within = has_log logs p (mentions p (take place order)) e.0 e.1 in
+    let inside : i < length counts = omega (arith, within, len, is) in
+    let inside_p : p < length counts = omega (arith, within, len) in
+    let count : n ≡ mentions p (take place order) = read ∙ (any_default counts i n 0 inside ∙ (ap (λ (q : ℕ). get_or counts q 0) is ∙ tallied p inside_p)) in
+    (e.0, got ∙ (ap (λ (q : ℕ). entry_of logs q n) is ∙ (ap (λ (k : ℕ). entry_of logs p k) count ∙ e.1)), e.1)
+
+-- one mention more is laid out
+pub laid_more : (order : List ℕ) (logs : List (List LogEntry)) (steps new : List Recorded) (place : ℕ) (r : Recorded) → IsAt order place r.process → order_of steps ≡ take place order → ((k : ℕ) (x : Recorded) → IsAt steps k x → entry_of logs x.process (mentions x.process (take k order)) ≡ Some x.entry)
+    → entry_of logs r.process (mentions r.process (take place order)) ≡ Some r.entry → new ≡ steps ++ r ∷ []
+    → (order_of new ≡ take (place + 1) order) × ((k : ℕ) (x : Recorded) → IsAt new k x → entry_of logs x.process (mentions x.process (take k order)) ≡ Some x.entry)
+laid_more order logs steps new place r at so_far each stands is = (processes, entries)
+  where
+    within : place < length order
+    within = slice_get_within order place r.process at
+
+    processes : order_of new ≡ take (place + 1) order
+    processes =
+        ap order_of is ∙ (map-append (λ (x : Recorded). x.process) steps (r ∷ [])
+        ∙ (ap₂ (λ (front : List ℕ) (p : ℕ). front ++ p ∷ []) so_far (sym (get_or_from_slice_get order place r.process 0 at)) ∙ sym (take_more order place 0 within)))
+
+    many : length steps ≡ place
+    many = let l = length-map steps (λ (x : Recorded). x.process) in let m : length (order_of steps) ≡ length (take place order) = ap length so_far in let t = length-take-le place order (omega (arith, within)) in omega (arith, l, m, t)
+
+    entries : (k : ℕ) (x : Recorded) → IsAt new k x → entry_of logs x.process (mentions x.process (take k order)) ≡ Some x.entry
+    entries k x here = by (cases_eq k (length steps)) (subst (λ (l : List Recorded). IsAt l k x) is here)
+      where
+        by : (k ≡ length steps) ⊎ (k ≡ length steps → ⊥) → IsAt (steps ++ r ∷ []) k x → entry_of logs x.process (mentions x.process (take k order)) ≡ Some x.entry
+        by (inl e) there =
+            let same : r ≡ x = same_Some r x (sym (get_push_same steps k r (sym e)) ∙ there) in
+            let place_is : place ≡ k = sym many ∙ sym e in
+            subst (λ (y : Recorded). entry_of logs y.process (mentions y.process (take k order)) ≡ Some y.entry) same (subst (λ (j : ℕ). entry_of logs r.process (mentions r.process (take j order)) ≡ Some r.entry) place_is stands)
+        by (inr off) there = each k x (sym (get_push_other steps k r off) ∙ there)
+
+-- what is left of a greatest order is in no run
+pub left_out : (start : Op → ℕ → Start) (shape : Extent) (logs : List (List LogEntry)) (order : List ℕ) (p place : ℕ) → IsGreatest start shape logs order → IsFirstLeft logs order p place → ((entry : LogEntry) × (entry_of logs p place ≡ Some entry)) × NoneHasMore start shape logs p place
+left_out start shape logs order p place g f = ((f.entry, f.left), subst (λ (k : ℕ). NoneHasMore start shape logs p k) (sym f.here) (g.most p))
+
+-- so many steps leave room
+pub room_for : (start : Op → ℕ → Start) (shape : Extent) (steps : List Recorded) (logs : List (List LogEntry)) → AreLogs shape.processes steps logs → length steps ≤ MOST_EVENTS → ¬ IsFull start shape logs
+room_for start shape steps logs split few full =
+    let many = length-map steps (λ (x : Recorded). x.process) in
+    not_full start shape logs (order_of steps) (nothing_left shape.processes steps logs split) (omega (arith, many, few)) full
+
+-- how many steps of p there are before a place, and before the next one
+pub own_step : (steps : List Recorded) (place p : ℕ) (r : Recorded) → IsAt steps place r → r.process ≡ p → mentions p (take (place + 1) (order_of steps)) ≡ mentions p (take place (order_of steps)) + 1
+own_step steps place p r at is =
+    let one = mention_more (order_of steps) place p (subst (λ (q : ℕ). IsAt (order_of steps) place q) is (IsAt-map (λ (x : Recorded). x.process) steps place r at)) in
+    let next : suc place ≡ place + 1 = omega arith in
+    subst (λ (k : ℕ). mentions p (take k (order_of steps)) ≡ mentions p (take place (order_of steps)) + 1) next (let sum : suc (mentions p (take place (order_of steps))) ≡ mentions p (take place (order_of steps)) + 1 = omega arith in one ∙ sum)
+
+pub other_step : (steps : List Recorded) (place p : ℕ) (r : Recorded) → IsAt steps place r → (r.process ≡ p → ⊥) → mentions p (take (place + 1) (order_of steps)) ≡ mentions p (take place (order_of steps))
+other_step steps place p r at off =
+    let same = mention_same (order_of steps) place p r.process (IsAt-map (λ (x : Recorded). x.process) steps place r at) off in
+    let next : suc place ≡ place + 1 = omega arith in
+    subst (λ (k : ℕ). mentions p (take k (order_of steps)) ≡ mentions p (take place (order_of steps))) next same
+
+pub step_of : (steps : List Recorded) (p number place : ℕ) (r : Recorded) → IsAt steps place r → r.process ≡ p → mentions p (take place (order_of steps)) ≡ number → IsStepOf steps p number place
+step_of steps p number place r at is before = record { step = r; at = at; process = is; before = before }
+
+-- the same text, written otherwise
+pub written_as : (Wrote : List ℕ → Type 0) (text bytes : List ℕ) → Merges (λ written. written ≡ bytes) text → Wrote bytes → Merges Wrote text
+written_as Wrote text bytes m wrote = record { account = m.account; good = m.good; read = m.read; merged = m.merged; shown = m.shown; written = subst Wrote (sym m.written) wrote }

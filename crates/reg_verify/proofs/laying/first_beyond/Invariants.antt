@@ -4,4 +4,4 @@ use Rattle.reg_log.specs.declared.recorded.Recorded.{Recorded}
 use Rattle.reg_verify.proofs.laying.first_beyond.Given as goal
 
 abbrev pub invariant-loop-place : goal.invariant-loop-place
-invariant-loop-place g l = (k : ℕ) (r : Recorded) → k < l.place → IsAt l.steps k r → r.process < l.fn.processes
+invariant-loop-place l = (k : ℕ) (r : Recorded) → k < l.place → IsAt l.steps k r → r.process < l.fn.processes
