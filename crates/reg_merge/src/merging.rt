@@ -48,7 +48,8 @@ pub struct Left {
 /// An order of entries, and what it leaves out.
 #[derive(Debug, Drop)]
 pub struct Merged<A: Allocator + Copy> {
-    /// The processes of the entries in their order: the k-th mention of a process stands for the k-th entry of its log.
+    /// The processes of the entries in their order: the k-th mention of a process stands for the k-th entry of its
+    /// log.
     pub order: Vec<u8, A>,
     /// The first entry that is left of the first log with one. It takes a frame that was not put before it in any run
     /// of first entries of the logs.

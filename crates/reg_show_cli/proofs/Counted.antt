@@ -7,11 +7,11 @@ use Rattle.std.proofs.lemmas.Option.{same_Some}
 use Rattle.reg_args.specs.Lines.{Text}
 use Rattle.reg_outcomes.specs.declared.tables.plays.TheConstants.{MOST_PLAYS}
 use Rattle.reg_show_cli.specs.declared.words.Asked.{Asked}
-use Rattle.reg_show_cli.specs.declared.words.Asked.TheVariants.{AllOutcomes, Find, Help, Judge, Outcome, Outcomes, Schedule, ShortSchedule, Show, Text as OfText, Verify, Version, Why}
+use Rattle.reg_show_cli.specs.declared.words.Asked.TheVariants.{AllOutcomes, Find, Help, Judge, Merge, Outcome, Outcomes, Schedule, ShortSchedule, Show, Text as OfText, Verify, Version, Why}
 use Rattle.reg_outcomes.specs.declared.orders.kinds.OrderKind.{OrderKind}
 use Rattle.reg_outcomes.specs.declared.orders.kinds.OrderKind.TheVariants.{Serial, Points}
 use Rattle.reg_show.specs.declared.Player.{Player}
-use Rattle.reg_show_cli.specs.Lines.{IsAllLine, IsFindLine, IsHelpLine, IsJudgeLine, IsLineOf, IsOneOutcomeLine, IsOutcomesLine, IsScheduleLine, IsShortLine, IsShowLine, IsVerifyLine, IsVersionLine, IsWhyLine, NumbersFit, SaysPlays, text_line}
+use Rattle.reg_show_cli.specs.Lines.{IsAllLine, IsFindLine, IsHelpLine, IsJudgeLine, IsLineOf, IsMergeLine, IsOneOutcomeLine, IsOutcomesLine, IsScheduleLine, IsShortLine, IsShowLine, IsVerifyLine, IsVersionLine, IsWhyLine, NumbersFit, SaysPlays, text_line}
 use Rattle.reg_show.specs.declared.showing.View.{View}
 use Rattle.reg_commands.specs.declared.command.Command.{Command}
 use Rattle.reg_commands.specs.declared.command.Command.TheVariants.{Check, Play, Replay}
@@ -71,6 +71,7 @@ no_text line replay check play fair (Play true) h = fair h
 module _ (line : List Text)
     (why : ¬ IsWhyLine line)
     (verified : ¬ IsVerifyLine line)
+    (merged : ¬ IsMergeLine line)
     (judged : (first : Option Text) (report : Bool) → ¬ IsJudgeLine line first report)
     (version : ¬ IsVersionLine line)
     (every : ¬ IsAllLine line)
@@ -93,6 +94,7 @@ module _ (line : List Text)
   asks_nothing (Find kind) h = found kind h
   asks_nothing Why h = why h
   asks_nothing Verify h = verified h
+  asks_nothing Merge h = merged h
   asks_nothing (Judge flags) h = judged (option_copied flags.first) flags.report h
   asks_nothing Help h = help h
   asks_nothing Version h = version h
@@ -135,6 +137,7 @@ numbers_fit line (Outcome number) h = h.1
 numbers_fit line (Find kind) h = tt
 numbers_fit line Why h = tt
 numbers_fit line Verify h = tt
+numbers_fit line Merge h = tt
 numbers_fit line (Judge flags) h = tt
 numbers_fit line Help h = tt
 numbers_fit line Version h = tt

@@ -18,7 +18,7 @@ use Rattle.reg_outcomes.specs.declared.orders.kinds.OrderKind.TheVariants.{Seria
 use Rattle.reg_show_cli.specs.declared.asking.TheConstants.{LAST_OUTCOME}
 use Rattle.reg_show_cli.specs.declared.flags.TheConstants.{USUAL_PLAYS}
 use Rattle.reg_show_cli.specs.declared.words.Asked.{Asked}
-use Rattle.reg_show_cli.specs.declared.words.Asked.TheVariants.{AllOutcomes, Find, Help, Judge, Outcome, Outcomes, Schedule, ShortSchedule, Show, Text as OfText, Verify, Version, Why}
+use Rattle.reg_show_cli.specs.declared.words.Asked.TheVariants.{AllOutcomes, Find, Help, Judge, Merge, Outcome, Outcomes, Schedule, ShortSchedule, Show, Text as OfText, Verify, Version, Why}
 
 -- the words that ask to show this: its name, and what a large drawing has behind it
 abbrev pub show_words : Showing → List Text
@@ -111,6 +111,9 @@ IsWhyLine line = line ≡ codes "why" ∷ []
 abbrev pub IsVerifyLine : List Text → Type 0
 IsVerifyLine line = line ≡ codes "verify" ∷ []
 
+abbrev pub IsMergeLine : List Text → Type 0
+IsMergeLine line = line ≡ codes "merge" ∷ []
+
 -- the words for a first value, where there is one
 abbrev pub first_words : Option Text → List Text
 first_words None = []
@@ -162,7 +165,7 @@ IsHelpOfText line = IsHelpWith line (codes "replay") ⊎ (IsHelpWith line (codes
 abbrev pub IsHelpOfOwn : List Text → Type 0
 IsHelpOfOwn line =
     IsHelpWith line (codes "trace") ⊎ (IsHelpWith line (codes "draw") ⊎ (IsHelpWith line (codes "data") ⊎ (IsHelpWith line (codes "page") ⊎ (IsHelpWith line (codes "rest")
-    ⊎ (IsHelpWith line (codes "schedule") ⊎ (IsHelpWith line (codes "outcomes") ⊎ (IsHelpWith line (codes "find") ⊎ (IsHelpWith line (codes "why") ⊎ (IsHelpWith line (codes "verify") ⊎ IsHelpWith line (codes "judge"))))))))))
+    ⊎ (IsHelpWith line (codes "schedule") ⊎ (IsHelpWith line (codes "outcomes") ⊎ (IsHelpWith line (codes "find") ⊎ (IsHelpWith line (codes "why") ⊎ (IsHelpWith line (codes "verify") ⊎ (IsHelpWith line (codes "merge") ⊎ IsHelpWith line (codes "judge")))))))))))
 
 -- the words ask for help, alone or with a command
 abbrev pub IsHelpLine : List Text → Type 0
@@ -180,6 +183,7 @@ IsLineOf (Outcome number) line = IsOneOutcomeLine line number
 IsLineOf (Find kind) line = IsFindLine line kind
 IsLineOf Why line = IsWhyLine line
 IsLineOf Verify line = IsVerifyLine line
+IsLineOf Merge line = IsMergeLine line
 IsLineOf (Judge flags) line = IsJudgeLine line (option_copied flags.first) flags.report
 IsLineOf Help line = IsHelpLine line
 IsLineOf Version line = IsVersionLine line

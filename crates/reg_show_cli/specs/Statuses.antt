@@ -23,10 +23,11 @@ use Rattle.reg_show.specs.Schedules.{ShowsSchedule, StopsSchedule}
 use Rattle.reg_show.specs.Seeds.{is_fair, reseeded, seed_of}
 use Rattle.reg_show.specs.Shorts.{ShowsShort, StopsShort}
 use Rattle.reg_show.specs.Showings.{Blames, Shows}
+use Rattle.reg_verify.specs.Merges.{BlamesMerge, Merges}
 use Rattle.reg_verify.specs.Verifies.{BlamesAccount, Verifies, verify_line}
 use Rattle.reg_verify.specs.declared.faults.VerifyFault.TheVariants.{Command as VerifyCommand}
 use Rattle.reg_show_cli.specs.declared.words.Asked.{Asked}
-use Rattle.reg_show_cli.specs.declared.words.Asked.TheVariants.{AllOutcomes, Find, Help, Judge, Outcome, Outcomes, Schedule, ShortSchedule, Show, Text as OfText, Verify, Version, Why}
+use Rattle.reg_show_cli.specs.declared.words.Asked.TheVariants.{AllOutcomes, Find, Help, Judge, Merge, Outcome, Outcomes, Schedule, ShortSchedule, Show, Text as OfText, Verify, Version, Why}
 use Rattle.reg_reasons.specs.Tellings.{Answers, Halts}
 use Rattle.reg_observed.specs.Commands.{IsAnyJudged}
 use Rattle.reg_observed.specs.declared.command.CommandFault.{CommandFault as JudgeFault}
@@ -58,6 +59,7 @@ AnswersOf (Show view) agrees Wrote text = Shows view Wrote text
 AnswersOf (Find kind) agrees Wrote text = Finds kind agrees Wrote text
 AnswersOf Why agrees Wrote text = Answers agrees Wrote text
 AnswersOf Verify agrees Wrote text = Verifies Wrote text
+AnswersOf Merge agrees Wrote text = Merges Wrote text
 AnswersOf (Judge flags) agrees Wrote text = IsAnyJudged flags agrees Wrote text
 AnswersOf Help agrees Wrote text = ⊥
 AnswersOf Version agrees Wrote text = ⊥
@@ -80,6 +82,7 @@ Stops (Show view) input unwritten old new untold was is = StopsCommand ⊥ Comma
 Stops (Find kind) input unwritten old new untold was is = StopsCommand ⊤ Command show_line (BlamesFind kind) (AnswersOf (Find kind)) input unwritten old new untold was is
 Stops Why input unwritten old new untold was is = StopsCommand ⊤ (λ (fault : Fault). fault) fault_line Halts (AnswersOf Why) input unwritten old new untold was is
 Stops Verify input unwritten old new untold was is = StopsCommand ⊥ VerifyCommand verify_line BlamesAccount (AnswersOf Verify) input unwritten old new untold was is
+Stops Merge input unwritten old new untold was is = StopsCommand ⊥ VerifyCommand verify_line BlamesMerge (AnswersOf Merge) input unwritten old new untold was is
 Stops (Judge flags) input unwritten old new untold was is =
     (IfSome input (AnswersOf (Judge flags) false (Appends old new)) × untold) ⊎ ((f : JudgeFault) × (f ≢ JudgeCommand Output → unwritten))
 Stops Help input unwritten old new untold was is = AppendsPart was is (fault_line Output)
@@ -93,6 +96,7 @@ Tells (Show view) untold was is = TellsCommand ⊥ Command show_line (Blames vie
 Tells (Find kind) untold was is = TellsCommand ⊤ Command show_line (BlamesFind kind) untold was is
 Tells Why untold was is = TellsCommand ⊤ (λ (fault : Fault). fault) fault_line Halts untold was is
 Tells Verify untold was is = TellsCommand ⊥ VerifyCommand verify_line BlamesAccount untold was is
+Tells Merge untold was is = TellsCommand ⊥ VerifyCommand verify_line BlamesMerge untold was is
 Tells (Judge flags) untold was is = ⊤
 Tells Help untold was is = AppendsPart was is (fault_line Output)
 Tells Version untold was is = AppendsPart was is (fault_line Output)

@@ -9,7 +9,7 @@ ghost use Rattle.reg_show.specs.declared.showing.Form.{Form as AnyForm};
 ghost use Rattle.reg_show.specs.declared.showing.View.{View as AnyView};
 ghost use Rattle.reg_commands.specs.declared.command.Command.{Command as AnyCommand};
 ghost use Rattle.reg_show_cli.specs.declared.words.Asked.{Asked as AnyAsked};
-ghost use Rattle.reg_show_cli.specs.Lines.{IsAllLine, IsFindLine, IsHelpLine, IsHelpOfOwn, IsHelpOfText, IsHelpWith, IsJudgeLine, IsLineOf, IsOneOutcomeLine, IsOutcomesLine, IsScheduleLine, IsShortLine, IsShowLine, IsVerifyLine, IsVersionLine, IsWhyLine, show_words, text_line};
+ghost use Rattle.reg_show_cli.specs.Lines.{IsAllLine, IsFindLine, IsHelpLine, IsHelpOfOwn, IsHelpOfText, IsHelpWith, IsJudgeLine, IsLineOf, IsMergeLine, IsOneOutcomeLine, IsOutcomesLine, IsScheduleLine, IsShortLine, IsShowLine, IsVerifyLine, IsVersionLine, IsWhyLine, show_words, text_line};
 
 use crate::flags::{
     Plays, behind, form_said, judging_said, line_of, number_alone, player_said, plays_said,
@@ -216,6 +216,7 @@ fn asks_help_of_own(words: &[String]) -> bool
         || asks_help_with(words, "find")
         || asks_help_with(words, "why")
         || asks_help_with(words, "verify")
+        || asks_help_with(words, "merge")
         || asks_help_with(words, "judge")
 }
 
@@ -235,6 +236,7 @@ fn plain_asked(words: &[String]) -> Option<Asked<'_>>
     ensures asked { IfSome result (λ asked. IsLineOf asked (behind_name words.now)) }
     ensures why { result ≡ None → ¬ IsWhyLine (behind_name words.now) }
     ensures verify { result ≡ None → ¬ IsVerifyLine (behind_name words.now) }
+    ensures merge { result ≡ None → ¬ IsMergeLine (behind_name words.now) }
     ensures version { result ≡ None → ¬ IsVersionLine (behind_name words.now) }
     ensures all { result ≡ None → ¬ IsAllLine (behind_name words.now) }
     ensures help { result ≡ None → ¬ IsHelpLine (behind_name words.now) }
@@ -244,6 +246,9 @@ fn plain_asked(words: &[String]) -> Option<Asked<'_>>
     }
     if is_alone(words, "verify") {
         return Some(Asked::Verify);
+    }
+    if is_alone(words, "merge") {
+        return Some(Asked::Merge);
     }
     if is_alone(words, "--version") {
         return Some(Asked::Version);

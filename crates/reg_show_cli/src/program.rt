@@ -20,7 +20,7 @@ use reg_show::{
     EveryOutcome, FindOrder, FullSchedule, ManyPlays, OneOutcome, ShortSchedule, ShowEither,
 };
 use reg_text::write_bytes;
-use reg_verify::Verify;
+use reg_verify::{Merge, Verify};
 use std::io::{self, BufWriter, Read, Write};
 use std::rt::Env;
 
@@ -118,6 +118,7 @@ fn obey<R: AllocGlobal, I: Read, O: Write, E: Write>(
         Asked::Find { kind } => run_command(FindOrder { kind }, alloc, reader, writer, errors),
         Asked::Why => run_command(Explain { global }, alloc, reader, writer, errors),
         Asked::Verify => run_command(Verify, alloc, reader, writer, errors),
+        Asked::Merge => run_command(Merge, alloc, reader, writer, errors),
         Asked::Judge { flags } => judge_text(alloc, flags, reader, writer, errors),
     }
 }

@@ -27,6 +27,8 @@ pub enum Asked<'a> {
     Why,
     /// To judge the record on the input.
     Verify,
+    /// To put the steps of the record on the input into an order that is a run.
+    Merge,
     /// To judge the history on the input.
     Judge { flags: JudgeFlags<'a> },
     /// How the program is used.
@@ -64,6 +66,8 @@ usage: awshow replay                 reads a schedule, prints the report of its 
        awshow rest                   reads the same, prints the schedule with the events that bring the run to rest
        awshow why                    reads any of these texts but JSON, prints what is wrong with it, and where
        awshow verify                 reads a record of processes that ran apart, prints the report of their run
+       awshow merge                  reads the steps of processes that ran apart, as a record in any order that keeps
+                                     each process's own, prints them as a record in an order that is a run
        awshow judge                  reads a history, as JSON lines, EDN or a report, prints whether it is linearizable,
                                      key by key or register by register
        awshow judge --first VALUE    the same of JSON lines or EDN, of registers with this first value, as JSON has it

@@ -1,2 +1,3 @@
 pub mod Logged
 pub mod Shown
+pub mod Merged

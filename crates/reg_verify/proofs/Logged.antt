@@ -33,11 +33,11 @@ as_long p (s ∷ steps) =
     ]
 
 -- a process is mentioned as often as its log has entries
-as_many : (p : ℕ) (steps : List Recorded) → length (log_of p steps) ≡ mentions p (order_of steps)
+pub as_many : (p : ℕ) (steps : List Recorded) → length (log_of p steps) ≡ mentions p (order_of steps)
 as_many p steps = length-map (filter (λ (r : Recorded). r.process == p) steps) (λ r. r.entry) ∙ sym (as_long p steps) ∙ length-filter (λ q. q == p) (order_of steps)
 
 -- each entry is mentioned
-nothing_left : (n : ℕ) (steps : List Recorded) (logs : List (List LogEntry)) → AreLogs n steps logs → NothingLeft (order_of steps) logs
+pub nothing_left : (n : ℕ) (steps : List Recorded) (logs : List (List LogEntry)) → AreLogs n steps logs → NothingLeft (order_of steps) logs
 nothing_left n steps logs split p within =
     let lt : p < n = let m = split.count in omega (arith, within, m) in
     let many = as_many p steps in
@@ -111,7 +111,7 @@ one_more_log n logs split = record {
       | inr (inr more) ↦ absurd (omega (arith, lt, more))
     ]
 
-one_more_step : (p : ℕ) (steps : List Recorded) (i : ℕ) (d : Recorded) (t : Bool) → i < length steps → ((get_or steps i d).process == p) ≡ t → log_of p (take (i + 1) steps) ≡ log_of p (take i steps) ++ map (λ r. r.entry) (cond t (get_or steps i d ∷ []) [])
+pub one_more_step : (p : ℕ) (steps : List Recorded) (i : ℕ) (d : Recorded) (t : Bool) → i < length steps → ((get_or steps i d).process == p) ≡ t → log_of p (take (i + 1) steps) ≡ log_of p (take i steps) ++ map (λ r. r.entry) (cond t (get_or steps i d ∷ []) [])
 one_more_step p steps i d t lt is =
     ap (map (λ r. r.entry)) (filter_more (λ (r : Recorded). r.process == p) steps i d lt) ∙ map-append (λ r. r.entry) (filter (λ r. r.process == p) (take i steps)) (cond ((get_or steps i d).process == p) (get_or steps i d ∷ []) [])
     ∙ ap (λ b. log_of p (take i steps) ++ map (λ r. r.entry) (cond b (get_or steps i d ∷ []) [])) is

@@ -42,7 +42,8 @@ pub(crate) fn first_beyond(processes: u32, steps: &[Recorded]) -> Option<usize>
     ensures { MatchOption result (AllWithin processes steps.now) (λ place. (step : AnyRecorded) × IsAt steps.now place step × (processes ≤ step.process)) }
 {
     for place in 0..steps.len() {
-        if u32::from(steps[place].process) >= processes {
+        let step = steps[place];
+        if u32::from(step.process) >= processes {
             return Some(place);
         }
     }
@@ -56,12 +57,14 @@ pub(crate) fn place_of(steps: &[Recorded], process: u8, number: u64) -> Option<u
 {
     let mut before = 0;
     for place in 0..steps.len() {
-        if steps[place].process == process {
-            if before == number {
-                return Some(place);
-            }
-            before += 1;
+        let step = steps[place];
+        if step.process != process {
+            continue;
         }
+        if before == number {
+            return Some(place);
+        }
+        before += 1;
     }
     None
 }

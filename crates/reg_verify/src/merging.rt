@@ -21,7 +21,7 @@ use reg_base::Shape;
 use reg_commands::{Fault, TextCommand, write_answer};
 use reg_front::{Front, FrontEnd, by_front};
 use reg_log::{LineFault, Record, Recorded, text_of_record};
-use reg_merge::{Left, MergeFault, Merged, merge};
+use reg_merge::{MergeFault, merge};
 use reg_records::LogEntry;
 use reg_world::PackedWires;
 use std::alloc::Allocator;
@@ -48,16 +48,13 @@ fn whole_order<F: FrontEnd, A: Allocator + Copy>(
     ensures fault { IfErr result (λ f. IsUnordered F.start shape (map (λ v. v.items) logs.now) f) }
 {
     match merge::<F, A, PackedWires<A>>(alloc, shape, logs) {
-        Ok(Merged { order, left: None }) => Ok(order),
-        Ok(
-            Merged {
-                order: _,
-                left: Some(Left { process, place }),
-            },
-        ) => Err(Unordered::Stuck {
-            process,
-            number: place,
-        }),
+        Ok(merged) => match merged.left {
+            None => Ok(merged.order),
+            Some(left) => Err(Unordered::Stuck {
+                process: left.process,
+                number: left.place,
+            }),
+        },
         Err(MergeFault::Other { process, place }) => Err(Unordered::Stuck {
             process,
             number: place,
@@ -124,10 +121,10 @@ fn order_steps<F: FrontEnd, A: Allocator + Copy>(
     ensures orders { IfOk result (λ v. Orders F.start shape steps.now v.items) }
     ensures why { IfErr result (λ f. BlamesOrder F.start shape steps.now f) }
 {
+    let logs = logs_of(alloc, shape.processes(), steps)?;
     if let Some(place) = first_beyond(shape.processes(), steps) {
         return Err(stuck_at(place));
     }
-    let logs = logs_of(alloc, shape.processes(), steps)?;
     order_logs::<F, A>(alloc, shape, steps, &logs)
 }
 

@@ -36,6 +36,8 @@ mod local_rows;
 mod lossy_plays;
 #[cfg(test)]
 mod macros;
+#[cfg(test)]
+mod merges;
 pub mod mixed;
 #[cfg(test)]
 mod mixed_runs;

@@ -8,7 +8,7 @@ use reg_workload::{Play, SeedWords, Workload, play_seeded};
 use std::alloc::Global;
 
 /// A workload that swaps at each process.
-const SWAPS: &str =
+pub(crate) const SWAPS: &str =
     "front = \"linear\"\nregisters = [\"x\"]\nscripts = [[\"swap x 1\", \"read x\", \"write x 2\"], [\"read x\", \"swap x 3\"], [\"swap x 4\", \"read x\"]]\n";
 
 /// A workload that compares and swaps at each process, and reads.
@@ -16,7 +16,7 @@ const COMPARES: &str =
     "front = \"linear\"\nregisters = [\"x\"]\nscripts = [[\"cas x 0 1\", \"read x\", \"cas x 1 2\"], [\"read x\", \"cas x 0 3\"], [\"cas x 0 4\", \"write x 1\"]]\n";
 
 /// A workload of three processes and two registers.
-const THREE: &str =
+pub(crate) const THREE: &str =
     "front = \"linear\"\nregisters = [\"x\", \"y\"]\nscripts = [[\"write x 5\", \"swap y 1\", \"read x\"], [\"swap x 2\", \"write y 7\", \"read y\"], [\"read x\", \"write x 9\", \"swap y 3\"]]\n";
 
 const REPEATS: &str = "repeat = 50\n";

@@ -6,7 +6,7 @@ use reg_show::{
     EveryOutcome, FindOrder, Form, FullSchedule, ManyPlays, OneOutcome, Player, ShortSchedule,
     ShowEither, Showing, View,
 };
-use reg_verify::Verify;
+use reg_verify::{Merge, Verify};
 use std::alloc::Global;
 use std::process::Abort;
 
@@ -25,6 +25,8 @@ pub(crate) enum Task {
     OnePlay,
     /// The schedule of a run with the outcome of this number, which isn't 0, is written.
     Outcome { number: u32 },
+    /// The steps of a record are put into an order that is a run.
+    Merge,
     /// An order of a report's history is found.
     Order { kind: OrderKind },
     /// The schedule of a workload's fair play is written.
@@ -61,6 +63,7 @@ fn run(alloc: Global, task: Task, text: &str, output: &mut Vec<u8>, errors: &mut
             let command = OneOutcome { number };
             run_command(OfDocument { command, global }, alloc, input, output, errors)
         }
+        Task::Merge => run_command(Merge, alloc, input, output, errors),
         Task::Order { kind } => run_command(FindOrder { kind }, alloc, input, output, errors),
         Task::Schedule => {
             let command = FullSchedule { player };

@@ -27,6 +27,8 @@ mod plays_counted;
 #[cfg(test)]
 mod records_judged;
 #[cfg(test)]
+mod records_merged;
+#[cfg(test)]
 mod reports_judged;
 #[cfg(test)]
 mod rests_shown;

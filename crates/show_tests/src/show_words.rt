@@ -173,6 +173,7 @@ const OTHERS: [(&str, Option<Asked<'static>>); 38] = [
     ),
     ("why", Some(Asked::Why)),
     ("verify", Some(Asked::Verify)),
+    ("merge", Some(Asked::Merge)),
     ("--version", Some(Asked::Version)),
     ("", None),
     ("trace --", None),

@@ -12,7 +12,7 @@ use std::process::Abort;
 type Row = (&'static str, &'static str, u8);
 
 /// All commands, each with every answer that it writes in a way of its own.
-const COMMANDS: [Row; 29] = [
+const COMMANDS: [Row; 30] = [
     ("awreg replay", shown::WRITE, 0),
     ("awreg check", records_judged::REPORT, 0),
     ("awreg check", orders_shown::STALE, 1),
@@ -39,6 +39,7 @@ const COMMANDS: [Row; 29] = [
     ("awshow why", shown::WRITE, 0),
     ("awshow why", why::REFUSED, 1),
     ("awshow verify", records_judged::WRITE, 0),
+    ("awshow merge", records_judged::WRITE, 0),
     ("awshow judge", histories_judged::BOTH_WELL, 0),
     ("awshow judge", histories_judged::STALE, 1),
     ("awshow judge --report", histories_judged::READ_BACK, 0),
