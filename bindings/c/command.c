@@ -1,16 +1,22 @@
-/* Runs a command of `awreg`, or `verify` of `awshow`, over standard input: command replay|check|play|play-fair|verify. It prints what
- * the program prints, with its status. */
+/* Runs a command of `awreg`, or `verify` or `judge` of `awshow`, over standard input: command replay|check|play|play-fair|verify|judge. It
+ * prints what the program prints, with its status. */
 #include "tellwydar.h"
 #include <stdio.h>
 #include <string.h>
 
 typedef uint8_t command(const uint8_t *, size_t, uint8_t *, size_t, uint8_t *, size_t, struct tellwydar_lengths *);
 
+static uint8_t judge(const uint8_t *text, size_t length, uint8_t *output, size_t output_length, uint8_t *errors, size_t errors_length,
+                     struct tellwydar_lengths *lengths) {
+    return tellwydar_judge(text, length, 0, output, output_length, errors, errors_length, lengths);
+}
+
 static command *named(const char *word) {
     if (strcmp(word, "check") == 0) return tellwydar_check;
     if (strcmp(word, "play") == 0) return tellwydar_play;
     if (strcmp(word, "play-fair") == 0) return tellwydar_play_fair;
     if (strcmp(word, "verify") == 0) return tellwydar_verify;
+    if (strcmp(word, "judge") == 0) return judge;
     return tellwydar_replay;
 }
 

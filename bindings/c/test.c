@@ -13,6 +13,42 @@ static void rooms(void) {
     expect("no text is no record", status == 1 && lengths.errors == strlen("line 1: end\n"));
 }
 
+/* What `tellwydar_judge` tells of a history: its status, with the answer and the line as strings. */
+static char judged_answer[1024], judged_line[256];
+
+static uint8_t judged(const char *history, uint8_t report) {
+    struct tellwydar_lengths lengths;
+    uint8_t status = tellwydar_judge((const uint8_t *)history, strlen(history), report, (uint8_t *)judged_answer,
+                                     sizeof judged_answer - 1, (uint8_t *)judged_line, sizeof judged_line - 1, &lengths);
+    expect("the answer has room", lengths.output < sizeof judged_answer && lengths.errors < sizeof judged_line);
+    judged_answer[lengths.output] = 0;
+    judged_line[lengths.errors] = 0;
+    return status;
+}
+
+static int begins(const char *text, const char *word) {
+    return strncmp(text, word, strlen(word)) == 0;
+}
+
+/* A write that is done, and a read behind it: of the value, and of another one. */
+static void histories(void) {
+    const char *lines = "{\"process\": 0, \"type\": \"invoke\", \"f\": \"write\", \"value\": 1}\n"
+                        "{\"process\": 0, \"type\": \"ok\", \"f\": \"write\", \"value\": 1}\n"
+                        "{\"process\": 1, \"type\": \"invoke\", \"f\": \"read\"}\n"
+                        "{\"process\": 1, \"type\": \"ok\", \"f\": \"read\", \"value\": 1}\n";
+    const char *edn = "[{:process 0, :type :invoke, :f :write, :value 1} {:process 0, :type :ok, :f :write, :value 1}\n"
+                      " {:process 1, :type :invoke, :f :read, :value nil} {:process 1, :type :ok, :f :read, :value 0}]\n";
+    expect("it is linearizable", judged(lines, 0) == 0 && begins(judged_answer, "yes\n") && judged_line[0] == 0);
+    expect("a report of it", judged(lines, 1) == 0 && begins(judged_answer, "awreg report 2\nfront observed\n"));
+    char verdicts[64];
+    struct tellwydar_lengths lengths;
+    uint8_t status = tellwydar_check((const uint8_t *)judged_answer, strlen(judged_answer), (uint8_t *)verdicts, sizeof verdicts, (uint8_t *)judged_line, 0, &lengths);
+    expect("which the check accepts", status == 0 && lengths.output == strlen("serial yes\npoints yes\n") && memcmp(verdicts, "serial yes\npoints yes\n", lengths.output) == 0);
+    expect("it is not", judged(edn, 0) == 1 && begins(judged_answer, "no\nkey null: not linearizable\n  by line 2: process 1 read 0\n") && judged_line[0] == 0);
+    expect("and has no report", judged(edn, 1) == 1 && begins(judged_answer, "no\n"));
+    expect("it is refused", judged("{}\n", 0) == 1 && judged_answer[0] == 0 && strcmp(judged_line, "refused: line 1: wanted process, an integer or a string\n") == 0);
+}
+
 static void refusals(void) {
     struct tellwydar_world *world = NULL;
     expect("no such front end", tellwydar_world_new(3, 1, 1, &world) == TELLWYDAR_NO_FRONT && world == NULL);
@@ -220,6 +256,7 @@ static void comparing_processes(void) {
 
 int main(void) {
     rooms();
+    histories();
     refusals();
     fronts();
     comparing();

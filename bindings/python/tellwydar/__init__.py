@@ -4,7 +4,7 @@ Each process of a `World` keeps a copy of all registers, and keeps it in step by
 by events: calls of operations, takes of frames, ticks. A history of one's own is judged by `check_serial` and `check_points`. The
 commands of the program `awreg` are `replay`, `check`, `play` and `play_fair`. A `Process` is one process alone, whose
 frames one carries oneself; what such processes did is judged by `verify`. A `Node` is one process that outlives crashes
-by a log, which one writes down.
+by a log, which one writes down. What any system answered its clients is judged by `judge`.
 
 The environment's TELLWYDAR_LIB names the folder of `libtellwydar.so`, which `tools/bindings --keep FOLDER` makes.
 """
@@ -16,9 +16,9 @@ from dataclasses import dataclass
 from typing import Any, Callable, Dict, List, NoReturn, Optional, Sequence, Tuple, Union
 
 __all__ = [
-    "UNEQUAL", "Answered", "Called", "CompareAndSwap", "Fault", "Front", "Known", "Node", "Output", "Process",
-    "Read", "Refused", "Reply", "Swap", "Told", "Unequal", "World", "Write",
-    "check", "check_points", "check_serial", "play", "play_fair", "replay", "verify",
+    "UNEQUAL", "Answered", "Called", "CompareAndSwap", "Fault", "Front", "HistoryRefused", "Judgement", "Known", "Node",
+    "Output", "Process", "Read", "Refused", "Reply", "Row", "Swap", "Told", "Unequal", "World", "Write",
+    "check", "check_points", "check_serial", "judge", "play", "play_fair", "replay", "verify",
 ]
 
 
@@ -52,6 +52,8 @@ def _load() -> Tuple[ctypes.CDLL, Any]:
     for word in ("replay", "check", "play", "play_fair", "verify"):
         call = getattr(library, f"tellwydar_{word}")
         call.restype, call.argtypes = u8, [room, size, room, size, room, size, ctypes.POINTER(_Lengths)]
+    library.tellwydar_judge.restype = u8
+    library.tellwydar_judge.argtypes = [room, size, u8, room, size, room, size, ctypes.POINTER(_Lengths)]
     for word, row in (("serial", _Id), ("points", _Point)):
         call = getattr(library, f"tellwydar_check_{word}_expecting")
         call.restype = u32
@@ -96,17 +98,27 @@ class Told:
     line: bytes
 
 
-def _tell(word: str, text: bytes) -> Told:
-    if not isinstance(text, bytes):
-        raise TypeError("a text is bytes")
-    call = getattr(_library, f"tellwydar_{word}")
-    room, line_room = max(4096, len(text)), 256
+def _told_by(size: int, call: Callable[[Any, int, Any, int, _Lengths], int]) -> Told:
+    """What a call tells that puts an answer and a line into two rooms, in rooms that are large enough."""
+    room, line_room = max(4096, size), 256
     while True:
         lengths, answer, line = _Lengths(), ctypes.create_string_buffer(room), ctypes.create_string_buffer(line_room)
-        status = call(text, len(text), answer, room, line, line_room, ctypes.byref(lengths))
+        status = call(answer, room, line, line_room, lengths)
         if lengths.output <= room and lengths.errors <= line_room:
             return Told(status, answer.raw[: lengths.output], line.raw[: lengths.errors])
         room, line_room = max(room, lengths.output), max(line_room, lengths.errors)
+
+
+def _tell(word: str, text: bytes) -> Told:
+    if not isinstance(text, bytes):
+        raise TypeError("a text is bytes")
+    function = getattr(_library, f"tellwydar_{word}")
+
+    def call(answer: Any, room: int, line: Any, line_room: int, lengths: _Lengths) -> int:
+        status: int = function(text, len(text), answer, room, line, line_room, ctypes.byref(lengths))
+        return status
+
+    return _told_by(len(text), call)
 
 
 def replay(schedule: bytes) -> Told:
@@ -525,4 +537,5 @@ class Process(_Handle):
             return Known(*(self._asked(_library.tellwydar_process_known, what, _ranged(peer, 8)) for what in range(4)))
 
 
-from .node import Node, Output  # noqa: E402 (it stands on what is above)
+from .histories import HistoryRefused, Judgement, Row, judge  # noqa: E402 (they stand on what is above)
+from .node import Node, Output  # noqa: E402

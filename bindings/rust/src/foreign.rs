@@ -82,6 +82,7 @@ unsafe extern "C" {
     pub fn tellwydar_check(text: *const u8, text_length: usize, output: *mut u8, output_length: usize, errors: *mut u8, errors_length: usize, lengths: *mut Lengths) -> u8;
     pub fn tellwydar_play(text: *const u8, text_length: usize, output: *mut u8, output_length: usize, errors: *mut u8, errors_length: usize, lengths: *mut Lengths) -> u8;
     pub fn tellwydar_verify(text: *const u8, text_length: usize, output: *mut u8, output_length: usize, errors: *mut u8, errors_length: usize, lengths: *mut Lengths) -> u8;
+    pub fn tellwydar_judge(text: *const u8, text_length: usize, report: u8, output: *mut u8, output_length: usize, errors: *mut u8, errors_length: usize, lengths: *mut Lengths) -> u8;
     pub fn tellwydar_play_fair(text: *const u8, text_length: usize, output: *mut u8, output_length: usize, errors: *mut u8, errors_length: usize, lengths: *mut Lengths) -> u8;
     pub fn tellwydar_check_serial_expecting(processes: u32, registers: u32, entries: *const EntryRow, entries_length: usize, expected: *const u64, expected_length: usize, ids: *const IdRow, ids_length: usize, place: *mut usize) -> u32;
     pub fn tellwydar_check_points_expecting(processes: u32, registers: u32, entries: *const EntryRow, entries_length: usize, expected: *const u64, expected_length: usize, points: *const PointRow, points_length: usize, place: *mut usize) -> u32;

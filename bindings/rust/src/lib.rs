@@ -3,7 +3,8 @@
 //! Each process of a [`World`] keeps a copy of all registers, and keeps it in step by Lamport's totally ordered multicast. One steps a
 //! world by events: calls of operations, takes of frames, ticks. A [`History`](Entry) of one's own is judged by [`check_serial`] and
 //! [`check_points`]. The commands of the program `awreg` are [`replay`], [`check`], [`play`] and [`play_fair`]. A [`Process`] is one
-//! process alone, whose frames one carries oneself; what such processes did is judged by [`verify`].
+//! process alone, whose frames one carries oneself; what such processes did is judged by [`verify`]. What any system
+//! answered its clients is judged by [`judge`] and [`judge_rows`].
 //!
 //! ```
 //! use tellwydar::{Answer, Event, Linear, Op, World};
@@ -22,11 +23,13 @@
 
 mod checkers;
 mod foreign;
+mod histories;
 mod processes;
 mod texts;
 mod worlds;
 
 pub use checkers::{Fault, check_points, check_serial};
+pub use histories::{Call, End, Judgement, Row, Word, judge, judge_report, judge_rows};
 pub use processes::{Known, Process};
 pub use texts::{Told, check, play, play_fair, replay, verify};
 pub use worlds::{Event, Front, Linear, LocalRead, LocalWrite, RealTime, Refused, Reply, World};

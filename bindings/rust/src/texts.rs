@@ -1,4 +1,4 @@
-//! The commands of `awreg` over texts, and `verify` of `awshow`.
+//! The commands of `awreg` over texts, and `verify` and `judge` of `awshow`.
 use crate::foreign::{self, Command, Lengths};
 
 /// What a command told.
@@ -12,13 +12,13 @@ pub struct Told {
     pub line: Vec<u8>,
 }
 
-fn tell(command: Command, text: &[u8]) -> Told {
-    let mut answer = vec![0; text.len().max(1 << 12)];
+/// Tells what a function tells that puts an answer and a line into two rooms, in rooms that are large enough.
+fn told_by(room: usize, call: impl Fn(&mut [u8], &mut [u8], &mut Lengths) -> u8) -> Told {
+    let mut answer = vec![0; room.max(1 << 12)];
     let mut line = vec![0; 256];
     loop {
         let mut lengths = Lengths::default();
-        // SAFETY: each pointer and length are those of one slice, the rooms are apart, and no pointer is null.
-        let status = unsafe { command(text.as_ptr(), text.len(), answer.as_mut_ptr(), answer.len(), line.as_mut_ptr(), line.len(), &mut lengths) };
+        let status = call(&mut answer, &mut line, &mut lengths);
         if lengths.output <= answer.len() && lengths.errors <= line.len() {
             answer.truncate(lengths.output);
             line.truncate(lengths.errors);
@@ -27,6 +27,19 @@ fn tell(command: Command, text: &[u8]) -> Told {
         answer.resize(lengths.output.max(answer.len()), 0);
         line.resize(lengths.errors.max(line.len()), 0);
     }
+}
+
+fn tell(command: Command, text: &[u8]) -> Told {
+    // SAFETY: each pointer and length are those of one slice, the rooms are apart, and no pointer is null.
+    told_by(text.len(), |answer, line, lengths| unsafe { command(text.as_ptr(), text.len(), answer.as_mut_ptr(), answer.len(), line.as_mut_ptr(), line.len(), lengths) })
+}
+
+/// What the judge of histories tells of a text: with `report`, of a linearizable one its report.
+pub(crate) fn judged(history: &[u8], report: bool) -> Told {
+    // SAFETY: as in `tell`.
+    told_by(history.len(), |answer, line, lengths| unsafe {
+        foreign::tellwydar_judge(history.as_ptr(), history.len(), report.into(), answer.as_mut_ptr(), answer.len(), line.as_mut_ptr(), line.len(), lengths)
+    })
 }
 
 /// Runs a schedule: the answer is the report of its run.

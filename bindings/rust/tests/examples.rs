@@ -19,6 +19,36 @@ fn texts() {
     assert_eq!(verify(b"").line, b"line 1: end\n");
 }
 
+fn row(process: i32, call: Call, end: Option<End>) -> Row {
+    Row { process: process.into(), key: "x".into(), call, end }
+}
+
+fn done(value: i32) -> Option<End> {
+    Some(End::Done { value: value.into() })
+}
+
+#[test]
+fn histories() {
+    let write = Call::Write { value: 1.into() };
+    let rows = [row(0, write.clone(), None), row(0, write, done(1)), row(1, Call::Read, None), row(1, Call::Read, done(1))];
+    let judged = judge_rows(&rows).expect("a history");
+    assert!(judged.is_linearizable && judged.text.starts_with("yes\nkey \"x\": linearizable\n"));
+    let stale = [&rows[..3], &[row(1, Call::Read, done(0))]].concat();
+    let judged = judge_rows(&stale).expect("a history");
+    assert!(!judged.is_linearizable && judged.text.contains("\n  by line 4: process 1 read 0\n"));
+    assert_eq!(judge_rows(&rows[1..]), Err("refused: line 1: the process has no call under way".to_owned()));
+    let swap = Call::CompareAndSwap { expected: 0.into(), value: "a\"\\\n".into() };
+    let unequal = [row(0, swap.clone(), None), row(0, swap.clone(), Some(End::Unequal))];
+    assert_eq!(unequal[1].to_string(), r#"{"process": 0, "type": "fail", "f": "cas", "key": "x", "value": [0, "a\"\\\u000a"], "error": "unequal"}"#);
+    assert!(!judge_rows(&unequal).expect("a history").is_linearizable);
+    let failed = [row(0, swap.clone(), None), row(0, swap, Some(End::Failed))];
+    assert!(judge_rows(&failed).expect("a history").is_linearizable);
+    let edn = b"{:process 0, :type :invoke, :f :read, :value nil}\n{:process 0, :type :ok, :f :read, :value nil}\n";
+    let report = judge_report(edn).expect("a history");
+    assert_eq!(check(report.text.as_bytes()).answer, b"serial yes\npoints yes\n");
+    assert_eq!(judge(b"{}\n"), Err("refused: line 1: wanted process, an integer or a string".to_owned()));
+}
+
 const WRITE: OpId = OpId { process: 0, number: 0 };
 const READ: OpId = OpId { process: 1, number: 0 };
 

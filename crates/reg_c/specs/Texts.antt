@@ -1,12 +1,19 @@
 -- What a command tells over memory that its caller lends.
-use Rattle.std.specs.Prelude.{ℕ, ◌≡◌, List}
+use Rattle.std.specs.Prelude.{ℕ, ◌≡◌, ◌≢◌, ◌≤◌, ◌⊎◌, Bool, true, false, List, [], None, Some, length}
+use Rattle.std.specs.Io.KnownBytes.{Appends}
+use Rattle.reg_base.specs.declared.limits.TheConstants.{LONGEST_INPUT}
 use Rattle.reg_commands.specs.Answers.{Answers, Blames}
 use Rattle.reg_commands.specs.FaultLines.{fault_line}
 use Rattle.reg_commands.specs.Lent.{Fills, IsTold}
 use Rattle.reg_commands.specs.declared.command.Command.{Command}
 use Rattle.reg_commands.specs.declared.command.Command.TheVariants.{Check}
 use Rattle.reg_commands.specs.declared.faults.Fault.{Fault}
+use Rattle.reg_commands.specs.declared.faults.Fault.TheVariants.{Output}
 use Rattle.reg_commands.specs.declared.lent.Lengths.{Lengths}
+use Rattle.reg_observed.specs.Commands.{IsAnyJudged}
+use Rattle.reg_observed.specs.declared.command.CommandFault.{CommandFault}
+use Rattle.reg_observed.specs.declared.command.CommandFault.TheVariants.{Command as JudgeCommand}
+use Rattle.reg_observed.specs.declared.flags.JudgeFlags.{JudgeFlags}
 use Rattle.reg_verify.specs.Verifies.{BlamesAccount, Verifies, verify_line}
 use Rattle.reg_verify.specs.declared.faults.VerifyFault.TheVariants.{Command as VerifyCommand}
 
@@ -25,3 +32,20 @@ Tells command text status old new errors_old errors_new lengths = Fills (IsAnswe
 -- what the check of a record tells of a text
 abbrev pub TellsVerdict : List ℕ → ℕ → List ℕ → List ℕ → List ℕ → List ℕ → Lengths → Type 0
 TellsVerdict text status old new errors_old errors_new lengths = Fills (IsVerdict text) status old new errors_old errors_new lengths
+
+-- how the judge of histories is asked: the usual first value is meant
+abbrev pub judge_flags : Bool → JudgeFlags
+judge_flags report = record { first = None; report = report }
+
+-- The status, the answer and the line of a refusal that the judge of histories gives to a text: what is said of
+-- `judge_text`.
+pub record IsJudgement (report : Bool) (text : List ℕ) (status : ℕ) (answer told : List ℕ) : Type 0 where
+  pub range : status ≤ 1
+  pub within : status ≡ 0 → length text ≤ LONGEST_INPUT
+  pub found : status ≡ 0 → IsAnyJudged (judge_flags report) true (Appends (Some []) (Some answer)) text
+  pub none : status ≡ 1 → (IsAnyJudged (judge_flags report) false (Appends (Some []) (Some answer)) text × (told ≡ [])) ⊎ ((f : CommandFault) × (f ≢ JudgeCommand Output → answer ≡ []))
+  pub quiet : status ≡ 0 → told ≡ []
+
+-- what the judge of histories tells of a text
+abbrev pub TellsJudgement : Bool → List ℕ → ℕ → List ℕ → List ℕ → List ℕ → List ℕ → Lengths → Type 0
+TellsJudgement report text status old new errors_old errors_new lengths = Fills (IsJudgement report text) status old new errors_old errors_new lengths
