@@ -34,7 +34,7 @@ class Row(_Named, total=False):
 
 
 class HistoryRefused(ValueError):
-    """The text is no history. The line says which line is wrong, or which row from 1, and what was wanted."""
+    """The text is no history, or memory was refused. It says which line is wrong, or which row from 1, and what was wanted."""
 
 
 @dataclass(frozen=True)
@@ -73,6 +73,7 @@ def judge(history: Union[str, bytes, Iterable[Mapping[str, object]]], *, report:
     anew. A history that is none raises HistoryRefused."""
     text = history if isinstance(history, (str, bytes)) else _lines(history)
     told = judged(text.encode() if isinstance(text, str) else text, report)
-    if told.line:
-        raise HistoryRefused(told.line.decode().rstrip("\n"))
+    is_refused = told.line or told.status != 0 and not told.answer.startswith(b"no\n")
+    if is_refused:
+        raise HistoryRefused(told.line.decode().rstrip("\n") or "refused: out of memory")
     return Judgement(told.status == 0, told.answer.decode())

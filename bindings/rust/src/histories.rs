@@ -130,19 +130,20 @@ pub struct Judgement {
 
 fn judge_text(history: &[u8], report: bool) -> Result<Judgement, String> {
     let told = judged(history, report);
-    let text = |bytes: Vec<u8>| String::from_utf8_lossy(&bytes).into_owned();
-    if told.line.is_empty() {
-        Ok(Judgement { is_linearizable: told.status == 0, text: text(told.answer) })
-    } else {
-        Err(text(told.line).trim_end().to_owned())
+    let text = |bytes: &[u8]| String::from_utf8_lossy(bytes).into_owned();
+    let is_linearizable = told.status == 0;
+    if told.line.is_empty() && (is_linearizable || told.answer.starts_with(b"no\n")) {
+        return Ok(Judgement { is_linearizable, text: text(&told.answer) });
     }
+    let line = text(told.line.trim_ascii_end());
+    Err(if line.is_empty() { "refused: out of memory".to_owned() } else { line })
 }
 
 /// Judges what a system answered its clients: lines of JSON, EDN as Jepsen writes it, or a report.
 ///
 /// # Errors
 ///
-/// The line of the refusal: it names the first line that is wrong, and what was wanted.
+/// The line of the refusal: it names the first line that is wrong, and what was wanted; or says that memory was refused.
 pub fn judge(history: &[u8]) -> Result<Judgement, String> {
     judge_text(history, false)
 }
