@@ -191,10 +191,7 @@ fn id_form(line: &[u8]) -> Result<(Num, Num, Option<&[u8]>), Why> {
 
 #[inline]
 fn id_fields(process: Num, number: Num) -> Result<OpId, Why> {
-    Ok(OpId {
-        process: process.upto(MAX_PROCESSES as u64 - 1)? as u8,
-        number: number.upto(MAX_OPS as u64 - 1)? as u32,
-    })
+    Ok(OpId { process: process.upto(MAX_PROCESSES as u64 - 1)? as u8, number: number.upto(MAX_OPS as u64 - 1)? as u32 })
 }
 
 enum What<'a> {
@@ -208,7 +205,8 @@ fn parse(lines: &mut Lines, ascii: bool) -> Result<Report, Why> {
         return Err(Why::Form);
     }
     match field(next(lines, ascii)?) {
-        (b"front", Some(w)) if !w.is_empty() && w.len() <= 16 && w.iter().all(|b| b.is_ascii_lowercase() || *b == b'-') => {}
+        (b"front", Some(w))
+            if !w.is_empty() && w.len() <= 16 && w.iter().all(|b| b.is_ascii_lowercase() || *b == b'-') => {}
         _ => return Err(Why::Form),
     }
     let processes = counted(next(lines, ascii)?, b"processes")?.upto(MAX_PROCESSES as u64)? as usize;
@@ -256,7 +254,7 @@ fn parse(lines: &mut Lines, ascii: bool) -> Result<Report, Why> {
         let at = at.upto(MAX_EVENTS as u64 - 1)? as u32;
         let id = id_fields(process, number)?;
         let p = id.process as usize;
-        let later = last.map_or(true, |(l, _)| at > l);
+        let later = last.is_none_or(|(l, _)| at > l);
         match what {
             What::Call(form) => {
                 let op = form.op(&names)?;

@@ -18,7 +18,9 @@ fn frames_have_one_spelling() {
     let g = hex("000a 01 02 0000000000000001");
     let a = hex("0013 01 01 0000000000000000 02 0000000000000002");
     let wf = Frame::Numbered { number: 0, body: Body::Cast { time: 1, op: Op::Write { register: 0, value: 5 } } };
-    for (b, f) in [(&w, wf), (&g, Frame::Got { count: 1 }), (&a, Frame::Numbered { number: 0, body: Body::Ack { time: 2 } })] {
+    for (b, f) in
+        [(&w, wf), (&g, Frame::Got { count: 1 }), (&a, Frame::Numbered { number: 0, body: Body::Ack { time: 2 } })]
+    {
         assert_eq!(encode(&f).as_ref(), Ok(b));
         assert_eq!(decode(b), Ok(f));
     }
@@ -73,7 +75,10 @@ fn a_process_meets_its_limits() {
     assert!(p.call(read, &mut s).unwrap().is_some());
     assert_eq!(p.call(write, &mut s), Err(Fault::ClockFull));
     let mut p = fresh();
-    assert_eq!(p.take(0, &num(0, Body::Cast { time: 1, op: Op::Read { register: 1 } }), &mut s), Err(Fault::NoRegister));
+    assert_eq!(
+        p.take(0, &num(0, Body::Cast { time: 1, op: Op::Read { register: 1 } }), &mut s),
+        Err(Fault::NoRegister)
+    );
     assert!(p.take(0, &num(0, Body::Ack { time: 5 }), &mut s).is_ok());
     assert_eq!(p.take(0, &num(1, Body::Ack { time: 5 }), &mut s), Err(Fault::Stale));
     assert_eq!(p.take(1, &num(1, Body::Ack { time: 6 }), &mut s), Err(Fault::NoProcess));
@@ -88,7 +93,9 @@ fn a_record_is_a_run() {
     let logs = [vec![LogEntry { step: Step::Call { op }, reply }]];
     let id = OpId { process: 0, number: 0 };
     let receipts = [vec![Receipt { id, op, answer: Answer::Done, called: 0, answered: 0 }]];
-    let v = |order: &[u8], receipts: &[Vec<Receipt>]| verify(Front::Linear, shape, order, &logs, receipts).map(|_| ()).err();
+    let v = |order: &[u8], receipts: &[Vec<Receipt>]| {
+        verify(Front::Linear, shape, order, &logs, receipts).map(|_| ()).err()
+    };
     assert_eq!(v(&[0], &receipts), None);
     assert_eq!(v(&[0], &[vec![]]), Some(CloseFault::Mismatch(0)));
     assert_eq!(v(&[0, 0], &receipts), Some(CloseFault::Unfaithful(1)));
@@ -105,9 +112,9 @@ fn naive(w: &awreg_plain::workload::Workload) -> (awreg_plain::world::World, u32
     let (mut next, mut cursor) = (vec![0; n], vec![0u32; n * n]);
     for _ in 0..w.budget {
         let mut list = vec![];
-        for p in 0..n {
-            if !world.process(p).busy() && next[p] < w.scripts[p].len() {
-                list.push(Event::Call { process: p as u8, op: w.scripts[p][next[p]] });
+        for (p, script) in w.scripts.iter().enumerate() {
+            if !world.process(p).busy() && next[p] < script.len() {
+                list.push(Event::Call { process: p as u8, op: script[next[p]] });
             }
         }
         for f in 0..n {
