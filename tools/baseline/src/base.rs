@@ -24,16 +24,29 @@ pub struct Stamp {
 pub enum Op {
     Read { register: u16 },
     Write { register: u16, value: u64 },
+    Swap { register: u16, value: u64 },
+    CompareAndSwap { register: u16, expected: u64, value: u64 },
 }
 
 impl Op {
     pub fn register(&self) -> u16 {
         match *self {
-            Op::Read { register } | Op::Write { register, .. } => register,
+            Op::Read { register }
+            | Op::Write { register, .. }
+            | Op::Swap { register, .. }
+            | Op::CompareAndSwap { register, .. } => register,
         }
     }
-    pub fn is_write(&self) -> bool {
-        matches!(self, Op::Write { .. })
+    /// Whether it may change the registers.
+    pub fn updates(&self) -> bool {
+        !matches!(self, Op::Read { .. })
+    }
+    pub fn can_answer(&self, answer: Answer) -> bool {
+        match self {
+            Op::Read { .. } | Op::Swap { .. } => matches!(answer, Answer::Value(_)),
+            Op::Write { .. } => answer == Answer::Done,
+            Op::CompareAndSwap { .. } => matches!(answer, Answer::Done | Answer::Unequal),
+        }
     }
 }
 
@@ -41,6 +54,8 @@ impl Op {
 pub enum Answer {
     Done,
     Value(u64),
+    /// Of a compare-and-swap that found another value, and changed nothing.
+    Unequal,
 }
 
 #[derive(Clone, Copy, PartialEq, Eq, PartialOrd, Ord, Debug)]
@@ -51,10 +66,13 @@ pub struct OpId {
 
 #[inline]
 pub fn apply(registers: &mut [u64], op: &Op) -> Answer {
+    let held = &mut registers[op.register() as usize];
     match *op {
-        Op::Read { register } => Answer::Value(registers[register as usize]),
-        Op::Write { register, value } => {
-            registers[register as usize] = value;
+        Op::Read { .. } => Answer::Value(*held),
+        Op::Swap { value, .. } => Answer::Value(std::mem::replace(held, value)),
+        Op::CompareAndSwap { expected, .. } if *held != expected => Answer::Unequal,
+        Op::Write { value, .. } | Op::CompareAndSwap { value, .. } => {
+            *held = value;
             Answer::Done
         }
     }
@@ -94,10 +112,10 @@ impl Front {
     #[inline]
     pub fn start(self, op: &Op, unsettled: u32) -> Start {
         match (self, op) {
-            (Front::Linear, _) | (Front::LocalRead, Op::Write { .. }) => Start::Cast,
             (Front::LocalWrite, Op::Write { .. }) => Start::CastAndAnswer,
-            (_, Op::Read { .. }) if unsettled == 0 => Start::Look,
-            (_, Op::Read { .. }) => Start::Hold,
+            (Front::LocalRead | Front::LocalWrite, Op::Read { .. }) if unsettled == 0 => Start::Look,
+            (Front::LocalRead | Front::LocalWrite, Op::Read { .. }) => Start::Hold,
+            _ => Start::Cast,
         }
     }
 }

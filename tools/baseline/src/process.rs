@@ -187,7 +187,13 @@ impl Process {
     }
 
     #[inline]
-    pub fn take_data<S: Sink>(&mut self, from: usize, number: u64, body: &Body, sink: &mut S) -> Result<Option<Reply>, Fault> {
+    pub fn take_data<S: Sink>(
+        &mut self,
+        from: usize,
+        number: u64,
+        body: &Body,
+        sink: &mut S,
+    ) -> Result<Option<Reply>, Fault> {
         let expected = self.expected[from];
         if number != expected {
             sink.got(from, expected);

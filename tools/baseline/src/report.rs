@@ -3,6 +3,10 @@ use crate::text::*;
 use crate::world::{Entry, Point, World};
 use std::io::{self, Write};
 
+/// The first lines of reports without and with compare-and-swaps.
+const PLAIN: &[u8] = b"awreg report 2";
+const COMPARING: &[u8] = b"awreg report 3";
+
 #[derive(Clone, Copy, Debug)]
 pub struct OpRec {
     pub op: Op,
@@ -69,6 +73,21 @@ impl<W: Write> Out<'_, W> {
         self.num(id.number as u64);
     }
     #[inline]
+    fn op(&mut self, op: &Op, names: &Names) {
+        let (word, expected, value): (&[u8], _, _) = match *op {
+            Op::Read { .. } => (b"read ", None, None),
+            Op::Write { value, .. } => (b"write ", None, Some(value)),
+            Op::Swap { value, .. } => (b"swap ", None, Some(value)),
+            Op::CompareAndSwap { expected, value, .. } => (b"cas ", Some(expected), Some(value)),
+        };
+        self.text(word);
+        self.text(names.name(op.register()).as_bytes());
+        for v in [expected, value].into_iter().flatten() {
+            self.text(b" ");
+            self.num(v);
+        }
+    }
+    #[inline]
     fn end_line(&mut self) -> io::Result<()> {
         self.buf.push(b'\n');
         if self.buf.len() >= 1 << 16 {
@@ -82,7 +101,9 @@ impl<W: Write> Out<'_, W> {
 pub fn write_report<W: Write>(w: &mut W, world: &World, names: &Names) -> io::Result<()> {
     let mut o = Out { w, buf: Vec::with_capacity((1 << 16) + 8192) };
     let front = world.front();
-    o.text(b"awreg report 2\nfront ");
+    let compares = |e: &Entry| matches!(e, Entry::Called { op: Op::CompareAndSwap { .. }, .. });
+    o.text(if world.history().iter().any(compares) { COMPARING } else { PLAIN });
+    o.text(b"\nfront ");
     o.text(front.name().as_bytes());
     o.text(b"\nprocesses ");
     o.num(world.processes() as u64);
@@ -105,17 +126,12 @@ pub fn write_report<W: Write>(w: &mut W, world: &World, names: &Names) -> io::Re
         o.text(b"  #");
         o.left(id.number as u64, 6);
         match entry {
-            Entry::Called { op: Op::Read { register }, .. } => {
-                o.text(b"  call    read ");
-                o.text(names.name(*register).as_bytes());
-            }
-            Entry::Called { op: Op::Write { register, value }, .. } => {
-                o.text(b"  call    write ");
-                o.text(names.name(*register).as_bytes());
-                o.text(b" ");
-                o.num(*value);
+            Entry::Called { op, .. } => {
+                o.text(b"  call    ");
+                o.op(op, names);
             }
             Entry::Answered { answer: Answer::Done, .. } => o.text(b"  answer  done"),
+            Entry::Answered { answer: Answer::Unequal, .. } => o.text(b"  answer  unequal"),
             Entry::Answered { answer: Answer::Value(v), .. } => {
                 o.text(b"  answer  value ");
                 o.num(*v);
@@ -191,24 +207,25 @@ fn id_form(line: &[u8]) -> Result<(Num, Num, Option<&[u8]>), Why> {
 
 #[inline]
 fn id_fields(process: Num, number: Num) -> Result<OpId, Why> {
-    Ok(OpId {
-        process: process.upto(MAX_PROCESSES as u64 - 1)? as u8,
-        number: number.upto(MAX_OPS as u64 - 1)? as u32,
-    })
+    Ok(OpId { process: process.upto(MAX_PROCESSES as u64 - 1)? as u8, number: number.upto(MAX_OPS as u64 - 1)? as u32 })
 }
 
 enum What<'a> {
     Call(OpForm<'a>),
     Done,
+    Unequal,
     Value(Num),
 }
 
 fn parse(lines: &mut Lines, ascii: bool) -> Result<Report, Why> {
-    if next(lines, ascii)? != b"awreg report 2" {
-        return Err(Why::Form);
-    }
+    let compares = match next(lines, ascii)? {
+        PLAIN => false,
+        COMPARING => true,
+        _ => return Err(Why::Form),
+    };
     match field(next(lines, ascii)?) {
-        (b"front", Some(w)) if !w.is_empty() && w.len() <= 16 && w.iter().all(|b| b.is_ascii_lowercase() || *b == b'-') => {}
+        (b"front", Some(w))
+            if !w.is_empty() && w.len() <= 16 && w.iter().all(|b| b.is_ascii_lowercase() || *b == b'-') => {}
         _ => return Err(Why::Form),
     }
     let processes = counted(next(lines, ascii)?, b"processes")?.upto(MAX_PROCESSES as u64)? as usize;
@@ -248,16 +265,20 @@ fn parse(lines: &mut Lines, ascii: bool) -> Result<Report, Why> {
         let number = left_column(&line[17..23])?;
         let tail = &line[33..];
         let what = match &line[25..31] {
-            b"call  " => What::Call(op_form(tail)?),
+            b"call  " => match op_form(tail)? {
+                OpForm::CompareAndSwap(..) if !compares => return Err(Why::Form),
+                form => What::Call(form),
+            },
             b"answer" if tail == b"done" => What::Done,
+            b"answer" if tail == b"unequal" && compares => What::Unequal,
             b"answer" => What::Value(counted(tail, b"value")?),
             _ => return Err(Why::Form),
         };
         let at = at.upto(MAX_EVENTS as u64 - 1)? as u32;
         let id = id_fields(process, number)?;
         let p = id.process as usize;
-        let later = last.map_or(true, |(l, _)| at > l);
-        match what {
+        let later = last.is_none_or(|(l, _)| at > l);
+        let answer = match what {
             What::Call(form) => {
                 let op = form.op(&names)?;
                 let list = ops.get_mut(p).ok_or(Why::Place)?;
@@ -266,27 +287,21 @@ fn parse(lines: &mut Lines, ascii: bool) -> Result<Report, Why> {
                 }
                 list.push(OpRec { op, called: at, answered: None });
                 last = Some((at, Some(id)));
+                continue;
             }
-            What::Done | What::Value(_) => {
-                let answer = match what {
-                    What::Value(v) => Answer::Value(v.upto(u64::MAX)?),
-                    _ => Answer::Done,
-                };
-                let list = ops.get_mut(p).ok_or(Why::Place)?;
-                let len = list.len();
-                let rec = list.last_mut().ok_or(Why::Place)?;
-                let in_place = later || last == Some((at, Some(id)));
-                if !in_place
-                    || id.number as usize + 1 != len
-                    || rec.answered.is_some()
-                    || rec.op.is_write() != (answer == Answer::Done)
-                {
-                    return Err(Why::Place);
-                }
-                rec.answered = Some((at, answer));
-                last = Some((at, None));
-            }
+            What::Done => Answer::Done,
+            What::Unequal => Answer::Unequal,
+            What::Value(v) => Answer::Value(v.upto(u64::MAX)?),
+        };
+        let list = ops.get_mut(p).ok_or(Why::Place)?;
+        let len = list.len();
+        let rec = list.last_mut().ok_or(Why::Place)?;
+        let in_place = later || last == Some((at, Some(id)));
+        if !in_place || id.number as usize + 1 != len || rec.answered.is_some() || !rec.op.can_answer(answer) {
+            return Err(Why::Place);
         }
+        rec.answered = Some((at, answer));
+        last = Some((at, None));
     }
     let count = counted(next(lines, ascii)?, b"order")?.upto(MAX_EVENTS as u64)?;
     let mut order = Vec::new();
