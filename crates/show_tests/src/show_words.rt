@@ -108,7 +108,7 @@ const HELP: [(&str, Option<Asked<'static>>); 20] = [
 ];
 
 /// Lines of the other commands, and of none, and what each asks for.
-const OTHERS: [(&str, Option<Asked<'static>>); 38] = [
+const OTHERS: [(&str, Option<Asked<'static>>); 39] = [
     ("trace --seed 5", None),
     ("trace --short", None),
     (
