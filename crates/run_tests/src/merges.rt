@@ -69,11 +69,17 @@ fn merged<F: FrontEnd>(
     shape: Shape,
     logs: &Logs,
 ) -> Result<Merged<Global>, MergeFault> {
+    if logs.len() != shape.processes() as usize {
+        return Err(MergeFault::TooMany);
+    }
     merge::<F, Global, Wires<Global>>(alloc, shape, logs)
 }
 
 /// Whether the entries in this order are a run of all of them.
 fn is_run<F: FrontEnd>(alloc: Global, shape: Shape, order: &[u8], logs: &Logs) -> bool {
+    if logs.len() != shape.processes() as usize {
+        return false;
+    }
     play::<F, Global, Wires<Global>>(alloc, shape, order, logs).is_ok()
 }
 
