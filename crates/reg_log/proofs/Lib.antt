@@ -7,3 +7,4 @@ pub mod Written
 pub mod Sealed
 pub mod Journals
 pub mod Owned
+pub mod Fours

@@ -6,3 +6,4 @@ pub mod Unsealing
 pub mod Logs
 pub mod LogFaults
 pub mod LineFaults
+pub mod Fours

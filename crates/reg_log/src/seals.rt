@@ -1,35 +1,44 @@
 //! Seals: CRC-32 checksums of lines.
 ghost use Rattle.std.specs.Prelude.{◌≡◌, ◌^◌, ◌<◌};
-ghost use Rattle.reg_log.specs.Seals.{crc_bit, crc_byte, crc_over, seal_text};
+ghost use Rattle.reg_log.specs.Seals.{crc_byte, crc_over, seal_text};
+ghost use Rattle.reg_log.specs.Fours.{crc_four};
 
 use hex::encode_to_slice;
 
 /// The register at first.
 pub(crate) const FIRST_CRC: u32 = 0xffff_ffff;
 
-/// The polynomial, its lowest power first.
-const POLYNOMIAL: u32 = 0xedb8_8320;
+/// The registers that four bits of zeros make of those below 16, by the polynomial edb88320, its lowest power first.
+const FOURS: [u32; 16] = [
+    0x0000_0000,
+    0x1db7_1064,
+    0x3b6e_20c8,
+    0x26d9_30ac,
+    0x76dc_4190,
+    0x6b6b_51f4,
+    0x4db2_6158,
+    0x5005_713c,
+    0xedb8_8320,
+    0xf00f_9344,
+    0xd6d6_a3e8,
+    0xcb61_b38c,
+    0x9b64_c2b0,
+    0x86d3_d2d4,
+    0xa00a_e278,
+    0xbdbd_f21c,
+];
 
-#[tactic(auto, unfolding(crate::specs::Seals::crc_bit))]
-fn over_bit(crc: u32) -> u32
-    ensures { result ≡ crc_bit crc }
+fn over_four(crc: u32) -> u32
+    ensures { result ≡ crc_four crc }
 {
-    if crc % 2 == 1 {
-        (crc / 2) ^ POLYNOMIAL
-    } else {
-        crc / 2
-    }
+    (crc / 16) ^ FOURS[(crc % 16) as usize]
 }
 
-#[tactic(auto, unfolding(crate::specs::Seals::crc_byte))]
+#[tactic(auto, unfolding(crate::specs::Seals::crc_byte, crate::specs::Fours::crc_four))]
 fn over_byte(crc: u32, byte: u8) -> u32
     ensures { result ≡ crc_byte crc byte }
 {
-    let first = over_bit(crc ^ u32::from(byte));
-    let third = over_bit(over_bit(first));
-    let fifth = over_bit(over_bit(third));
-    let seventh = over_bit(over_bit(fifth));
-    over_bit(seventh)
+    over_four(over_four(crc ^ u32::from(byte)))
 }
 
 /// The register after these bytes.
