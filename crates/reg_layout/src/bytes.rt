@@ -34,40 +34,66 @@ fn skip_comment(bytes: &[u8]) -> &[u8] {
     bytes.get(count..).unwrap_or(&[])
 }
 
-/// After spaces, line feeds and comments.
+/// How many bytes of a line's end stand at the start: a line feed, alone or behind a carriage return.
+pub(crate) fn line_end(bytes: &[u8]) -> usize {
+    match bytes {
+        [b'\n', ..] => 1,
+        [b'\r', b'\n', ..] => 2,
+        _ => 0,
+    }
+}
+
+/// After spaces, line ends and comments.
 pub(crate) fn skip_blank(bytes: &[u8]) -> &[u8] {
     let mut rest = bytes;
     for _ in 0..bytes.len() {
-        let count = rest.iter().take_while(|b| b.is_ascii_whitespace()).count();
-        rest = skip_comment(rest.get(count..).unwrap_or(&[]));
-        let next = first(rest);
-        if !next.is_ascii_whitespace() && next != b'#' {
+        let next = skip_comment(skip_spaces(rest));
+        let after = next.get(line_end(next)..).unwrap_or(&[]);
+        if after.len() == rest.len() {
             return rest;
         }
+        rest = after;
     }
     rest
 }
 
-/// The string at the start, and what stands after it.
+/// Whether it may not stand in a text on one line.
+pub(crate) fn is_control(byte: u8) -> bool {
+    byte.is_ascii_control() && byte != b'\t'
+}
+
+/// The text between these three quotes at the start, and what stands after it.
+fn long_text_at<'a>(bytes: &'a [u8], quotes: &[u8]) -> Option<(&'a [u8], &'a [u8])> {
+    let inner = bytes.strip_prefix(quotes)?;
+    let count = inner.windows(3).position(|it| it == quotes)?;
+    let text = inner.get(..count)?;
+    let rest = inner.get(count..)?.strip_prefix(quotes)?;
+    let text = text.get(line_end(text)..)?;
+    if text.iter().any(|b| *b == b'\\') || first(rest) == first(quotes) {
+        return None;
+    }
+    Some((text, rest))
+}
+
+/// The string at the start, and what stands after it. One with an escape isn't read.
 pub(crate) fn text_at(bytes: &[u8]) -> Option<(&[u8], &[u8])> {
     let quote = first(bytes);
     if quote != b'"' && quote != b'\'' {
         return None;
     }
+    if let Some(told) = long_text_at(bytes, b"\"\"\"") {
+        return Some(told);
+    }
+    if let Some(told) = long_text_at(bytes, b"'''") {
+        return Some(told);
+    }
     let rest = behind(bytes);
     let count = rest.iter().position(|b| *b == quote)?;
     let text = rest.get(..count)?;
-    if text.iter().any(|b| *b == b'\\' || *b == b'\n') {
+    if text.iter().any(|b| *b == b'\\' || is_control(*b)) {
         return None;
     }
     Some((text, behind(rest.get(count..)?)))
-}
-
-/// The decimal number at the start, and what stands after it.
-pub(crate) fn number_at(bytes: &[u8]) -> Option<(u64, &[u8])> {
-    let count = bytes.iter().take_while(|b| b.is_ascii_digit()).count();
-    let number = reg_text::numeral(bytes.get(..count)?)?;
-    Some((number, bytes.get(count..)?))
 }
 
 /// Behind an item of an array: after its comma, or before the bracket that closes the array.
@@ -78,38 +104,4 @@ pub(crate) fn behind_item(bytes: &[u8]) -> Option<&[u8]> {
         b']' => Some(rest),
         _ => None,
     }
-}
-
-/// Behind a value.
-pub(crate) fn behind_value(bytes: &[u8]) -> Option<&[u8]> {
-    if let Some((_, rest)) = text_at(bytes) {
-        return Some(rest);
-    }
-    if first(bytes) != b'[' {
-        return Some(number_at(bytes)?.1);
-    }
-    let mut rest = bytes;
-    let mut open = 0u32;
-    for _ in 0..bytes.len() {
-        rest = skip_blank(rest);
-        match first(rest) {
-            b'[' => {
-                if open >= 2 {
-                    return None;
-                }
-                open += 1;
-                rest = behind(rest);
-            }
-            b']' => {
-                if open <= 1 {
-                    return Some(behind(rest));
-                }
-                open -= 1;
-                rest = behind(rest);
-            }
-            b',' => rest = behind(rest),
-            _ => rest = text_at(rest)?.1,
-        }
-    }
-    None
 }

@@ -9,8 +9,10 @@ mod bytes;
 mod draft;
 mod layout;
 mod reading;
+mod scalars;
 mod scripts;
 mod sure;
+mod values;
 
 pub use layout::lay_out;
 pub use reading::guess_workload;

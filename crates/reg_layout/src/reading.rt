@@ -2,8 +2,9 @@
 ghost use Rattle.std.specs.Prelude.{◌≡◌, ◌<◌, ◌≤◌, None, IfOk};
 ghost use Rattle.reg_inputs.specs.Loads.{IsLoad};
 
-use crate::bytes::{behind, behind_item, first, number_at, skip_blank, text_at};
+use crate::bytes::{behind, behind_item, first, skip_blank, text_at};
 use crate::draft::{Draft, draft_of};
+use crate::scalars::{Scalar, scalar_at};
 use crate::scripts::scripts_at;
 use reg_base::limits::{LAST_SEED, MOST_EVENTS, MOST_ODDS, USUAL_BUDGET};
 use reg_base::{Names, Shape};
@@ -83,31 +84,43 @@ fn names_at<A: Allocator + Copy>(alloc: A, bytes: &[u8]) -> Result<Names<A>, Wor
     Err(WorkloadFault::Toml)
 }
 
-/// The number at a key, within these limits, and the usual one where the key is not there.
+/// Which numbers a key may have, and the usual one where the key is not there.
+#[derive(Clone, Copy)]
+struct Numbers {
+    least: u64,
+    most: u64,
+    usual: u64,
+}
+
+/// The number at a key.
 fn number_of(
     text: &[u8],
     value: Option<usize>,
     key: Key,
-    least: u64,
-    most: u64,
-    usual: u64,
+    numbers: Numbers,
 ) -> Result<u64, WorkloadFault>
-    requires least { least ≤ usual }
-    requires most { usual ≤ most }
-    ensures { IfOk result (λ n. (least ≤ n) × (n ≤ most)) }
+    requires least { numbers.least ≤ numbers.usual }
+    requires most { numbers.usual ≤ numbers.most }
+    ensures { IfOk result (λ n. (numbers.least ≤ n) × (n ≤ numbers.most)) }
 {
     let Some(at) = value else {
-        return Ok(usual);
+        return Ok(numbers.usual);
     };
-    let Some((number, _)) = number_at(from(text, at)) else {
+    let Some((Scalar::Integer(integer), _)) = scalar_at(from(text, at)) else {
         return Err(WorkloadFault::Kind { key });
     };
-    if least <= number && number <= most {
-        Ok(number)
-    } else {
-        Err(WorkloadFault::Range { key })
+    match u64::try_from(integer) {
+        Ok(number) if numbers.least <= number && number <= numbers.most => Ok(number),
+        _ => Err(WorkloadFault::Range { key }),
     }
 }
+
+/// Odds in a hundred: none where the key is not there.
+const ODDS: Numbers = Numbers {
+    least: 0,
+    most: MOST_ODDS as u64,
+    usual: 0,
+};
 
 fn workload_of<A: Allocator + Copy>(
     alloc: A,
@@ -119,17 +132,20 @@ fn workload_of<A: Allocator + Copy>(
     let front = front_at(needed(text, draft.front, Key::Front)?)?;
     let names = names_at(alloc, needed(text, draft.registers, Key::Registers)?)?;
     let lines = needed(text, draft.scripts, Key::Scripts)?;
-    let seed = number_of(text, draft.seed, Key::Seed, 0, LAST_SEED, 0)?;
-    let loss = number_of(text, draft.loss, Key::Loss, 0, u64::from(MOST_ODDS), 0)?;
-    let repeat = number_of(text, draft.repeat, Key::Repeat, 0, u64::from(MOST_ODDS), 0)?;
-    let budget = number_of(
-        text,
-        draft.budget,
-        Key::Budget,
-        1,
-        u64::from(MOST_EVENTS),
-        u64::from(USUAL_BUDGET),
-    )?;
+    let seeds = Numbers {
+        least: 0,
+        most: LAST_SEED,
+        usual: 0,
+    };
+    let budgets = Numbers {
+        least: 1,
+        most: u64::from(MOST_EVENTS),
+        usual: u64::from(USUAL_BUDGET),
+    };
+    let seed = number_of(text, draft.seed, Key::Seed, seeds)?;
+    let loss = number_of(text, draft.loss, Key::Loss, ODDS)?;
+    let repeat = number_of(text, draft.repeat, Key::Repeat, ODDS)?;
+    let budget = number_of(text, draft.budget, Key::Budget, budgets)?;
     let scripts = scripts_at(alloc, lines, &names)?;
     let processes = scripts.len();
     if processes == 0 {

@@ -16,10 +16,10 @@ invariant_of-result g c =
       few_processes = rw length-map few;
       scripts = c.in_ok-scripts.ensures.known;
       seed = c.in_ok-seed.ensures.1;
-      loss = let l = c.in_ok-loss.ensures.1 in let e = c.from.ensures in omega (arith, l, e);
-      repeat = let l = c.in_ok-repeat.ensures.1 in let e = c.from-2.ensures in omega (arith, l, e);
+      loss = let l = c.in_ok-loss.ensures.1 in omega (arith, l);
+      repeat = let l = c.in_ok-repeat.ensures.1 in omega (arith, l);
       some_event = c.in_ok-budget.ensures.0;
-      budget = let l = c.in_ok-budget.ensures.1 in let e = c.from-3.ensures in omega (arith, l, e);
+      budget = let l = c.in_ok-budget.ensures.1 in let e = c.from.ensures in omega (arith, l, e);
     }
 
 pub returns : goal.returns
