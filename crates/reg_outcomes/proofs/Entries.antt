@@ -73,7 +73,7 @@ module _ {K V Key : Type 0} (key_of : K → Key) (turns_of : V → List ℕ) (cm
   found_at true k e es same some rest = (read e, inl refl, sym (exact (key_of k) (key_of e.0) (equal_is (by_key k e.0) same)))
   found_at false k e es same some rest = let g = rest some in (g.0, inr g.1, g.2)
 
-  found : (k : K) (es : List (K × V)) → is_some (lookup (is_at (by_key k)) es) ≡ true → (g : Key × List ℕ) × In g (map read es) × (g.0 ≡ key_of k)
+  pub found : (k : K) (es : List (K × V)) → is_some (lookup (is_at (by_key k)) es) ≡ true → (g : Key × List ℕ) × In g (map read es) × (g.0 ≡ key_of k)
   found k [] some = absurd cc
   found k (e ∷ es) some = found_at (is_eq (by_key k e.0)) k e es refl some (found k es)
 

@@ -16,7 +16,13 @@ pub mod Placed
 pub mod NextAnswers
 pub mod Serial
 pub mod Pointing
-pub mod Naming
+pub mod Noting
+pub mod Walking
+pub mod Losing
+pub mod Forced
+pub mod Known
+pub mod Guiding
+pub mod Searching
 pub mod MissingTold
 pub mod MissingSort
 pub mod MissingOrder

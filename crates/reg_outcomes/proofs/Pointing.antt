@@ -100,6 +100,15 @@ module _ (s : Sought) (shape : Extent) (h : List Entry) (good : IsHistory s.shap
       let here = points_of_order s.shape.processes s.shape.registers s.entries good ids ps (subst (λ (k : OrderKind). IsOrder k s.shape.registers s.entries ids) same_kind order) are in
       subst (λ (es : List Entry). IsPointOrder shape.registers es ps) same_entries (subst (λ (x : Extent). IsPointOrder x.registers s.entries ps) same_shape here)
 
+-- an order is found, or there is none
+abbrev FindsIn : {A E : Type 0} → OrderKind → ℕ → List Entry → Result (Option (Vec OpId A)) E → Type 0
+FindsIn kind registers h r = IfOk r (λ o. MatchOption o ((ids : List OpId) → ¬ IsOrder kind registers h ids) (λ v. IsOrder kind registers h v.items))
+
+-- what a search finds is so of the history that it goes by
+pub found_in : {A E : Type 0} (s : Sought) (kind : OrderKind) (shape : Extent) (h : List Entry) → s.kind ≡ kind → s.shape ≡ shape → s.entries ≡ h → (r : Result (Option (Vec OpId A)) E) → FindsIn s.kind s.shape.registers s.entries r → FindsIn kind shape.registers h r
+found_in s kind shape h same_kind same_shape same_entries r found =
+    subst (λ (k : OrderKind). FindsIn k shape.registers h r) same_kind (subst (λ (x : Extent). FindsIn s.kind x.registers h r) same_shape (subst (λ (es : List Entry). FindsIn s.kind s.shape.registers es r) same_entries found))
+
 -- an order that need keep no time is a serial order
 pub serially : {A E : Type 0} (registers : ℕ) (h : List Entry) (r : Result (Option (Vec OpId A)) E) → IfOk r (λ o. MatchOption o ((ids : List OpId) → ¬ IsOrder Serial registers h ids) (λ v. IsOrder Serial registers h v.items)) → IfOk r (λ o. MatchOption o ((ids : List OpId) → ¬ IsSerial registers h ids) (λ v. IsSerial registers h v.items))
 serially registers h (Ok None) none = λ ids serial. none ids (record { serial = serial; time = tt })

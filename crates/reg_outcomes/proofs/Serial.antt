@@ -4,7 +4,6 @@ use Rattle.std.specs.Prelude.{slice_index, slice_set}
 use Rattle.std.specs.List.{AllZip}
 use Rattle.std.proofs.lemmas.Bool.{cases_eq, cases_order}
 use Rattle.std.proofs.lemmas.List.{take-append-le, take_all, take_at}
-use Rattle.reg_base.specs.declared.limits.TheConstants.{MOST_OPERATIONS}
 use Rattle.reg_base.specs.declared.memory.Answer.{Answer}
 use Rattle.reg_base.specs.declared.memory.Op.{Op}
 use Rattle.reg_base.specs.declared.memory.OpId.{OpId}
@@ -31,11 +30,11 @@ use Rattle.reg_outcomes.specs.declared.orders.kinds.OrderKind.{OrderKind}
 use Rattle.reg_outcomes.specs.declared.orders.kinds.OrderKind.TheVariants.{Serial, Points}
 use Rattle.reg_outcomes.specs.Finding.{MayCome, MayFollow, Next, Nothing, Places, placed_after}
 use Rattle.reg_outcomes.specs.Interleavings.{Stage, first_stage}
-use Rattle.reg_outcomes.specs.Placing.{IsComplete, IsOrder, IsOrderBy, KeepsRealTime, KeepsTime, ids_along}
+use Rattle.reg_outcomes.specs.Placing.{IsComplete, IsOrder, KeepsRealTime, KeepsTime}
 use Rattle.reg_outcomes.proofs.Layering.{no_more}
-use Rattle.reg_outcomes.proofs.Placed.{IsPlacedLayer, along, in_bounds, room}
+use Rattle.reg_outcomes.proofs.Placed.{in_bounds, room}
 
-as_long : {X Y : Type 0} (R : X → Y → Type 0) (xs : List X) (ys : List Y) → AllZip R xs ys → length xs ≡ length ys
+pub as_long : {X Y : Type 0} (R : X → Y → Type 0) (xs : List X) (ys : List Y) → AllZip R xs ys → length xs ≡ length ys
 as_long R [] [] all = refl
 as_long R [] (y ∷ ys) all = absurd all
 as_long R (x ∷ xs) [] all = absurd all
@@ -226,7 +225,7 @@ module _ (n registers : ℕ) (h : List Entry) (good : IsHistory n registers h) w
         (there.0, omega (arith, inside, last), place_first old (x ∷ []) there.0 other there.1)
   ]
 
-  time_of : (kind : OrderKind) (ids : List OpId) (s : Stage) → Places kind n registers h ids s → KeepsTime kind h ids
+  pub time_of : (kind : OrderKind) (ids : List OpId) (s : Stage) → Places kind n registers h ids s → KeepsTime kind h ids
   time_of Serial ids s places = tt
   time_of Points ids s places = real_time ids s places
 
@@ -247,24 +246,6 @@ module _ (kind : OrderKind) (n registers : ℕ) (h : List Entry) (good : IsHisto
         selection = record { distinct = first.distinct; finished = λ id fin. first.all id.process id.number (complete id fin); known = sound.stand };
         legal = record { ops = sound.ops; called = sound.called; right = sound.right };
         own_order = first.own;
-      }
-
-  stands_in_bounds : (id : OpId) → MayStand h id → (id.process < n) × (id.number < MOST_OPERATIONS)
-  stands_in_bounds id stands =
-      let call : WasCalled h id = elim stands [ inl fin ↦ answered_was_called n registers h good id fin.0 fin.1 fin.2 | inr c ↦ (c.0, c.1, c.2) ] in
-      let bounds = in_bounds kind n registers h good id call.0 call.1 call.2 in
-      (bounds.0, bounds.2)
-
-  -- an entry of a layer with all finished operations gives an order
-  pub found_is : (k : ℕ) (layer : List (Stage × List ℕ)) (turns : List ℕ) → IsPlacedLayer kind n registers h k layer → (f : Stage × List ℕ) → In f layer → f.1 ≡ turns → IsComplete h f.0.next → IsOrderBy kind n registers h turns
-  found_is k layer turns is f at same complete =
-      let led = is.each f at in
-      let ids : List OpId = led.0 in
-      let sound = sound_of kind n registers h ids f.0 led.1 in
-      let back : ids_along (replicate n 0) turns ≡ ids = ap (ids_along (replicate n 0)) (sym same ∙ led.2) ∙ (along kind n registers h ids f.0 led.1).1 in
-      record {
-        order = subst (λ (l : List OpId). IsOrder kind registers h l) (sym back) (record { serial = serial_is ids f.0 led.1 complete; time = time_of n registers h good kind ids f.0 led.1 });
-        within = λ i id here. stands_in_bounds id (sound.stand i id (subst (λ (l : List OpId). IsAt l i id) back here));
       }
 
   module _ (ids : List OpId) (order : IsOrder kind registers h ids) where
@@ -330,24 +311,13 @@ module _ (kind : OrderKind) (n registers : ℕ) (h : List Entry) (good : IsHisto
         let first = first_of kind n registers h good ids end.0 places in
         (end.0, places, λ id fin. let there = serial.selection.finished id fin in first.below there.0 id there.1)
 
-    -- and it is no longer than the history
-    pub few : length ids ≤ length h
-    few = no_more id_of ids h serial.selection.distinct (λ i id at. from id (serial.selection.known i id at))
-      where
-        entry : (id : OpId) → WasCalled h id → (e : Entry) × In e h × (id_of e ≡ id)
-        entry id (at, op, (k, here)) = (Called at id op, at_in (Called at id op) h (k, here), refl)
+  -- operations that were placed are no more than the history has entries
+  pub few : (ids : List OpId) (s : Stage) → Places kind n registers h ids s → length ids ≤ length h
+  few ids s places = no_more id_of ids h (first_of kind n registers h good ids s places).distinct (λ i id at. from id ((sound_of kind n registers h ids s places).stand i id at))
+    where
+      entry : (id : OpId) → WasCalled h id → (e : Entry) × In e h × (id_of e ≡ id)
+      entry id (at, op, (k, here)) = (Called at id op, at_in (Called at id op) h (k, here), refl)
 
-        from : (id : OpId) → MayStand h id → (e : Entry) × In e h × (id_of e ≡ id)
-        from id (inl fin) = entry id (answered_was_called n registers h good id fin.0 fin.1 fin.2)
-        from id (inr c) = entry id (c.0, c.1, c.2)
-
-  -- where no stage of a layer has all finished operations, no order is so long
-  pub none_so_long : (k : ℕ) (layer : List (Stage × List ℕ)) → IsPlacedLayer kind n registers h k layer → ((f : Stage × List ℕ) → In f layer → ¬ IsComplete h f.0.next) → ((ids : List OpId) → IsOrder kind registers h ids → length ids < k → ⊥)
-      → (ids : List OpId) → IsOrder kind registers h ids → length ids < k + 1 → ⊥
-  none_so_long k layer is none shorter ids order lt = elim (cases_eq (length ids) k) [
-    | inl e ↦
-        let whole = whole_is ids order in
-        let found = is.all ids whole.0 whole.1 e in
-        none found.0 found.1 (subst (λ (s : Stage). IsComplete h s.next) (sym found.2) whole.2)
-    | inr ne ↦ shorter ids order (omega (arith, lt, ne))
-  ]
+      from : (id : OpId) → MayStand h id → (e : Entry) × In e h × (id_of e ≡ id)
+      from id (inl fin) = entry id (answered_was_called n registers h good id fin.0 fin.1 fin.2)
+      from id (inr c) = entry id (c.0, c.1, c.2)

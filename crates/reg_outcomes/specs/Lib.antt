@@ -16,3 +16,8 @@ pub mod Counts
 pub mod TableText
 pub mod Outcomes
 pub mod Timing
+pub mod Walking
+pub mod Searching
+pub mod Losing
+pub mod Forced
+pub mod Guiding

@@ -1,23 +1,18 @@
 -- A search for an order under way: the operations that may come next. They carry a proof: no promise speaks of them.
-use Rattle.std.specs.Prelude.{ℕ, ◌≡◌, ◌+◌, ◌<◌, ◌≤◌, List, [], ◌∷◌, ◌++◌, length, map, replicate, slice_index, slice_set}
-use Rattle.reg_base.specs.declared.limits.TheConstants.{MOST_OPERATIONS}
+use Rattle.std.specs.Prelude.{ℕ, ◌≡◌, ◌<◌, ◌≤◌, List, length, map, slice_index}
 use Rattle.reg_base.specs.declared.memory.Answer.{Answer}
 use Rattle.reg_base.specs.declared.memory.Op.{Op}
 use Rattle.reg_base.specs.declared.memory.OpId.{OpId}
 use Rattle.reg_base.specs.Memory.{answer_of}
-use Rattle.reg_base.specs.Order.{In}
 use Rattle.reg_checkers.specs.declared.entries.Entry.{Entry}
 use Rattle.reg_checkers.specs.declared.entries.Point.{Point}
 use Rattle.reg_checkers.specs.History.{IsAnswered, IsAt, IsCalled, IsFinished}
 use Rattle.reg_checkers.specs.Orders.{IsSerial}
 use Rattle.reg_checkers.specs.Progress.{op_of}
-use Rattle.reg_outcomes.specs.declared.orders.finding.Search.{Search}
-use Rattle.reg_outcomes.specs.declared.orders.finding.Search.TheVariants.{Found, Open}
 use Rattle.reg_outcomes.specs.declared.orders.kinds.OrderKind.{OrderKind}
 use Rattle.reg_outcomes.specs.declared.orders.kinds.OrderKind.TheVariants.{Serial, Points}
 use Rattle.reg_outcomes.specs.Finding.{MayCome, MayFollow, placed_after}
 use Rattle.reg_outcomes.specs.Interleavings.{Stage}
-use Rattle.reg_outcomes.specs.Layers.{Adds, IsAfterSome, entries_of}
 
 -- the next operation of a process may come, and leads from one stage to another
 pub record IsPlaced (kind : OrderKind) (h : List Entry) (p : ℕ) (from to : Stage) : Type 0 where
@@ -28,24 +23,9 @@ pub record IsPlaced (kind : OrderKind) (h : List Entry) (p : ℕ) (from to : Sta
   pub follows : MayFollow kind h from.next (op_of p (slice_index from.next p))
   pub stage : to ≡ placed_after p op from
 
--- the next operation of a process may come, and leads from one entry of a layer to another
-pub record IsPlacing (kind : OrderKind) (h : List Entry) (p : ℕ) (from to : Stage × List ℕ) : Type 0 where
-  pub placed : IsPlaced kind h p from.0 to.0
-  pub turns : to.1 ≡ from.1 ++ p ∷ []
-
 -- all finished operations are placed
 abbrev pub IsComplete : List Entry → List ℕ → Type 0
 IsComplete h next = (id : OpId) → IsFinished h id → id.number < slice_index next id.process
-
--- what a layer gives: the turns of a stage with all finished operations, or the next layer
-abbrev pub IsSearched : {A : Type 0} → OrderKind → List Entry → List (Stage × List ℕ) → Search A → Type 0
-IsSearched kind h layer (Found turns) = (f : Stage × List ℕ) × In f layer × (f.1 ≡ turns.items) × IsComplete h f.0.next
-IsSearched kind h layer (Open next) = ((f : Stage × List ℕ) → In f layer → ¬ IsComplete h f.0.next) × Adds (IsAfterSome (IsPlacing kind h) layer) [] (entries_of next)
-
--- the ids of operations that stand by process, after these numbers of operations of each
-abbrev pub ids_along : List ℕ → List ℕ → List OpId
-ids_along next [] = []
-ids_along next (p ∷ turns) = op_of p (slice_index next p) ∷ ids_along (slice_set next p (slice_index next p + 1)) turns
 
 -- a number for each process, and a value for each register
 pub record HasRoomFor (n registers : ℕ) (s : Stage) : Type 0 where
@@ -66,18 +46,9 @@ pub record IsOrder (kind : OrderKind) (registers : ℕ) (h : List Entry) (ids : 
   pub serial : IsSerial registers h ids
   pub time : KeepsTime kind h ids
 
--- the ids of these turns are an order of this kind, and each is one that a process of a history can have
-pub record IsOrderBy (kind : OrderKind) (n registers : ℕ) (h : List Entry) (turns : List ℕ) : Type 0 where
-  pub order : IsOrder kind registers h (ids_along (replicate n 0) turns)
-  pub within : (k : ℕ) (id : OpId) → IsAt (ids_along (replicate n 0) turns) k id → (id.process < n) × (id.number < MOST_OPERATIONS)
-
 -- The points of these operations: each is the latest of their calls so far.
 pub record ArePointsOf (h : List Entry) (ids : List OpId) (ps : List Point) : Type 0 where
   pub same : map (λ p. p.id) ps ≡ ids
   pub late : (i : ℕ) (p : Point) (at : ℕ) (op : Op) → IsAt ps i p → IsCalled h p.id at op → at ≤ p.at
   pub call : (i : ℕ) (p : Point) → IsAt ps i p → (j : ℕ) × (id : OpId) × (op : Op) × (j ≤ i) × IsAt ids j id × IsCalled h id p.at op
   pub rising : (i j : ℕ) (p q : Point) → IsAt ps i p → IsAt ps j q → i < j → p.at ≤ q.at
-
--- the processes of ids
-abbrev pub processes_of : List OpId → List ℕ
-processes_of ids = map (λ id. id.process) ids

@@ -70,6 +70,16 @@ impl<A: Allocator + Copy> Stage<A> {
         Ok(Stage { next, memory, told })
     }
 
+    /// The same stage once more.
+    pub(crate) fn copied(&self, alloc: A) -> Result<Stage<A>, AllocError>
+        ensures { IfOk result (λ s. stage_of s ≡ stage_of self.now) }
+    {
+        let next = Vec::from_slice(alloc, self.next.as_slice())?;
+        let memory = Vec::from_slice(alloc, self.memory.as_slice())?;
+        let told = Vec::from_slice(alloc, self.told.as_slice())?;
+        Ok(Stage { next, memory, told })
+    }
+
     /// The next operation of a process, None where its script is used up.
     pub(crate) fn next_op(&self, scripts: &[Vec<Op, A>], process: u8) -> Option<Op>
         requires script { process < length scripts.now }

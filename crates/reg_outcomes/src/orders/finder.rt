@@ -75,6 +75,14 @@ impl<'a, A: Allocator + Copy> Finder<'a, A> {
         self.history.shape()
     }
 
+    /// How many operations a process has called.
+    pub(crate) fn calls(&self, process: u8) -> usize {
+        match self.facts.get(usize::from(process)) {
+            Some(row) => row.len(),
+            None => 0,
+        }
+    }
+
     /// The entries of the history, each in place.
     pub(crate) fn entries(&self) -> &[Entry]
         ensures value { result.now ≡ self.now.entries }

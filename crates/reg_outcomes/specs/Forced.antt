@@ -1,0 +1,94 @@
+-- What has to come before what in each serial order of a history. They carry a proof: no promise speaks of them.
+use Rattle.std.specs.Prelude.{ℕ, ◌≡◌, ◌≢◌, ◌<◌, List, length, slice_get, slice_index, Option, Some, option_and_then, Vec}
+use Rattle.std.specs.BTreeMap.{BTreeMap, get}
+use Rattle.reg_base.specs.declared.memory.Answer.{Answer}
+use Rattle.reg_base.specs.declared.memory.Op.{Op}
+use Rattle.reg_base.specs.declared.memory.OpId.{OpId}
+use Rattle.reg_base.specs.Memory.{Memory, after, answer_of, register_of}
+use Rattle.reg_checkers.specs.declared.entries.Entry.{Entry}
+use Rattle.reg_checkers.specs.declared.entries.Entry.TheVariants.{Answered, Called}
+use Rattle.reg_checkers.specs.History.{IsAnswered, IsAt, IsCalled}
+use Rattle.reg_checkers.specs.Orders.{IsSerial}
+use Rattle.reg_checkers.specs.Progress.{op_of}
+use Rattle.reg_outcomes.specs.declared.orders.sources.Maker.{Maker}
+use Rattle.reg_outcomes.specs.declared.orders.sources.Maker.TheVariants.{Only, Several}
+use Rattle.reg_outcomes.specs.declared.orders.sources.Reader.{Reader}
+use Rattle.reg_outcomes.specs.Losing.{IsAsker, made_of, value_cmp}
+use Rattle.reg_outcomes.specs.Sought.{Sought}
+
+-- in each serial order in which both stand, the first one stands before the other
+abbrev pub Comes : Sought → OpId → OpId → Type 0
+Comes s a b = (ids : List OpId) (i j : ℕ) → IsSerial s.shape.registers s.entries ids → IsAt ids i a → IsAt ids j b → i < j
+
+-- by process, by an earlier process, and by number: how many first operations of the earlier process come before
+abbrev pub Counts : Type 0 → Type 0
+Counts A = List (Vec (Vec ℕ A) A)
+
+abbrev pub column_at : {A : Type 0} → ℕ → Vec ℕ A → Option ℕ
+column_at n column = slice_get column.items n
+
+abbrev pub row_at : {A : Type 0} → ℕ → ℕ → Vec (Vec ℕ A) A → Option ℕ
+row_at p n row = option_and_then (column_at n) (slice_get row.items p)
+
+-- how many first operations of the process come before the operation
+abbrev pub count_in : {A : Type 0} → Counts A → OpId → ℕ → Option ℕ
+count_in counts id p = option_and_then (row_at p id.number) (slice_get counts id.process)
+
+-- nothing comes before any operation
+abbrev pub IsNoneColumn : {A : Type 0} → Vec ℕ A → Type 0
+IsNoneColumn column = (n k : ℕ) → column_at n column ≡ Some k → k ≡ 0
+
+abbrev pub IsNoneRow : {A : Type 0} → Vec (Vec ℕ A) A → Type 0
+IsNoneRow row = (p n k : ℕ) → row_at p n row ≡ Some k → k ≡ 0
+
+abbrev pub AreNone : {A : Type 0} → Counts A → Type 0
+AreNone counts = (id : OpId) (p k : ℕ) → count_in counts id p ≡ Some k → k ≡ 0
+
+-- what is told to come before an operation does
+abbrev pub AreForced : {A : Type 0} → Sought → Counts A → Type 0
+AreForced s counts = (id : OpId) (p m k : ℕ) → count_in counts id p ≡ Some k → m < k → Comes s (op_of p m) id
+
+-- the operation may leave this value in this register
+abbrev pub IsMaker : List Entry → ℕ × ℕ → OpId → Type 0
+IsMaker h value id = (at : ℕ) × (op : Op) × IsCalled h id at op × (register_of op ≡ value.0) × (made_of op ≡ Some value.1)
+
+-- no other operation may
+abbrev pub IsOnlyMaker : List Entry → ℕ × ℕ → OpId → Type 0
+IsOnlyMaker h value w = (id : OpId) → IsMaker h value id → id ≡ w
+
+-- the operation is among these
+abbrev pub Covers : Maker → OpId → Type 0
+Covers (Only w) id = id ≡ w
+Covers Several id = Unit {0}
+
+abbrev pub Makers : Type 0
+Makers = BTreeMap (ℕ × ℕ) Maker
+
+-- the operation is told of
+abbrev pub HasMaker : Makers → ℕ × ℕ → OpId → Type 0
+HasMaker makers value id = (m : Maker) × (get value_cmp makers value ≡ Some m) × Covers m id
+
+-- the value that the operation of a call may leave is told of
+abbrev pub IsMakerCalled : Makers → Entry → Type 0
+IsMakerCalled makers (Called at id op) = (v : ℕ) → made_of op ≡ Some v → HasMaker makers (register_of op, v) id
+IsMakerCalled makers (Answered at id answer) = Unit {0}
+
+-- so of the first entries
+abbrev pub AreCalledTo : ℕ → List Entry → Makers → Type 0
+AreCalledTo n h makers = (j : ℕ) (e : Entry) → j < n → IsAt h j e → IsMakerCalled makers e
+
+abbrev pub AreMakers : List Entry → Makers → Type 0
+AreMakers h makers = (value : ℕ × ℕ) (id : OpId) → IsMaker h value id → HasMaker makers value id
+
+-- an operation that is finished, what it has to find, and all that may leave that
+pub record IsReader (h : List Entry) (r : Reader) : Type 0 where
+  pub asker : IsAsker h (r.id.process, r.value) r.id.number
+  pub source : (id : OpId) → IsMaker h r.value id → (m : Maker) × (r.source ≡ Some m) × Covers m id
+
+-- where it stands in an order, the operation leaves another value in this register
+pub record Overwrites (h : List Entry) (id : OpId) (value : ℕ × ℕ) : Type 0 where
+  pub at : ℕ
+  pub op : Op
+  pub called : IsCalled h id at op
+  pub register : register_of op ≡ value.0
+  pub leaves : (m : Memory) → register_of op < length m → ((t : ℕ) (answer : Answer) → IsAnswered h id t answer → answer ≡ answer_of op m) → slice_index (after op m) (register_of op) ≢ value.1
