@@ -9,3 +9,9 @@ pub mod Needs
 pub mod Stepping
 pub mod Beginning
 pub mod Narrowing
+pub mod Filters
+pub mod PartFacts
+pub mod SameMemory
+pub mod Merging
+pub mod Locality
+pub mod Renaming

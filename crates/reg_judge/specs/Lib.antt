@@ -3,3 +3,5 @@ pub mod Completing
 pub mod Stages
 pub mod Searching
 pub mod Judging
+pub mod Parts
+pub mod Alike

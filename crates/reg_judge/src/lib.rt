@@ -6,6 +6,7 @@ mod bits;
 mod calls;
 mod found;
 mod judge;
+pub mod laws;
 mod order;
 mod search;
 mod stages;
