@@ -1,5 +1,9 @@
 pub mod Lists
 pub mod Seating
 pub mod Keying
+pub mod Linking
+pub mod Agreeing
+pub mod Wholes
+pub mod Reporting
 pub mod Judging
 pub mod Answering

@@ -3,7 +3,6 @@ use Rattle.std.specs.Prelude.{ℕ, ◌≡◌, ◌++◌, ⊤, Bool, true, false, 
 use Rattle.std.specs.List.{AllZip}
 use Rattle.std.specs.Result.{is_ok}
 use Rattle.reg_base.specs.Memory.{register_of}
-use Rattle.reg_base.specs.declared.memory.Answer.{Answer as Reply}
 use Rattle.reg_base.specs.declared.memory.Op.{Op}
 use Rattle.reg_base.specs.declared.memory.OpId.{OpId}
 use Rattle.reg_checkers.specs.History.{IsCalled}

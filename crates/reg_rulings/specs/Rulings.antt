@@ -42,7 +42,7 @@ RulesEntries entries (Not at) = (¬ HasPointOrder 1 entries) × IsUnexplainedAt 
 
 -- what is found out of the rows of one key, in a history of them under any names
 abbrev pub IsRuled : ℕ → List Row → Ruling → Type 0
-IsRuled processes rows ruling = (entries : List Entry) × IsStood Any processes rows entries × RulesEntries entries ruling
+IsRuled processes rows ruling = (entries : List Entry) × IsStood Any processes 1 rows entries × RulesEntries entries ruling
 
 -- of each key, by number
 pub record AreRuled (processes keys : ℕ) (rows : List Row) (rulings : List Ruling) : Type 0 where

@@ -53,7 +53,7 @@ fn alone<A: Allocator + Copy>(
     processes: usize,
     rows: &[Row],
 ) -> Result<History<A>, RuleFault>
-    ensures stands { IfOk result (λ h. IsStood Naming.Any processes rows.now h.entries) }
+    ensures stands { IfOk result (λ h. IsStood Naming.Any processes 1 rows.now h.entries) }
     ensures registers { IfOk result (λ h. h.shape.registers ≡ 1) }
 {
     let Ok(shape) = Shape::new(MOST_PROCESSES, 1) else {

@@ -8,6 +8,7 @@ mod details;
 mod faults;
 mod history_rows;
 mod keys;
+pub mod laws;
 mod reported;
 mod rows;
 mod search;

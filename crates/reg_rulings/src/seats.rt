@@ -1,8 +1,10 @@
 //! A history of rows: each call under a name, and its answer under the same.
 ghost use Rattle.std.specs.Prelude.{◌≡◌, ◌<◌, ◌++◌, ◌∷◌, [], ℕ, IfOk, IfSome, OnOk, Some, length, get_or, None, slice_get, slice_set, replicate};
-ghost use Rattle.reg_rulings.specs.Standing.{MayName, Stands, IsStood, OneMore, act_op, no_names};
+ghost use Rattle.reg_rulings.specs.Standing.{MayName, Stands, IsStood, OneMore, act_op, no_calls};
 ghost use Rattle.reg_base.specs.declared.memory.OpId.{OpId as AnyId};
 ghost use Rattle.reg_checkers.specs.declared.entries.Entry.TheVariants.{Called, Answered};
+ghost use Rattle.reg_checkers.specs.History.{WasCalled};
+ghost use Rattle.reg_checkers.specs.Log.{IsLog, IsNextOf};
 
 use crate::rows::{Act, Row, Step};
 use reg_base::limits::{MOST_OPERATIONS, MOST_PROCESSES, MOST_REGISTERS};
@@ -41,13 +43,22 @@ impl From<AllocError> for Unseated {
     }
 }
 
+/// The last call of a process.
+#[derive(Clone, Copy)]
+pub(crate) struct LastCall {
+    /// Its name in the history.
+    pub(crate) id: OpId,
+    /// Its key.
+    pub(crate) key: u32,
+}
+
 /// What is kept beside a history: of each place how many calls it had and whether one is under way, and of each process
-/// the name of its last call.
+/// its last call.
 #[derive(Drop)]
 struct Seats<A: Allocator + Copy> {
     next: Vec<u32, A>,
     busy: Vec<bool, A>,
-    held: Vec<Option<OpId>, A>,
+    held: Vec<Option<LastCall>, A>,
 }
 
 /// The operation of a call.
@@ -71,8 +82,8 @@ fn op_of(act: Act, key: u32, expected: u64, value: u64) -> Op
 fn none_held<A: Allocator + Copy>(
     alloc: A,
     processes: usize,
-) -> Result<Vec<Option<OpId>, A>, AllocError>
-    ensures { IfOk result (λ v. v.items ≡ no_names processes) }
+) -> Result<Vec<Option<LastCall>, A>, AllocError>
+    ensures { IfOk result (λ v. v.items ≡ no_calls processes) }
 {
     let held = vec![in alloc; None; processes]?;
     Ok(held)
@@ -80,7 +91,7 @@ fn none_held<A: Allocator + Copy>(
 
 impl<A: Allocator + Copy> Seats<A> {
     fn new(alloc: A, processes: usize) -> Result<Seats<A>, AllocError>
-        ensures { IfOk result (λ s. s.held.items ≡ no_names processes) }
+        ensures { IfOk result (λ s. s.held.items ≡ no_calls processes) }
     {
         let next = vec![in alloc; 0; MOST_PROCESSES as usize]?;
         let busy = vec![in alloc; false; MOST_PROCESSES as usize]?;
@@ -146,6 +157,8 @@ fn push<A: Allocator + Copy>(
     entry: Entry,
 ) -> Result<(), Unseated>
     ensures grown { OnOk result (history.new.entries ≡ history.old.entries ++ entry ∷ []) }
+    ensures in_place { OnOk result (IsNextOf history.old entry) }
+    ensures log { OnOk result (IsLog history.old → IsLog history.new) }
     ensures shape { history.new.shape ≡ history.old.shape }
 {
     match history.push(entry) {
@@ -164,7 +177,8 @@ fn add_call<A: Allocator + Copy>(
     op: Op,
 ) -> Result<(), Unseated>
     requires { row.now.process < length seats.old.held.items }
-    ensures call { OnOk result ((id : AnyId) × MayName naming row.now.process id.process × (history.new.entries ≡ history.old.entries ++ Called row.now.at id op ∷ []) × (seats.new.held.items ≡ slice_set seats.old.held.items row.now.process (Some id))) }
+    ensures call { OnOk result ((id : AnyId) × MayName naming row.now.process id.process × (¬ WasCalled history.old.entries id) × (history.new.entries ≡ history.old.entries ++ Called row.now.at id op ∷ []) × (seats.new.held.items ≡ slice_set seats.old.held.items row.now.process (Some (record { id = id; key = row.now.key })))) }
+    ensures log { OnOk result (IsLog history.old → IsLog history.new) }
     ensures shape { history.new.shape ≡ history.old.shape }
 {
     let Some(place) = seats.place(naming, row.process) else {
@@ -174,7 +188,7 @@ fn add_call<A: Allocator + Copy>(
     let entry = Entry::Called { at: row.at, id, op };
     push(history, row.at, entry)?;
     seats.note(id, true);
-    seats.held[row.process as usize] = Some(id);
+    seats.held[row.process as usize] = Some(LastCall { id, key: row.key });
     Ok(())
 }
 
@@ -186,12 +200,17 @@ fn add_answer<A: Allocator + Copy>(
     answer: Answer,
 ) -> Result<(), Unseated>
     requires { row.now.process < length seats.old.held.items }
-    ensures answer { OnOk result ((id : AnyId) × (get_or seats.old.held.items row.now.process None ≡ Some id) × (history.new.entries ≡ history.old.entries ++ Answered row.now.at id answer ∷ []) × (seats.new.held.items ≡ seats.old.held.items)) }
+    ensures answer { OnOk result ((id : AnyId) × (get_or seats.old.held.items row.now.process None ≡ Some (record { id = id; key = row.now.key })) × (history.new.entries ≡ history.old.entries ++ Answered row.now.at id answer ∷ []) × (seats.new.held.items ≡ seats.old.held.items)) }
+    ensures log { OnOk result (IsLog history.old → IsLog history.new) }
     ensures shape { history.new.shape ≡ history.old.shape }
 {
-    let Some(id) = seats.held[row.process as usize] else {
+    let Some(last) = seats.held[row.process as usize] else {
         return Err(Unseated::OutOfPlace { at: row.at });
     };
+    if last.key != row.key {
+        return Err(Unseated::OutOfPlace { at: row.at });
+    }
+    let id = last.id;
     let entry = Entry::Answered {
         at: row.at,
         id,
@@ -210,6 +229,7 @@ fn add_row<A: Allocator + Copy>(
     row: &Row,
 ) -> Result<(), Unseated>
     ensures more { OnOk result (OneMore naming row.now seats.old.held.items history.old.entries seats.new.held.items history.new.entries) }
+    ensures log { OnOk result (IsLog history.old → IsLog history.new) }
     ensures shape { history.new.shape ≡ history.old.shape }
 {
     if row.process as usize >= seats.held.len() || row.key >= MOST_REGISTERS {
@@ -239,7 +259,7 @@ fn add_rows<A: Allocator + Copy>(
     rows: &[Row],
 ) -> Result<(), Unseated>
     requires { history.old.entries ≡ [] }
-    ensures stands { OnOk result (IsStood naming processes rows.now history.new.entries) }
+    ensures stands { OnOk result (IsStood naming processes history.new.shape.registers rows.now history.new.entries) }
     ensures shape { history.new.shape ≡ history.old.shape }
 {
     let mut seats = Seats::new(alloc, processes)?;
@@ -261,7 +281,7 @@ pub fn history_of<A: Allocator + Copy>(
     processes: usize,
     rows: &[Row],
 ) -> Result<History<A>, Unseated>
-    ensures stands { IfOk result (λ h. IsStood naming processes rows.now h.entries) }
+    ensures stands { IfOk result (λ h. IsStood naming processes shape.registers rows.now h.entries) }
     ensures shape { IfOk result (λ h. h.shape ≡ shape) }
 {
     let mut history = History::new(alloc, shape)?;

@@ -6,12 +6,12 @@ use reg_checkers::History;
 use reg_outcomes::{InterleavingFault, find_serial};
 use std::alloc::{AllocError, Allocator};
 
-/// The most stages that as many operations may lead to in a search for a serial order. It is small, since where there
-/// is no point order such a search soon grows wide.
+/// The most stages to which as many operations lead that a search for a serial order keeps. It is small, since where
+/// there is no point order such a search soon grows wide.
 pub const MOST_SERIAL_STAGES: u32 = 50_000;
 
-/// The most stages times the square of the entries, in a search for a serial order.
-const SERIAL_WORK: u64 = 200_000_000_000;
+/// The most stages times the entries, in a search for a serial order.
+const SERIAL_WORK: u64 = 4_000_000;
 
 /// Whether a history has a serial order.
 #[derive(Clone, Copy, Debug, PartialEq, Eq)]
@@ -26,12 +26,11 @@ pub enum Serial {
     TooWide,
 }
 
-/// The most stages in a search for a serial order of so many entries. Each stage holds an order of its own, so the work
-/// grows with the stages and with the square of the entries: up to 2,000 entries there are as many stages as may be,
-/// and beyond that fewer.
+/// The most stages, to which as many operations lead, in a search for a serial order of so many entries. So the search
+/// keeps no more stages in all than its work is: as many as may be of up to 80 entries, and of more entries fewer.
 fn most_serial_stages(entries: usize) -> u32 {
-    let square = (entries as u64).saturating_mul(entries as u64).max(1);
-    (SERIAL_WORK / square).min(u64::from(MOST_SERIAL_STAGES)) as u32
+    let most = SERIAL_WORK / (entries as u64).max(1);
+    most.min(u64::from(MOST_SERIAL_STAGES)) as u32
 }
 
 /// Whether a history has a serial order.
