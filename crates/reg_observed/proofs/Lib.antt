@@ -7,3 +7,4 @@ pub mod Rowing
 pub mod Finding
 pub mod Answering
 pub mod Pairing
+pub mod Verdicts

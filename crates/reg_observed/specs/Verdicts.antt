@@ -42,7 +42,7 @@ registers_for keys = max keys 1
 
 -- what is found out of a history of the rows under the numbers of their processes, if there is one
 abbrev pub IsSerialOf : ℕ → ℕ → List Row → Serial → Type 0
-IsSerialOf processes registers rows serial = (serial ≡ Unjudged) ⊎ ((entries : List Entry) × IsStood Own processes rows entries × RulesSerial registers entries serial)
+IsSerialOf processes registers rows serial = (serial ≡ Unjudged) ⊎ ((entries : List Entry) × IsStood Own processes registers rows entries × RulesSerial registers entries serial)
 
 -- a point order, or that there is none
 abbrev pub AreSought : {A : Type 0} → ℕ → List Entry → Option (Vec Point A) → Type 0
@@ -59,7 +59,7 @@ SerialStands processes registers rows None (Some serial) = IsSerialOf processes 
 -- What is found out of rows: of the history that they are under any names, of each key by itself, and of the history
 -- that they are under the numbers of their processes.
 pub record AreJudged {A : Type 0} (processes keys : ℕ) (rows : List Row) (v : Verdict A) : Type 0 where
-  pub stands : IsStood Any processes rows v.history.entries
+  pub stands : IsStood Any processes (registers_for keys) rows v.history.entries
   pub registers : v.history.shape.registers ≡ registers_for keys
   pub points : AreSought (registers_for keys) v.history.entries v.points
   pub each : AreRuled processes keys rows v.keys.items

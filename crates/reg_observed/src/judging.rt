@@ -42,7 +42,7 @@ fn own_history<A: Allocator + Copy>(
     heard: &Heard,
     rows: &[Row],
 ) -> Result<Option<History<A>>, JudgeFault>
-    ensures stands { IfOk result (λ o. IfSome o (λ h. IsStood Naming.Own (length heard.now.words.processes) rows.now h.entries)) }
+    ensures stands { IfOk result (λ o. IfSome o (λ h. IsStood Naming.Own (length heard.now.words.processes) (registers_for (length heard.now.words.keys)) rows.now h.entries)) }
     ensures registers { IfOk result (λ o. IfSome o (λ h. h.shape.registers ≡ registers_for (length heard.now.words.keys))) }
 {
     let shape = shape_of(heard.words.keys.count())?;

@@ -18,6 +18,7 @@ mod heard;
 mod histories;
 mod json_lines;
 mod judging;
+pub mod laws;
 mod reading;
 mod reports;
 mod rows;
