@@ -1,5 +1,5 @@
 -- The data of a run, by its parts.
-use Rattle.std.proofs.Common.{◌≡◌, ◌∙◌, ℕ, List, Option, ap₂, subst}
+use Rattle.std.proofs.Common.{◌≡◌, ◌∙◌, ℕ, List, Option, None, ap, ap₂, subst}
 use Rattle.reg_base.specs.Shape.{Extent}
 use Rattle.reg_base.specs.declared.memory.Op.{Op}
 use Rattle.reg_base.specs.declared.memory.OpId.{OpId}
@@ -42,10 +42,23 @@ pub same_world : (start : Op → ℕ → Start) (p : Plan) (shape : Extent) (eve
 same_world start p shape events w same_shape same_events is = is ∙ ap₂ (after_events start) same_shape same_events
 
 -- what is told of a world is told of the plan whose events it made
-pub data_told : (start : Op → ℕ → Start) (p : Plan) (given notes : Notes) (names : List (List ℕ)) (front : Front) (w : Made) (d : Data)
+pub data_told : (start : Op → ℕ → Start) (p : Plan) (given notes : Notes) (names : List (List ℕ)) (front : Front) (w : Made) (points : Option (List Point)) (d : Data)
     → w ≡ after_events start p.shape p.events → names ≡ p.names → front ≡ p.front → given ≡ notes
-    → IsDataOf start (record { shape = record { processes = w.processes; registers = w.registers }; names = names; front = front; events = w.accepted }) given d.points d → IsDataOf start p notes d.points d
-data_told start p given notes names front w d is named fronted noted told =
+    → IsDataOf start (record { shape = record { processes = w.processes; registers = w.registers }; names = names; front = front; events = w.accepted }) given points d → IsDataOf start p notes points d
+data_told start p given notes names front w points d is named fronted noted told =
     let same : record { shape = record { processes = w.processes; registers = w.registers }; names = names; front = front; events = w.accepted } ≡ p =
     λ i. record { shape = record { processes = (is i).processes; registers = (is i).registers }; names = named i; front = fronted i; events = (is i).accepted } in
-    subst (λ (q : Plan). IsDataOf start q notes d.points d) same (subst (λ (n : Notes). IsDataOf start (record { shape = record { processes = w.processes; registers = w.registers }; names = names; front = front; events = w.accepted }) n d.points d) noted told)
+    subst (λ (q : Plan). IsDataOf start q notes points d) same (subst (λ (n : Notes). IsDataOf start (record { shape = record { processes = w.processes; registers = w.registers }; names = names; front = front; events = w.accepted }) n points d) noted told)
+
+-- the same data but for its points
+abbrev pub with_points : Data → Option (List Point) → Data
+with_points d points = record { notes = d.notes; processes = d.processes; names = d.names; front = d.front; facts = d.facts; looks = d.looks; arrows = d.arrows; bars = d.bars; order = d.order; reads = d.reads; witness = d.witness; points = points }
+
+-- what is told of a run without points is told of it with these
+pub points_told : (start : Op → ℕ → Start) (p : Plan) (notes : Notes) (points : Option (List Point)) (d : Data) → IsDataOf start p notes None d → IsDataOf start p notes points (with_points d points)
+points_told start p notes points d told = record {
+  accepted = told.accepted;
+  witness = told.witness;
+  keyed = told.keyed;
+  same = ap (λ (x : Data). with_points x points) told.same;
+}

@@ -17,5 +17,5 @@ mod watching;
 
 pub use data::Data;
 pub use notes::{Notes, read_notes};
-pub use telling::tell_data;
+pub use telling::{tell_data, tell_data_under};
 pub use text::write_data;

@@ -1,5 +1,5 @@
 -- The data of the run of a schedule.
-use Rattle.std.specs.Prelude.{ℕ, ◌≤◌, List, ◌++◌, length, Option}
+use Rattle.std.specs.Prelude.{ℕ, ◌<◌, ◌≤◌, List, ◌++◌, length, Option}
 use Rattle.reg_base.specs.declared.memory.Op.{Op}
 use Rattle.reg_commands.specs.Replays.{start_of, PointsOf}
 use Rattle.reg_data.specs.Data.{Data, IsDataOf, data_text}
@@ -7,6 +7,9 @@ use Rattle.reg_front.specs.declared.starts.Start.{Start}
 use Rattle.reg_checkers.specs.declared.entries.Point.{Point}
 use Rattle.reg_data.specs.Notes.{Notes}
 use Rattle.reg_inputs.specs.Schedules.{Plan}
+use Rattle.reg_show.specs.Runs.{StopsRun}
+use Rattle.reg_show.specs.declared.faults.ShowFault.{ShowFault}
+use Rattle.reg_show.specs.declared.faults.ShowFault.TheVariants.{Command, TooManyToDraw}
 use Rattle.reg_show.specs.declared.paging.TheConstants.{MOST_TOLD}
 
 -- All events of a plan are accepted, and this is all that is told of their run, with these notes and with such points.
@@ -22,3 +25,9 @@ pub record ShowsData (head tail : List ℕ) (notes : Notes) (Wrote : List ℕ �
   pub data_in : Data
   pub has : HasData (start_of p.front) p notes (PointsOf p.front p) data_in
   pub written : Wrote (head ++ (data_text data_in ++ tail))
+
+-- why the data of a plan's run is not written, where operations start so
+abbrev pub StopsTold : (Op → ℕ → Start) → Plan → ShowFault → Type 0
+StopsTold start p (Command fault) = StopsRun start p fault
+StopsTold start p TooManyToDraw = MOST_TOLD < length p.events
+StopsTold start p _ = ⊥

@@ -42,7 +42,7 @@ ShowsPlan Rest notes Wrote p = WritesRest (start_of p.front) Wrote p
 
 -- why nothing is written of a plan's run
 abbrev pub StopsShowing : Showing → Plan → ShowFault → Type 0
-StopsShowing showing p (Command fault) = StopsRun p fault
+StopsShowing showing p (Command fault) = StopsRun (start_of p.front) p fault
 StopsShowing Draw p TooManyToDraw = MOST_DRAWN < length p.events
 StopsShowing DrawLarge p TooManyToDraw = MOST_DRAWN < length p.events
 StopsShowing Data p TooManyToDraw = MOST_TOLD < length p.events

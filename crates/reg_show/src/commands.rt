@@ -2,6 +2,7 @@
 ghost use Rattle.std.specs.Prelude.{◌≡◌, ◌≢◌, ◌≤◌, ◌++◌, IfOk, IfErr, IsErrOf, MatchResult, length};
 ghost use Rattle.std.specs.Io.KnownBytes.{Appends};
 ghost use Rattle.reg_text.specs.Writing.{AppendsPart};
+ghost use Rattle.reg_commands.specs.Replays.{start_of};
 ghost use Rattle.reg_show.specs.Runs.{DrawsRun, IsRunWhole, TellsRun};
 ghost use Rattle.reg_show.specs.Showings.{StopsShowing};
 ghost use Rattle.reg_trace.specs.Traces.{title_line, trace_text};
@@ -57,7 +58,7 @@ fn told_to_draw<A: Allocator + Copy>(
     alloc: A,
     schedule: Schedule<A>,
 ) -> Result<TracedRun<A>, ShowFault>
-    ensures accepted { IfOk result (λ _. IsRunWhole schedule) }
+    ensures accepted { IfOk result (λ _. IsRunWhole (start_of schedule.front) schedule) }
     ensures few { IfOk result (λ _. length schedule.events ≤ MOST_DRAWN) }
     ensures why { IfErr result (StopsShowing Showing.Draw schedule) }
     ensures kind { IfErr result (λ f. f ≢ ShowFault.Command Fault.Output) }

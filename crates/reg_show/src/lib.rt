@@ -22,15 +22,18 @@ mod short_schedules;
 mod shortening;
 mod showing;
 mod telling;
+mod under;
 
 pub use counting::ManyPlays;
 pub use every::EveryOutcome;
 pub use faults::ShowFault;
 pub use finding::FindOrder;
 pub use one_outcome::OneOutcome;
+pub use paging::send_data;
 pub use players::Player;
 pub use reg_outcomes::MOST_PLAYS;
 pub use running::{ShowEither, show_run};
 pub use scheduling::{FullSchedule, write_play_schedule};
 pub use short_schedules::{MOST_SHORTENED, ShortSchedule};
 pub use showing::{Form, SHORT_FORM, Showing, View};
+pub use under::told_under;

@@ -52,7 +52,11 @@ pub(crate) struct Ends<'a> {
 }
 
 /// Writes the data of a run between the texts of a head and of a tail, to the last byte.
-fn send_data<A: Allocator + Copy, W: Write>(
+///
+/// # Errors
+///
+/// `Output` where the writer failed, and then a first part went out.
+pub fn send_data<A: Allocator + Copy, W: Write>(
     writer: &mut W,
     head: &str,
     told: &Data<A>,

@@ -1,4 +1,4 @@
-use Rattle.std.proofs.Common.{◌∙◌, refl, ap, option_map}
+use Rattle.std.proofs.Common.{◌∙◌, None, refl, ap}
 use Rattle.reg_base.specs.Shape.{Extent}
 use Rattle.reg_trace.specs.Figures.{arrows_of, bars_of}
 use Rattle.reg_inputs.specs.Schedules.{Plan}
@@ -11,12 +11,11 @@ returns-clause-data g c =
     let w = c.args.watched.world in
     let shape : Extent = record { processes = w.processes; registers = w.registers } in
     let plan : Plan = record { shape = shape; names = c.args.names; front = c.args.front; events = w.accepted } in
-    let points = option_map (λ v. v.items) c.in_ok-points_of.field-0 in
     record {
       accepted = c.requires.accepted;
       witness = c.in_ok-witness.field-0.items;
       keyed = c.in_ok-witness.ensures.keyed;
-      same = data_made start plan c.args.notes c.in_ok-witness.field-0.items points _
+      same = data_made start plan c.args.notes c.in_ok-witness.field-0.items None _
           refl (c.processes.ensures.value ∙ ap (λ (s : Extent). s.processes) c.shape.ensures) refl refl c.requires.told c.requires.states
           (c.in_ok-arrows.ensures ∙ ap arrows_of (c.as_slice.ensures.value ∙ c.requires.told))
           (c.in_ok-bars.ensures ∙ ap bars_of (c.entries.ensures.value ∙ c.history.ensures.entries))

@@ -1,44 +1,18 @@
-use Rattle.std.proofs.Common.{List, ◌≡◌, ◌∙◌, ap, ap₂, refl, subst, sym}
-use Rattle.reg_base.specs.Shape.{Extent}
-use Rattle.reg_process.specs.declared.events.Event.{Event}
-use Rattle.reg_inputs.specs.Schedules.{Plan}
-use Rattle.reg_trace.specs.Moments.{moments_of}
+use Rattle.std.proofs.Common.{List, Option, option_map, subst, sym}
+use Rattle.reg_checkers.specs.declared.entries.Point.{Point}
 use Rattle.reg_world.specs.Fronts.{HasPoints}
-use Rattle.reg_world.specs.Worlds.{Made, after_events, run_in}
-use Rattle.reg_data.specs.Looks.{looks_of}
-use Rattle.reg_data.proofs.Made.{data_told, same_world}
+use Rattle.reg_world.specs.Worlds.{Made}
+use Rattle.reg_data.specs.Data.{Data, IsDataOf}
+use Rattle.reg_data.proofs.Made.{points_told, with_points}
 use Rattle.reg_data.proofs.telling.tell_data.Goals as goal
 
-pub data_of-requires-clause-accepted : goal.data_of-requires-clause-accepted
-data_of-requires-clause-accepted g c =
-    let ran = c.in_ok-watched.ensures in
-    ap (λ (w : Made). (run_in g.F.FrontEnd.start w).accepted) ran.world ∙ (ran.accepted ∙ sym (ap (λ (w : Made). w.accepted) ran.world))
-
-pub data_of-requires-clause-told : goal.data_of-requires-clause-told
-data_of-requires-clause-told g c =
-    let ran = c.in_ok-watched.ensures in
-    ran.told ∙ sym (ap (λ (w : Made). moments_of g.F.FrontEnd.start (record { processes = w.processes; registers = w.registers }) w.accepted) ran.world)
-
-pub data_of-requires-clause-states : goal.data_of-requires-clause-states
-data_of-requires-clause-states g c =
-    let ran = c.in_ok-watched.ensures in
-    ran.states ∙ sym (ap (λ (w : Made). looks_of g.F.FrontEnd.start (record { processes = w.processes; registers = w.registers }) w.accepted) ran.world)
-
-pub returns-in-Ok-clause-data : goal.returns-in-Ok-clause-data
-returns-in-Ok-clause-data g c =
+pub returns-clause-data : goal.returns-clause-data
+returns-clause-data g c =
     let start = g.F.FrontEnd.start in
-    let p : Plan = c.args.schedule in
-    let events : c.as_slice.result.now ≡ p.events = c.as_slice.ensures.value ∙ ap (λ (q : Plan). q.events) c.schedule.view_is in
-    let shape : c.schedule.inside.shape ≡ p.shape = ap (λ (q : Plan). q.shape) c.schedule.view_is in
-    let w = c.in_ok-watched.watched.world in
-    data_told start p _ c.args.notes _ c.schedule.inside.front w c.in-Ok.data (same_world start p c.schedule.inside.shape c.as_slice.result.now w shape events c.in_ok-watched.ensures.world)
-    (ap (λ (q : Plan). q.names) c.schedule.view_is) (ap (λ (q : Plan). q.front) c.schedule.view_is) refl c.in-Ok.ensures.data
+    let p = c.args.schedule in
+    let notes = c.args.notes in
+    let points : Option (List Point) = option_map (λ v. v.items) c.in-Ok.points in
+    subst (λ (d : Data). IsDataOf start p notes points (with_points d points)) (sym c.data.view_is) (points_told start p notes points c.in_ok-data.data c.in_ok-data.ensures.data)
 
-pub returns-in-Ok-clause-points : goal.returns-in-Ok-clause-points
-returns-in-Ok-clause-points g c =
-    let start = g.F.FrontEnd.start in
-    let p : Plan = c.args.schedule in
-    let events : c.as_slice.result.now ≡ p.events = c.as_slice.ensures.value ∙ ap (λ (q : Plan). q.events) c.schedule.view_is in
-    let shape : c.schedule.inside.shape ≡ p.shape = ap (λ (q : Plan). q.shape) c.schedule.view_is in
-    let w = c.in_ok-watched.watched.world in
-    subst (λ (v : Made). HasPoints g.F.NamedFront.front v c.in-Ok.data.points) (same_world start p c.schedule.inside.shape c.as_slice.result.now w shape events c.in_ok-watched.ensures.world) c.in-Ok.ensures.points
+pub returns-clause-points : goal.returns-clause-points
+returns-clause-points g c = subst (λ (w : Made). HasPoints g.F.NamedFront.front w (option_map (λ v. v.items) c.in-Ok.points)) c.in_ok-data.ensures.world c.in-Ok.ensures
