@@ -1,4 +1,5 @@
 pub mod FirstLines
+pub mod Lent
 pub mod Records
 pub mod Tellings
 pub mod TextFaults

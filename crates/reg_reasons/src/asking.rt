@@ -1,6 +1,8 @@
 //! Asking why a text is refused.
+ghost use Rattle.reg_reasons.specs.Lent.{AnswersLent};
 ghost use Rattle.reg_reasons.specs.Tellings.{Answers, Halts};
 
+use crate::lent::tell_lent;
 use crate::refusals::tell;
 use reg_commands::{Fault, TextCommand, write_answer};
 use std::alloc::{Allocator, Global};
@@ -35,6 +37,47 @@ impl TextCommand for Explain {
         writer: &mut W,
     ) -> Result<bool, Fault> {
         let told = tell(alloc, self.global, text.as_str())?;
+        write_answer(writer, told.answer.as_slice())?;
+        Ok(told.is_accepted)
+    }
+
+    ghost blames_input = { λ _. elim [
+      | Unread ↦ λ _ _ _. tt
+      | TooLong ↦ λ _ _ blamed. blamed Replay
+      | NotText ↦ λ _ _ blamed. blamed Replay
+      | Output ↦ λ _ _ _. tt
+      | Line line why ↦ λ _ _ blamed. blamed (Play false)
+      | Event at fault ↦ λ _ _ blamed. blamed (Play false)
+      | Workload fault ↦ λ _ _ blamed. blamed Replay
+      | OutOfMemory ↦ λ _ _ _. tt
+    ] };
+}
+
+/// Tells the same where there is no heap but the one of the answer, as in a page. A workload is read in its layout
+/// alone: of a text that is meant as one and is in none, no clause says that the fault which is told is its own.
+#[derive(Clone, Copy, Debug)]
+pub struct ExplainLent;
+
+impl TextCommand for ExplainLent {
+    ghost use Rattle.std.specs.Prelude.{⊤, false};
+    ghost use Rattle.reg_commands.specs.declared.command.Command.TheVariants.{Play, Replay};
+    ghost use Rattle.reg_commands.specs.declared.faults.Fault.TheVariants.{Unread, TooLong, NotText, Output, Line, Event, Workload, OutOfMemory};
+
+    type Fault = Fault;
+
+    ghost MayDeny = { λ _. ⊤ };
+
+    ghost IsAnswer = { λ _. AnswersLent };
+
+    ghost IsBlamed = { λ _. Halts };
+
+    fn answer<A: Allocator + Copy, W: Write>(
+        self,
+        alloc: A,
+        text: String<A>,
+        writer: &mut W,
+    ) -> Result<bool, Fault> {
+        let told = tell_lent(alloc, text.as_str())?;
         write_answer(writer, told.answer.as_slice())?;
         Ok(told.is_accepted)
     }

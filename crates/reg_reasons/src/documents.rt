@@ -1,44 +1,14 @@
 //! Why a text is no workload.
-use crate::forms::{FRONTS, KEYS, OP};
-use crate::hints::put_hint;
-use crate::lines_at::line_of_place;
+use crate::forms::{FRONTS, KEYS, OP, kind_of_key, range_of};
 use crate::saying::Notes;
-use crate::scanning::{after, misfit_of, place_of};
-use crate::toml_places::{Item, item_place, key_place, open_array};
-use crate::wanting::{NAME_FORM, NAME_TAKEN, Range, Rules};
-use reg_base::is_name;
-use reg_base::limits::{
-    LAST_SEED, MOST_EVENTS, MOST_ODDS, MOST_OPERATIONS, MOST_PROCESSES, MOST_REGISTERS,
-};
+use crate::scanning::{after, is_register, misfit_of, place_of};
+use crate::stops::Documents;
+use crate::toml_places::{Item, item_place};
+use crate::toml_values::{Entry, entries_of, integer_of, items_of, kind_of, starts_text, text_of};
+use crate::wanting::{NAME_FORM, NAME_TAKEN, Rules};
+use reg_base::limits::{MOST_OPERATIONS, MOST_PROCESSES, MOST_REGISTERS};
 use reg_inputs::{Key, WorkloadFault};
-use std::alloc::{AllocError, Allocator, Global};
-use toml::de::Error;
-use toml::{Table, Value, table_from_str};
-
-/// What a key may be.
-fn kind_of_key(key: Key) -> &'static str {
-    match key {
-        Key::Front => "a string",
-        Key::Registers => "an array of strings",
-        Key::Scripts => "an array of arrays of strings, one for each process",
-        _ => "an integer",
-    }
-}
-
-/// The range of a key's number.
-fn range_of(key: Key) -> Range {
-    let (least, most) = match key {
-        Key::Seed => (0, LAST_SEED),
-        Key::Loss | Key::Repeat => (0, MOST_ODDS as u64),
-        _ => (1, MOST_EVENTS as u64),
-    };
-    Range {
-        what: key.name(),
-        verb: "is",
-        least,
-        most,
-    }
-}
+use std::alloc::{AllocError, Allocator};
 
 /// Puts that a key is missing.
 fn put_missing<A: Allocator + Copy>(notes: &mut Notes<'_, A>, key: Key) {
@@ -50,63 +20,37 @@ fn put_missing<A: Allocator + Copy>(notes: &mut Notes<'_, A>, key: Key) {
     notes.put(&["\n"]);
 }
 
-/// Puts the message of the reader of TOML.
-fn put_error<A: Allocator + Copy>(
-    notes: &mut Notes<'_, A>,
-    text: &[u8],
-    error: &Error,
-) -> Result<(), AllocError> {
-    let Some(span) = error.span() else {
-        return Err(AllocError);
-    };
-    notes.put_text_place(text, span.start);
-    notes.put(&[error.message(), "\n"]);
-    if let Some(opened) = open_array(text, span.start) {
-        let (line, _) = line_of_place(text, opened);
-        notes.put_with("an array of line {} is still open here\n", &[line.number]);
-    }
-    Ok(())
-}
-
-/// The items of an array, and none of what is no array or not there.
-fn items_of(value: Option<&Value>) -> &[Value] {
-    match value {
-        Some(Value::Array(values)) => values.as_slice(),
-        _ => &[],
-    }
-}
-
-/// The bytes of a text, and none of what is no text.
-fn text_of(value: &Value) -> &[u8] {
-    value.as_str().unwrap_or("").as_bytes()
-}
-
-/// Whether a name is one of these texts.
-fn is_there(values: &[Value], name: &str) -> bool {
+/// Whether a name is the text of one of these.
+fn is_there(values: &[&[u8]], name: &[u8]) -> bool {
     for value in values {
-        if value.as_str() == Some(name) {
+        if text_of(value) == name {
             return true;
         }
     }
     false
 }
 
-fn put_kind<A: Allocator + Copy>(notes: &mut Notes<'_, A>, value: &Value) {
-    notes.put(&[" is of the kind ", value.type_str()]);
+/// Whether a text is told by its signs alone. Of one with an escape it isn't made out what it is.
+fn is_plain(value: &[u8]) -> bool {
+    !value.starts_with(b"\"") || !text_of(value).contains(&b'\\')
+}
+
+fn put_kind<A: Allocator + Copy>(notes: &mut Notes<'_, A>, value: &[u8]) {
+    notes.put(&[" is of the kind ", kind_of(value)]);
 }
 
 /// The first item that is no text, and its place.
-fn odd_item(values: &[Value]) -> Option<(usize, &Value)> {
+fn odd_item<'a>(values: &[&'a [u8]]) -> Option<(usize, &'a [u8])> {
     for (place, value) in values.iter().enumerate() {
-        if !value.is_str() {
-            return Some((place, value));
+        if !starts_text(value) {
+            return Some((place, *value));
         }
     }
     None
 }
 
 /// Puts which register is no text.
-fn put_odd_item<A: Allocator + Copy>(notes: &mut Notes<'_, A>, values: &[Value]) {
+fn put_odd_item<A: Allocator + Copy>(notes: &mut Notes<'_, A>, values: &[&[u8]]) {
     if let Some((item, value)) = odd_item(values) {
         notes.put_with(": item {}", &[item as u64]);
         put_kind(notes, value);
@@ -114,17 +58,24 @@ fn put_odd_item<A: Allocator + Copy>(notes: &mut Notes<'_, A>, values: &[Value])
 }
 
 /// Puts which script is no array of texts.
-fn put_odd_script<A: Allocator + Copy>(notes: &mut Notes<'_, A>, values: &[Value]) {
+fn put_odd_script<A: Allocator + Copy>(
+    notes: &mut Notes<'_, A>,
+    values: &[&[u8]],
+) -> Result<(), AllocError> {
     for (script, value) in values.iter().enumerate() {
-        let Value::Array(items) = value else {
+        if !value.starts_with(b"[") {
             notes.put_with(": script {}", &[script as u64]);
-            return put_kind(notes, value);
-        };
+            put_kind(notes, value);
+            break;
+        }
+        let items = items_of(notes.alloc, value)?;
         if let Some((item, value)) = odd_item(items.as_slice()) {
             notes.put_with(": of script {}: item {}", &[script as u64, item as u64]);
-            return put_kind(notes, value);
+            put_kind(notes, value);
+            break;
         }
     }
+    Ok(())
 }
 
 /// Puts how many registers or scripts a workload has, or operations a script, where a key has `count` of them.
@@ -145,22 +96,40 @@ fn put_count<A: Allocator + Copy>(notes: &mut Notes<'_, A>, key: Key, count: u64
     notes.put_with(text, &[most as u64, count]);
 }
 
-/// A document that says no workload: its text, and the table that it is.
+/// A document that says no workload: its text, and the keys that stand in it.
 #[derive(Clone, Copy)]
 struct Document<'a> {
     text: &'a [u8],
-    table: &'a Table,
+    entries: &'a [Entry<'a>],
 }
 
 impl<'a> Document<'a> {
-    /// The place of the line of a key.
-    fn place(&self, key: Key) -> Option<usize> {
-        key_place(self.text, key.name().as_bytes())
+    /// A key with its value.
+    fn entry(&self, key: Key) -> Option<Entry<'a>> {
+        for entry in self.entries {
+            if entry.name == key.name().as_bytes() {
+                return Some(*entry);
+            }
+        }
+        None
+    }
+
+    /// The items of a key's array.
+    fn items<A: Allocator + Copy>(
+        &self,
+        alloc: A,
+        key: Key,
+    ) -> Result<Vec<&'a [u8], A>, AllocError> {
+        match self.entry(key) {
+            Some(entry) => items_of(alloc, entry.value),
+            None => Ok(Vec::new(alloc)),
+        }
     }
 
     /// The place of an item of a key's array.
     fn item_place(&self, key: Key, item: Item) -> Option<usize> {
-        item_place(self.text, self.place(key)?, item)
+        let value = self.entry(key)?.value;
+        item_place(self.text, self.text.len().saturating_sub(value.len()), item)
     }
 
     /// Puts the line of a place where it is known, and else that of a key.
@@ -170,116 +139,143 @@ impl<'a> Document<'a> {
         place: Option<usize>,
         key: Key,
     ) {
-        if let Some(place) = place.or(self.place(key)) {
+        let known = match (place, self.entry(key)) {
+            (Some(place), _) => Some(place),
+            (None, Some(entry)) => Some(entry.place),
+            (None, None) => None,
+        };
+        if let Some(place) = known {
             notes.put_text_place(self.text, place);
         }
     }
 
-    /// The first key that no workload has, and its place.
-    fn unknown_key(&self) -> Option<(usize, &'a str)> {
-        let mut found: Option<(usize, &str)> = None;
-        for name in self.table.keys() {
-            let place = key_place(self.text, name.as_bytes()).unwrap_or(self.text.len());
-            let is_first = found.is_none_or(|(first, _)| place < first);
-            if is_first && place_of(KEYS, name.as_bytes()).is_none() {
-                found = Some((place, name));
-            }
-        }
-        found
-    }
-
+    /// Puts the first key that no workload has.
     fn explain_unknown_key<A: Allocator + Copy>(&self, notes: &mut Notes<'_, A>) {
-        if let Some((place, name)) = self.unknown_key() {
-            if place < self.text.len() {
-                notes.put_text_place(self.text, place);
+        for entry in self.entries {
+            if place_of(KEYS, entry.name).is_none() {
+                notes.put_text_place(self.text, entry.place);
+                notes.put_wanted_words(KEYS, entry.name);
+                return notes.put(&["\n"]);
             }
-            notes.put_wanted_words(KEYS, name.as_bytes());
-            notes.put(&["\n"]);
         }
     }
 
-    fn explain_kind<A: Allocator + Copy>(&self, notes: &mut Notes<'_, A>, key: Key) {
-        let Some(value) = self.table.get(key.name()) else {
-            return;
+    fn explain_kind<A: Allocator + Copy>(
+        &self,
+        notes: &mut Notes<'_, A>,
+        key: Key,
+    ) -> Result<(), AllocError> {
+        let Some(entry) = self.entry(key) else {
+            return Ok(());
         };
+        let items = items_of(notes.alloc, entry.value)?;
+        let is_array = entry.value.starts_with(b"[");
         self.put_place(notes, None, key);
         notes.put(&[key.name(), " is ", kind_of_key(key)]);
-        match (key, value) {
-            (Key::Registers, Value::Array(values)) => put_odd_item(notes, values.as_slice()),
-            (Key::Scripts, Value::Array(values)) => put_odd_script(notes, values.as_slice()),
+        match key {
+            Key::Registers if is_array => put_odd_item(notes, items.as_slice()),
+            Key::Scripts if is_array => put_odd_script(notes, items.as_slice())?,
             _ => {
                 notes.put(&[", and this"]);
-                put_kind(notes, value);
+                put_kind(notes, entry.value);
             }
         }
         notes.put(&["\n"]);
+        Ok(())
     }
 
-    /// Puts the first name of an array that is misspelt, or stands before.
-    fn explain_names<A: Allocator + Copy>(&self, notes: &mut Notes<'_, A>, values: &[Value]) {
-        for (outer, value) in values.iter().enumerate() {
-            let name = value.as_str().unwrap_or("");
-            let is_double = is_there(values.get(..outer).unwrap_or(&[]), name);
-            if is_double || !is_name(name) {
-                let place = self.item_place(Key::Registers, Item { outer, inner: None });
-                self.put_place(notes, place, Key::Registers);
-                let fault = if is_double { NAME_TAKEN } else { NAME_FORM };
-                return notes.put_quoted(name.as_bytes(), &[fault, "\n"]);
+    /// Puts the name at a place of an array, if it is misspelt, or stands before. False where it is neither.
+    fn put_name<A: Allocator + Copy>(
+        &self,
+        notes: &mut Notes<'_, A>,
+        values: &[&[u8]],
+        outer: usize,
+    ) -> bool {
+        let Some((before, [value, ..])) = values.split_at_checked(outer) else {
+            return false;
+        };
+        let name = text_of(value);
+        let is_double = is_there(before, name);
+        if !is_double && is_register(name) {
+            return false;
+        }
+        let place = self.item_place(Key::Registers, Item { outer, inner: None });
+        self.put_place(notes, place, Key::Registers);
+        let fault = if is_double { NAME_TAKEN } else { NAME_FORM };
+        notes.put_quoted(name, &[fault, "\n"]);
+        true
+    }
+
+    /// Puts the first name of an array that is misspelt, or stands before. Those with escapes come last.
+    fn explain_names<A: Allocator + Copy>(&self, notes: &mut Notes<'_, A>, values: &[&[u8]]) {
+        for are_plain in [true, false] {
+            for (outer, value) in values.iter().enumerate() {
+                if is_plain(value) == are_plain && self.put_name(notes, values, outer) {
+                    return;
+                }
             }
         }
     }
 
     /// Puts how many items a key's array has.
-    fn explain_count<A: Allocator + Copy>(&self, notes: &mut Notes<'_, A>, key: Key) {
-        let values = items_of(self.table.get(key.name()));
+    fn explain_count<A: Allocator + Copy>(
+        &self,
+        notes: &mut Notes<'_, A>,
+        key: Key,
+    ) -> Result<(), AllocError> {
+        let values = self.items(notes.alloc, key)?;
         let count = values.len() as u64;
         if key == Key::Registers && count > 0 && count <= MOST_REGISTERS as u64 {
-            return self.explain_names(notes, values);
+            self.explain_names(notes, values.as_slice());
+            return Ok(());
         }
         self.put_place(notes, None, key);
         put_count(notes, key, count);
         notes.put(&["\n"]);
+        Ok(())
     }
 
     /// Puts why a key's value isn't one of those that it may be.
-    fn explain_value<A: Allocator + Copy>(
-        &self,
-        notes: &mut Notes<'_, A>,
-        key: Key,
-        value: &Value,
-    ) {
+    fn explain_value<A: Allocator + Copy>(&self, notes: &mut Notes<'_, A>, key: Key) {
+        let Some(entry) = self.entry(key) else {
+            return;
+        };
         self.put_place(notes, None, key);
         if key == Key::Front {
-            notes.put_wanted_words(FRONTS, text_of(value));
+            notes.put_wanted_words(FRONTS, text_of(entry.value));
         } else {
-            let number = value.as_integer().unwrap_or(0);
-            let words = if number < 0 { "-{}" } else { "{}" };
-            notes.put_with(words, &[number.unsigned_abs()]);
+            let (is_negative, number) = integer_of(entry.value);
+            let words = if is_negative { "-{}" } else { "{}" };
+            notes.put_with(words, &[number]);
             notes.put_out_of_range(range_of(key));
         }
         notes.put(&["\n"]);
     }
 
-    fn explain_range<A: Allocator + Copy>(&self, notes: &mut Notes<'_, A>, key: Key) {
-        match (key, self.table.get(key.name())) {
-            (Key::Registers | Key::Scripts, _) => self.explain_count(notes, key),
-            (_, Some(value)) => self.explain_value(notes, key, value),
-            (_, None) => {}
-        }
-    }
-
     /// The names of the registers.
     fn names<A: Allocator + Copy>(&self, alloc: A) -> Result<Vec<&'a [u8], A>, AllocError> {
-        let values = items_of(self.table.get("registers"));
-        values.iter().map(|value| text_of(value)).collect(alloc)
+        let mut names = self.items(alloc, Key::Registers)?;
+        for name in names.as_mut_slice() {
+            *name = text_of(name);
+        }
+        Ok(names)
     }
 
     /// The text of an operation.
-    fn op(&self, process: usize, place: usize) -> &'a [u8] {
-        let script = items_of(self.table.get("scripts")).get(process);
-        match items_of(script).get(place) {
-            Some(value) => text_of(value),
-            None => b"",
+    fn op<A: Allocator + Copy>(
+        &self,
+        alloc: A,
+        process: usize,
+        place: usize,
+    ) -> Result<&'a [u8], AllocError> {
+        let scripts = self.items(alloc, Key::Scripts)?;
+        let Some(script) = scripts.get(process) else {
+            return Ok(b"");
+        };
+        let ops = items_of(alloc, script)?;
+        match ops.get(place) {
+            Some(op) => Ok(text_of(op)),
+            None => Ok(b""),
         }
     }
 
@@ -329,7 +325,7 @@ impl<'a> Document<'a> {
         place: usize,
     ) -> Result<(), AllocError> {
         let names = self.names(notes.alloc)?;
-        let op = self.op(process, place);
+        let op = self.op(notes.alloc, process, place)?;
         let item = Item {
             outer: process,
             inner: Some(place),
@@ -347,8 +343,11 @@ impl<'a> Document<'a> {
         match fault {
             WorkloadFault::UnknownKey => self.explain_unknown_key(notes),
             WorkloadFault::Missing { key } => put_missing(notes, key),
-            WorkloadFault::Kind { key } => self.explain_kind(notes, key),
-            WorkloadFault::Range { key } => self.explain_range(notes, key),
+            WorkloadFault::Kind { key } => return self.explain_kind(notes, key),
+            WorkloadFault::Range {
+                key: key @ (Key::Registers | Key::Scripts),
+            } => return self.explain_count(notes, key),
+            WorkloadFault::Range { key } => self.explain_value(notes, key),
             WorkloadFault::Script { process, place } => {
                 return self.explain_script(notes, process as usize, place as usize);
             }
@@ -359,25 +358,19 @@ impl<'a> Document<'a> {
 }
 
 /// Puts why a text is no workload.
-pub fn explain_workload<A: Allocator + Copy>(
+pub fn explain_workload<D: Documents, A: Allocator + Copy>(
     notes: &mut Notes<'_, A>,
-    global: Global,
+    documents: D,
     text: &str,
     fault: WorkloadFault,
 ) -> Result<(), AllocError> {
-    let bytes = text.as_bytes();
-    match table_from_str(global, text) {
-        Ok(table) => {
-            let document = Document {
-                text: bytes,
-                table: &table,
-            };
-            document.explain(notes, fault)
-        }
-        Err(error) => {
-            put_error(notes, bytes, &error)?;
-            put_hint(notes, bytes);
-            Ok(())
-        }
+    if fault == WorkloadFault::Toml {
+        return documents.explain(notes, text);
     }
+    let entries = entries_of(notes.alloc, text.as_bytes())?;
+    let document = Document {
+        text: text.as_bytes(),
+        entries: entries.as_slice(),
+    };
+    document.explain(notes, fault)
 }

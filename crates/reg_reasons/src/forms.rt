@@ -1,7 +1,10 @@
 //! The forms of the lines of schedules and of reports, and the keys of workloads.
 use crate::wanting::{Form, Quantity, Range, Rules, Step};
-use reg_base::limits::{LAST_EVENT, MOST_OPERATIONS, MOST_PROCESSES, MOST_REGISTERS};
+use reg_base::limits::{
+    LAST_EVENT, LAST_SEED, MOST_EVENTS, MOST_ODDS, MOST_OPERATIONS, MOST_PROCESSES, MOST_REGISTERS,
+};
 use reg_history::{MOST_ENTRIES, MOST_IDS, OLDER_PROCESSES, OLDER_REGISTERS};
+use reg_inputs::Key;
 
 /// The names of the front ends.
 pub const FRONTS: &[&str] = &["linear", "local-read", "local-write"];
@@ -16,6 +19,31 @@ pub const KEYS: &[&str] = &[
     "repeat",
     "budget",
 ];
+
+/// What a key may be.
+pub fn kind_of_key(key: Key) -> &'static str {
+    match key {
+        Key::Front => "a string",
+        Key::Registers => "an array of strings",
+        Key::Scripts => "an array of arrays of strings, one for each process",
+        _ => "an integer",
+    }
+}
+
+/// The range of a key's number.
+pub fn range_of(key: Key) -> Range {
+    let (least, most) = match key {
+        Key::Seed => (0, LAST_SEED),
+        Key::Loss | Key::Repeat => (0, MOST_ODDS as u64),
+        _ => (1, MOST_EVENTS as u64),
+    };
+    Range {
+        what: key.name(),
+        verb: "is",
+        least,
+        most,
+    }
+}
 
 /// One of these words.
 macro_rules! word {

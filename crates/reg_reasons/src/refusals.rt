@@ -17,6 +17,8 @@ ghost use Rattle.reg_reasons.specs.Tellings.{Agrees, Disagrees, Halts, Refuses, 
 use crate::explaining::{explain_fault, explain_verdicts};
 use crate::first_lines::{Subject, line_of_fault, line_of_no, line_of_subject};
 use crate::records::tell_record;
+use crate::stops::{Documents, Tables};
+use crate::toml_steps::Steps;
 use reg_base::Op;
 use reg_commands::{
     Fault, Kind, Ran, Verdicts, all_yes, command_of, judge, kind_of, read_report_text,
@@ -67,9 +69,9 @@ pub(crate) fn accepted<A: Allocator + Copy>(
 }
 
 /// The answer for a text with this fault.
-fn refused<A: Allocator + Copy>(
+pub(crate) fn refused<D: Documents, A: Allocator + Copy>(
     alloc: A,
-    global: Global,
+    documents: D,
     kind: Kind,
     text: &str,
     fault: Fault,
@@ -77,7 +79,7 @@ fn refused<A: Allocator + Copy>(
     ensures { IfOk result (λ t. (rest : List ℕ) × (t.answer.items ≡ fault_line fault ++ rest) × (t.is_accepted ≡ false)) }
 {
     let line = line_of_fault(alloc, fault)?;
-    let notes = explain_fault(alloc, global, command_of(kind), text, fault)?;
+    let notes = explain_fault(alloc, documents, command_of(kind), text, fault)?;
     joined(line, notes.as_slice())
 }
 
@@ -93,9 +95,9 @@ pub(crate) fn is_of_text(fault: Fault) -> bool
 }
 
 /// The answer for a refused text, where the fault is one of the text; else the fault.
-fn refused_or_halted<A: Allocator + Copy>(
+fn refused_or_halted<D: Documents, A: Allocator + Copy>(
     alloc: A,
-    global: Global,
+    documents: D,
     kind: Kind,
     text: &str,
     fault: Fault,
@@ -109,7 +111,7 @@ fn refused_or_halted<A: Allocator + Copy>(
     if !is_of_text(fault) {
         return Err(fault);
     }
-    match refused(alloc, global, kind, text, fault) {
+    match refused(alloc, documents, kind, text, fault) {
         Ok(told) => Ok(told),
         Err(_) => Err(Fault::OutOfMemory),
     }
@@ -141,7 +143,6 @@ fn run_by_front<A: Allocator + Copy>(alloc: A, schedule: Schedule<A>) -> Result<
 /// The answer for a schedule that was read.
 fn tell_run<A: Allocator + Copy>(
     alloc: A,
-    global: Global,
     text: &str,
     schedule: Schedule<A>,
 ) -> Result<Explanation<A>, Fault>
@@ -165,13 +166,12 @@ fn tell_run<A: Allocator + Copy>(
             Ok(told) => Ok(told),
             Err(_) => Err(Fault::OutOfMemory),
         },
-        Err(fault) => refused_or_halted(alloc, global, Kind::Schedule, text, fault),
+        Err(fault) => refused_or_halted(alloc, Steps, Kind::Schedule, text, fault),
     }
 }
 
-fn tell_schedule<A: Allocator + Copy>(
+pub(crate) fn tell_schedule<A: Allocator + Copy>(
     alloc: A,
-    global: Global,
     text: &str,
 ) -> Result<Explanation<A>, Fault>
     ensures told { IfOk result (λ t. Tells Kind.Schedule t.is_accepted t.answer.items text.now) }
@@ -179,8 +179,8 @@ fn tell_schedule<A: Allocator + Copy>(
     ensures kind { IfErr result (λ f. (f ≢ Fault.Output) × (f ≢ Fault.Unread)) }
 {
     match read_schedule(alloc, text) {
-        Ok(schedule) => tell_run(alloc, global, text, schedule),
-        Err(fault) => refused_or_halted(alloc, global, Kind::Schedule, text, fault),
+        Ok(schedule) => tell_run(alloc, text, schedule),
+        Err(fault) => refused_or_halted(alloc, Steps, Kind::Schedule, text, fault),
     }
 }
 
@@ -197,7 +197,7 @@ fn operations_of<A: Allocator + Copy>(scripts: &[Vec<Op, A>]) -> usize
 }
 
 /// The answer for a workload that was read.
-fn tell_load<A: Allocator + Copy>(
+pub(crate) fn tell_load<A: Allocator + Copy>(
     alloc: A,
     text: &str,
     work: &Workload<A>,
@@ -231,7 +231,10 @@ fn tell_workload<A: Allocator + Copy>(
             Ok(told) => Ok(told),
             Err(_) => Err(Fault::OutOfMemory),
         },
-        Err(fault) => refused_or_halted(alloc, global, Kind::Workload, text, fault),
+        Err(fault) => {
+            let documents = Tables { global };
+            refused_or_halted(alloc, documents, Kind::Workload, text, fault)
+        }
     }
 }
 
@@ -304,9 +307,8 @@ fn tell_judged<A: Allocator + Copy>(
 }
 
 #[tactic(auto, using(crate::proofs::WhyTold::tells_refused))]
-fn tell_report<A: Allocator + Copy>(
+pub(crate) fn tell_report<A: Allocator + Copy>(
     alloc: A,
-    global: Global,
     text: &str,
 ) -> Result<Explanation<A>, Fault>
     ensures told { IfOk result (λ t. Tells Kind.Report t.is_accepted t.answer.items text.now) }
@@ -318,7 +320,7 @@ fn tell_report<A: Allocator + Copy>(
             Ok(told) => Ok(told),
             Err(_) => Err(Fault::OutOfMemory),
         },
-        Err(fault) => refused_or_halted(alloc, global, Kind::Report, text, fault),
+        Err(fault) => refused_or_halted(alloc, Steps, Kind::Report, text, fault),
     }
 }
 
@@ -341,8 +343,8 @@ pub fn tell<A: Allocator + Copy>(
         return tell_record(alloc, text);
     }
     match kind_of(text.as_bytes()) {
-        Kind::Report => tell_report(alloc, global, text),
-        Kind::Schedule => tell_schedule(alloc, global, text),
+        Kind::Report => tell_report(alloc, text),
+        Kind::Schedule => tell_schedule(alloc, text),
         Kind::Workload => tell_workload(alloc, global, text),
     }
 }

@@ -7,7 +7,7 @@ use std::alloc::{AllocError, Allocator};
 use strsim::generic_levenshtein;
 
 /// A byte order mark.
-const MARK: &[u8] = &[0xEF, 0xBB, 0xBF];
+pub const MARK: &[u8] = &[0xEF, 0xBB, 0xBF];
 
 /// No word that is wanted is longer.
 const LONGEST_WORD: usize = 16;

@@ -46,7 +46,7 @@ fn is_among(names: &[&[u8]], token: &[u8]) -> bool {
 }
 
 /// Whether the bytes are a register's name.
-fn is_register(bytes: &[u8]) -> bool {
+pub fn is_register(bytes: &[u8]) -> bool {
     match str::from_utf8(bytes) {
         Ok(name) => is_name(name),
         Err(_) => false,

@@ -1,27 +1,4 @@
-//! Where the keys and the items of a TOML document stand, by their bytes alone.
-use crate::scanning::after;
-
-/// Whether a line begins with this key, and with nothing that would make it another one.
-fn begins_with(line: &[u8], key: &[u8]) -> bool {
-    matches!(
-        line.strip_prefix(key),
-        Some([b' ' | b'\t' | b'=' | b'.' | b']' | b'"' | b'\'', ..])
-    )
-}
-
-/// The place in a document of the first line that begins with a key, after room and what opens a table or a string.
-pub fn key_place(text: &[u8], key: &[u8]) -> Option<usize> {
-    let mut start = 0usize;
-    for line in text.split(|b| *b == b'\n') {
-        let opening = line.iter().take_while(|b| b" \t[\"'".contains(*b)).count();
-        if begins_with(after(line, opening), key) {
-            return Some(start.saturating_add(opening));
-        }
-        start = start.saturating_add(line.len()).saturating_add(1);
-    }
-    None
-}
-
+//! Where the items of arrays stand in a TOML document, by its bytes alone.
 /// Where one is in nested arrays.
 #[derive(Clone, Copy)]
 struct Nest {
