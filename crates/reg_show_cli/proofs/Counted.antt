@@ -6,6 +6,7 @@ use Rattle.std.proofs.lemmas.Slice.Eq.{bytes_eq-Decides}
 use Rattle.std.proofs.lemmas.Option.{same_Some}
 use Rattle.reg_args.specs.Lines.{Text}
 use Rattle.reg_outcomes.specs.declared.tables.plays.TheConstants.{MOST_PLAYS}
+use Rattle.reg_show_cli.specs.declared.topics.Topic.{Topic}
 use Rattle.reg_show_cli.specs.declared.words.Asked.{Asked}
 use Rattle.reg_show_cli.specs.declared.words.Asked.TheVariants.{AllOutcomes, Find, Help, Judge, Merge, Outcome, Outcomes, Schedule, ShortSchedule, Show, Text as OfText, Verify, Version, Why}
 use Rattle.reg_outcomes.specs.declared.orders.kinds.OrderKind.{OrderKind}
@@ -75,7 +76,7 @@ module _ (line : List Text)
     (judged : (first : Option Text) (report : Bool) → ¬ IsJudgeLine line first report)
     (version : ¬ IsVersionLine line)
     (every : ¬ IsAllLine line)
-    (help : ¬ IsHelpLine line)
+    (help : (topic : Option Topic) → ¬ IsHelpLine line topic)
     (texts : (command : Command) → ¬ (line ≡ text_line command))
     (shown : (view : View) → ¬ IsShowLine line view)
     (one : (number : ℕ) → ¬ IsOneOutcomeLine line number)
@@ -96,7 +97,7 @@ module _ (line : List Text)
   asks_nothing Verify h = verified h
   asks_nothing Merge h = merged h
   asks_nothing (Judge flags) h = judged (option_copied flags.first) flags.report h
-  asks_nothing Help h = help h
+  asks_nothing (Help topic) h = help topic h
   asks_nothing Version h = version h
 
 -- a word stands alone just where there are two, and the second one is that
@@ -139,5 +140,5 @@ numbers_fit line Why h = tt
 numbers_fit line Verify h = tt
 numbers_fit line Merge h = tt
 numbers_fit line (Judge flags) h = tt
-numbers_fit line Help h = tt
+numbers_fit line (Help topic) h = tt
 numbers_fit line Version h = tt

@@ -17,5 +17,5 @@ tells_of Why input unwritten old new untold was is h = elim h [ inl (denies, ans
 tells_of Verify input unwritten old new untold was is h = elim h [ inl (denies, answered, same) ↦ inl (denies, same) | inr (f, kind, blamed, silent, part, told) ↦ inr (f, kind, told) ]
 tells_of Merge input unwritten old new untold was is h = elim h [ inl (denies, answered, same) ↦ inl (denies, same) | inr (f, kind, blamed, silent, part, told) ↦ inr (f, kind, told) ]
 tells_of (Judge flags) input unwritten old new untold was is h = tt
-tells_of Help input unwritten old new untold was is h = h
+tells_of (Help topic) input unwritten old new untold was is h = h
 tells_of Version input unwritten old new untold was is h = h

@@ -1,2 +1,4 @@
+pub mod Topics
+pub mod Printed
 pub mod Lines
 pub mod Statuses

@@ -17,6 +17,8 @@ use Rattle.reg_outcomes.specs.declared.orders.kinds.OrderKind.{OrderKind}
 use Rattle.reg_outcomes.specs.declared.orders.kinds.OrderKind.TheVariants.{Serial, Points}
 use Rattle.reg_show_cli.specs.declared.asking.TheConstants.{LAST_OUTCOME}
 use Rattle.reg_show_cli.specs.declared.flags.TheConstants.{USUAL_PLAYS}
+use Rattle.reg_show_cli.specs.Topics.{topic_name}
+use Rattle.reg_show_cli.specs.declared.topics.Topic.{Topic}
 use Rattle.reg_show_cli.specs.declared.words.Asked.{Asked}
 use Rattle.reg_show_cli.specs.declared.words.Asked.TheVariants.{AllOutcomes, Find, Help, Judge, Merge, Outcome, Outcomes, Schedule, ShortSchedule, Show, Text as OfText, Verify, Version, Why}
 
@@ -157,19 +159,10 @@ IsFindLine line kind = line ≡ codes "find" ∷ order_word kind ∷ []
 abbrev pub IsHelpWith : List Text → Text → Type 0
 IsHelpWith line name = (line ≡ codes "help" ∷ name ∷ []) ⊎ ((line ≡ name ∷ codes "-h" ∷ []) ⊎ (line ≡ name ∷ codes "--help" ∷ []))
 
--- the words ask for help with a command that awreg has too
-abbrev pub IsHelpOfText : List Text → Type 0
-IsHelpOfText line = IsHelpWith line (codes "replay") ⊎ (IsHelpWith line (codes "check") ⊎ IsHelpWith line (codes "play"))
-
--- the words ask for help with a command that awreg hasn't
-abbrev pub IsHelpOfOwn : List Text → Type 0
-IsHelpOfOwn line =
-    IsHelpWith line (codes "trace") ⊎ (IsHelpWith line (codes "draw") ⊎ (IsHelpWith line (codes "data") ⊎ (IsHelpWith line (codes "page") ⊎ (IsHelpWith line (codes "rest")
-    ⊎ (IsHelpWith line (codes "schedule") ⊎ (IsHelpWith line (codes "outcomes") ⊎ (IsHelpWith line (codes "find") ⊎ (IsHelpWith line (codes "why") ⊎ (IsHelpWith line (codes "verify") ⊎ (IsHelpWith line (codes "merge") ⊎ IsHelpWith line (codes "judge")))))))))))
-
--- the words ask for help, alone or with a command
-abbrev pub IsHelpLine : List Text → Type 0
-IsHelpLine line = (line ≡ codes "help" ∷ []) ⊎ ((line ≡ codes "-h" ∷ []) ⊎ ((line ≡ codes "--help" ∷ []) ⊎ (IsHelpOfText line ⊎ IsHelpOfOwn line)))
+-- the words ask for help, with a command or with none
+abbrev pub IsHelpLine : List Text → Option Topic → Type 0
+IsHelpLine line None = (line ≡ codes "help" ∷ []) ⊎ ((line ≡ codes "-h" ∷ []) ⊎ (line ≡ codes "--help" ∷ []))
+IsHelpLine line (Some topic) = IsHelpWith line (topic_name topic)
 
 -- the words ask for just this
 abbrev pub IsLineOf : Asked → List Text → Type 0
@@ -185,7 +178,7 @@ IsLineOf Why line = IsWhyLine line
 IsLineOf Verify line = IsVerifyLine line
 IsLineOf Merge line = IsMergeLine line
 IsLineOf (Judge flags) line = IsJudgeLine line (option_copied flags.first) flags.report
-IsLineOf Help line = IsHelpLine line
+IsLineOf (Help topic) line = IsHelpLine line topic
 IsLineOf Version line = IsVersionLine line
 
 -- what is asked for has no more plays than can be counted, a seed that a workload can have, and the outcome a number

@@ -25,7 +25,9 @@ use Rattle.reg_show.specs.Shorts.{ShowsShort, StopsShort}
 use Rattle.reg_show.specs.Showings.{Blames, Shows}
 use Rattle.reg_verify.specs.Merges.{BlamesMerge, Merges}
 use Rattle.reg_verify.specs.Verifies.{BlamesAccount, Verifies, verify_line}
+use Rattle.reg_verify.specs.declared.faults.VerifyFault.{VerifyFault}
 use Rattle.reg_verify.specs.declared.faults.VerifyFault.TheVariants.{Command as VerifyCommand}
+use Rattle.reg_show_cli.specs.Topics.{help_text}
 use Rattle.reg_show_cli.specs.declared.words.Asked.{Asked}
 use Rattle.reg_show_cli.specs.declared.words.Asked.TheVariants.{AllOutcomes, Find, Help, Judge, Merge, Outcome, Outcomes, Schedule, ShortSchedule, Show, Text as OfText, Verify, Version, Why}
 use Rattle.reg_reasons.specs.Tellings.{Answers, Halts}
@@ -34,73 +36,67 @@ use Rattle.reg_observed.specs.declared.command.CommandFault.{CommandFault as Jud
 use Rattle.reg_observed.specs.declared.command.CommandFault.TheVariants.{Command as JudgeCommand}
 use Rattle.std.specs.Io.KnownBytes.{Appends}
 
--- what is written of the workload that the text says
-abbrev pub WritesOf : Asked → (List ℕ → Type 0) → Load → Type 0
-WritesOf (Schedule player) Wrote work = ShowsSchedule (is_fair player) (start_of work.front) Wrote (reseeded (seed_of player) work)
-WritesOf (ShortSchedule player) Wrote work = ShowsShort (is_fair player) (start_of work.front) Wrote (reseeded (seed_of player) work)
-WritesOf (Outcomes plays seed) Wrote work = ShowsOutcomes plays (start_of work.front) Wrote (reseeded seed work)
-WritesOf AllOutcomes Wrote work = ShowsAll work.scripts work.shape.registers Wrote
-WritesOf (Outcome number) Wrote work = ShowsOutcome number (start_of work.front) Wrote work
-WritesOf _ Wrote work = ⊥
+-- What a command promises of its status: which faults it has, and what each tells, beside those that all commands have;
+-- whether its answer may be a no; what a fault says of the text; and what the text is, whether the answer is a yes, and
+-- how it was written.
+pub record Promise : Type 1 where
+  pub Refusal : Type 0
+  pub of_fault : Fault → Refusal
+  pub line : Refusal → List ℕ
+  pub Denies : Type 0
+  pub IsBlamed : Refusal → List ℕ → Type 0
+  pub IsAnswer : Bool → (List ℕ → Type 0) → List ℕ → Type 0
 
--- why nothing is written of it
-abbrev pub StopsOf : Asked → ShowFault → Load → Type 0
-StopsOf (Schedule player) fault work = StopsSchedule fault
-StopsOf (ShortSchedule player) fault work = StopsShort (is_fair player) (start_of work.front) (reseeded (seed_of player) work) fault
-StopsOf (Outcomes plays seed) fault work = StopsPlays plays (start_of work.front) (reseeded seed work) fault
-StopsOf AllOutcomes fault work = StopsAll work fault
-StopsOf (Outcome number) fault work = StopsOutcome number work fault
-StopsOf _ fault work = ⊥
+-- of the workload that the text says this is written, or it is told why not
+abbrev pub of_work : ((List ℕ → Type 0) → Load → Type 0) → (ShowFault → Load → Type 0) → Promise
+of_work Writes StopsWork = record { Refusal = ShowFault; of_fault = Command; line = show_line; Denies = ⊥; IsBlamed = BlamesDocument Command StopsWork; IsAnswer = λ _. OfDocument Writes }
 
--- what the text is, whether the answer is a yes, and what was written: `Wrote` says how a text was
-abbrev pub AnswersOf : Asked → Bool → (List ℕ → Type 0) → List ℕ → Type 0
-AnswersOf (OfText command) agrees Wrote text = AnswersCommand command agrees Wrote text
-AnswersOf (Show view) agrees Wrote text = Shows view Wrote text
-AnswersOf (Find kind) agrees Wrote text = Finds kind agrees Wrote text
-AnswersOf Why agrees Wrote text = Answers agrees Wrote text
-AnswersOf Verify agrees Wrote text = Verifies Wrote text
-AnswersOf Merge agrees Wrote text = Merges Wrote text
-AnswersOf (Judge flags) agrees Wrote text = IsAnyJudged flags agrees Wrote text
-AnswersOf Help agrees Wrote text = ⊥
-AnswersOf Version agrees Wrote text = ⊥
-AnswersOf asked agrees Wrote text = OfDocument (WritesOf asked) Wrote text
+-- no text is read: of what goes with one nothing is promised
+abbrev pub of_no_text : Promise
+of_no_text = record { Refusal = Fault; of_fault = λ fault. fault; line = fault_line; Denies = ⊥; IsBlamed = λ _ _. ⊥; IsAnswer = λ _ _ _. ⊥ }
+
+-- what is promised of what the words ask for
+abbrev pub promise : Asked → Promise
+promise (OfText command) = record { Refusal = Fault; of_fault = λ fault. fault; line = fault_line; Denies = command ≡ Check; IsBlamed = BlamesCommand command; IsAnswer = AnswersCommand command }
+promise (Show view) = record { Refusal = ShowFault; of_fault = Command; line = show_line; Denies = ⊥; IsBlamed = Blames view; IsAnswer = λ _. Shows view }
+promise (Schedule player) = of_work (λ Wrote work. ShowsSchedule (is_fair player) (start_of work.front) Wrote (reseeded (seed_of player) work)) (λ fault _. StopsSchedule fault)
+promise (ShortSchedule player) = of_work (λ Wrote work. ShowsShort (is_fair player) (start_of work.front) Wrote (reseeded (seed_of player) work)) (λ fault work. StopsShort (is_fair player) (start_of work.front) (reseeded (seed_of player) work) fault)
+promise (Outcomes plays seed) = of_work (λ Wrote work. ShowsOutcomes plays (start_of work.front) Wrote (reseeded seed work)) (λ fault work. StopsPlays plays (start_of work.front) (reseeded seed work) fault)
+promise AllOutcomes = of_work (λ Wrote work. ShowsAll work.scripts work.shape.registers Wrote) (λ fault work. StopsAll work fault)
+promise (Outcome number) = of_work (λ Wrote work. ShowsOutcome number (start_of work.front) Wrote work) (λ fault work. StopsOutcome number work fault)
+promise (Find kind) = record { Refusal = ShowFault; of_fault = Command; line = show_line; Denies = ⊤; IsBlamed = BlamesFind kind; IsAnswer = Finds kind }
+promise Why = record { Refusal = Fault; of_fault = λ fault. fault; line = fault_line; Denies = ⊤; IsBlamed = Halts; IsAnswer = Answers }
+promise Verify = record { Refusal = VerifyFault; of_fault = VerifyCommand; line = verify_line; Denies = ⊥; IsBlamed = BlamesAccount; IsAnswer = λ _. Verifies }
+promise Merge = record { Refusal = VerifyFault; of_fault = VerifyCommand; line = verify_line; Denies = ⊥; IsBlamed = BlamesMerge; IsAnswer = λ _. Merges }
+promise (Judge flags) = record { Refusal = JudgeFault; of_fault = JudgeCommand; line = λ _. []; Denies = ⊤; IsBlamed = λ _ _. ⊤; IsAnswer = IsAnyJudged flags }
+promise (Help topic) = of_no_text
+promise Version = of_no_text
 
 -- Status 0: what was asked for is the answer to the input, which is not too long; or the text of the help or of the
 -- version was written.
-abbrev pub Obeys : List ℕ → List ℕ → Asked → Option (List ℕ) → (List ℕ → Type 0) → Type 0
-Obeys help version Help input Wrote = Wrote help
-Obeys help version Version input Wrote = Wrote version
-Obeys help version asked input Wrote = IfSome input (λ xs. length xs ≤ LONGEST_INPUT) × IfSome input (AnswersOf asked true Wrote)
+abbrev pub Obeys : List ℕ → Asked → Option (List ℕ) → (List ℕ → Type 0) → Type 0
+Obeys version (Help topic) input Wrote = Wrote (help_text topic)
+Obeys version Version input Wrote = Wrote version
+Obeys version asked input Wrote = IfSome input (λ xs. length xs ≤ LONGEST_INPUT) × IfSome input ((promise asked).IsAnswer true Wrote)
 
 -- Status 1: the answer is a no, which only check, why, find and judge have; or the line of a fault was told, or a
 -- first part of it. The fault holds of the input, and nothing was written unless the writer failed; then a first
 -- part of an answer was. Of what is told where a history of JSON lines is refused no clause speaks. Where help or
 -- the version was asked for, the writer failed.
 abbrev pub Stops : Asked → Option (List ℕ) → Type 0 → Option (List ℕ) → Option (List ℕ) → Type 0 → Option (List ℕ) → Option (List ℕ) → Type 0
-Stops (OfText command) input unwritten old new untold was is = StopsCommand (command ≡ Check) (λ (fault : Fault). fault) fault_line (BlamesCommand command) (AnswersOf (OfText command)) input unwritten old new untold was is
-Stops (Show view) input unwritten old new untold was is = StopsCommand ⊥ Command show_line (Blames view) (AnswersOf (Show view)) input unwritten old new untold was is
-Stops (Find kind) input unwritten old new untold was is = StopsCommand ⊤ Command show_line (BlamesFind kind) (AnswersOf (Find kind)) input unwritten old new untold was is
-Stops Why input unwritten old new untold was is = StopsCommand ⊤ (λ (fault : Fault). fault) fault_line Halts (AnswersOf Why) input unwritten old new untold was is
-Stops Verify input unwritten old new untold was is = StopsCommand ⊥ VerifyCommand verify_line BlamesAccount (AnswersOf Verify) input unwritten old new untold was is
-Stops Merge input unwritten old new untold was is = StopsCommand ⊥ VerifyCommand verify_line BlamesMerge (AnswersOf Merge) input unwritten old new untold was is
 Stops (Judge flags) input unwritten old new untold was is =
-    (IfSome input (AnswersOf (Judge flags) false (Appends old new)) × untold) ⊎ ((f : JudgeFault) × (f ≢ JudgeCommand Output → unwritten))
-Stops Help input unwritten old new untold was is = AppendsPart was is (fault_line Output)
+    (IfSome input ((promise (Judge flags)).IsAnswer false (Appends old new)) × untold) ⊎ ((f : JudgeFault) × (f ≢ JudgeCommand Output → unwritten))
+Stops (Help topic) input unwritten old new untold was is = AppendsPart was is (fault_line Output)
 Stops Version input unwritten old new untold was is = AppendsPart was is (fault_line Output)
-Stops asked input unwritten old new untold was is = StopsCommand ⊥ Command show_line (BlamesDocument Command (StopsOf asked)) (AnswersOf asked) input unwritten old new untold was is
+Stops asked input unwritten old new untold was is =
+    StopsCommand (promise asked).Denies (promise asked).of_fault (promise asked).line (promise asked).IsBlamed (promise asked).IsAnswer input unwritten old new untold was is
 
 -- what status 1 says of the error stream alone
 abbrev pub Tells : Asked → Type 0 → Option (List ℕ) → Option (List ℕ) → Type 0
-Tells (OfText command) untold was is = TellsCommand (command ≡ Check) (λ (fault : Fault). fault) fault_line (BlamesCommand command) untold was is
-Tells (Show view) untold was is = TellsCommand ⊥ Command show_line (Blames view) untold was is
-Tells (Find kind) untold was is = TellsCommand ⊤ Command show_line (BlamesFind kind) untold was is
-Tells Why untold was is = TellsCommand ⊤ (λ (fault : Fault). fault) fault_line Halts untold was is
-Tells Verify untold was is = TellsCommand ⊥ VerifyCommand verify_line BlamesAccount untold was is
-Tells Merge untold was is = TellsCommand ⊥ VerifyCommand verify_line BlamesMerge untold was is
 Tells (Judge flags) untold was is = ⊤
-Tells Help untold was is = AppendsPart was is (fault_line Output)
+Tells (Help topic) untold was is = AppendsPart was is (fault_line Output)
 Tells Version untold was is = AppendsPart was is (fault_line Output)
-Tells asked untold was is = TellsCommand ⊥ Command show_line (BlamesDocument Command (StopsOf asked)) untold was is
+Tells asked untold was is = TellsCommand (promise asked).Denies (promise asked).of_fault (promise asked).line (promise asked).IsBlamed untold was is
 
 -- the line for words that there was no memory to read, with its line feed
 abbrev pub memory_line : List ℕ

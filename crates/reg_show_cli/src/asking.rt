@@ -8,13 +8,16 @@ ghost use Rattle.reg_show.specs.declared.Showing.TheVariants.{DrawLarge};
 ghost use Rattle.reg_show.specs.declared.showing.Form.{Form as AnyForm};
 ghost use Rattle.reg_show.specs.declared.showing.View.{View as AnyView};
 ghost use Rattle.reg_commands.specs.declared.command.Command.{Command as AnyCommand};
+ghost use Rattle.reg_show_cli.specs.declared.topics.Topic.{Topic as AnyTopic};
 ghost use Rattle.reg_show_cli.specs.declared.words.Asked.{Asked as AnyAsked};
-ghost use Rattle.reg_show_cli.specs.Lines.{IsAllLine, IsFindLine, IsHelpLine, IsHelpOfOwn, IsHelpOfText, IsHelpWith, IsJudgeLine, IsLineOf, IsMergeLine, IsOneOutcomeLine, IsOutcomesLine, IsScheduleLine, IsShortLine, IsShowLine, IsVerifyLine, IsVersionLine, IsWhyLine, show_words, text_line};
+ghost use Rattle.reg_show_cli.specs.Lines.{IsAllLine, IsFindLine, IsHelpLine, IsHelpWith, IsJudgeLine, IsLineOf, IsMergeLine, IsOneOutcomeLine, IsOutcomesLine, IsScheduleLine, IsShortLine, IsShowLine, IsVerifyLine, IsVersionLine, IsWhyLine, show_words, text_line};
+ghost use Rattle.reg_show_cli.specs.Topics.{topic_name};
 
 use crate::flags::{
     Plays, behind, form_said, judging_said, line_of, number_alone, player_said, plays_said,
     short_said,
 };
+use crate::topics::Topic;
 use crate::words::Asked;
 use reg_commands::Command;
 use reg_observed::JudgeFlags;
@@ -186,49 +189,52 @@ fn view_asked(words: &[String]) -> Option<View>
     }
 }
 
-/// Whether the words ask for help with the command of this name.
-fn asks_help_with(words: &[String], name: &str) -> bool
-    ensures { result ≡ true ↔ IsHelpWith (behind_name words.now) name.now }
+/// The words after the program's name, where they are two.
+fn two_words(words: &[String]) -> Option<(&str, &str)>
+    ensures read { IfSome result (λ p. behind_name words.now ≡ p.0.now ∷ p.1.now ∷ []) }
+    ensures whole { result ≡ None → (first second : Text) → ¬ (behind_name words.now ≡ first ∷ second ∷ []) }
 {
-    are_two(words, "help", name) || are_two(words, name, "-h") || are_two(words, name, "--help")
+    let (first, rest) = line_of(words).split_first()?;
+    let (second, more) = rest.split_first()?;
+    if more.is_empty() {
+        Some((first.as_str(), second.as_str()))
+    } else {
+        None
+    }
 }
 
-/// Whether the words ask for help with a command that `awreg` has too.
-fn asks_help_of_text(words: &[String]) -> bool
-    ensures { result ≡ true ↔ IsHelpOfText (behind_name words.now) }
+/// The command with which the words ask for help, and None where they ask for none.
+fn topic_asked(words: &[String]) -> Option<Topic>
+    ensures { MatchOption result ((topic : AnyTopic) → ¬ IsHelpWith (behind_name words.now) (topic_name topic)) (λ topic. IsHelpWith (behind_name words.now) (topic_name topic)) }
 {
-    asks_help_with(words, "replay")
-        || asks_help_with(words, "check")
-        || asks_help_with(words, "play")
+    let (first, second) = two_words(words)?;
+    if first == "help" {
+        return Topic::named(second);
+    }
+    match second {
+        "-h" | "--help" => Topic::named(first),
+        _ => None,
+    }
 }
 
-/// Whether the words ask for help with a command that `awreg` hasn't.
-fn asks_help_of_own(words: &[String]) -> bool
-    ensures { result ≡ true ↔ IsHelpOfOwn (behind_name words.now) }
+/// Whether the words ask for help with no command.
+fn asks_whole_help(words: &[String]) -> bool
+    ensures { result ≡ true ↔ IsHelpLine (behind_name words.now) None }
 {
-    asks_help_with(words, "trace")
-        || asks_help_with(words, "draw")
-        || asks_help_with(words, "data")
-        || asks_help_with(words, "page")
-        || asks_help_with(words, "rest")
-        || asks_help_with(words, "schedule")
-        || asks_help_with(words, "outcomes")
-        || asks_help_with(words, "find")
-        || asks_help_with(words, "why")
-        || asks_help_with(words, "verify")
-        || asks_help_with(words, "merge")
-        || asks_help_with(words, "judge")
+    is_alone(words, "help") || is_alone(words, "-h") || is_alone(words, "--help")
 }
 
-/// Whether the words ask for help.
-fn asks_help(words: &[String]) -> bool
-    ensures { result ≡ true ↔ IsHelpLine (behind_name words.now) }
+/// With which command, or with none, the words ask for help; and None where they ask for no help.
+fn help_asked(words: &[String]) -> Option<Option<Topic>>
+    ensures { MatchOption result ((topic : Option AnyTopic) → ¬ IsHelpLine (behind_name words.now) topic) (IsHelpLine (behind_name words.now)) }
 {
-    is_alone(words, "help")
-        || is_alone(words, "-h")
-        || is_alone(words, "--help")
-        || asks_help_of_text(words)
-        || asks_help_of_own(words)
+    if asks_whole_help(words) {
+        return Some(None);
+    }
+    match topic_asked(words) {
+        Some(topic) => Some(Some(topic)),
+        None => None,
+    }
 }
 
 /// What words ask for that say no number and no player.
@@ -239,7 +245,7 @@ fn plain_asked(words: &[String]) -> Option<Asked<'_>>
     ensures merge { result ≡ None → ¬ IsMergeLine (behind_name words.now) }
     ensures version { result ≡ None → ¬ IsVersionLine (behind_name words.now) }
     ensures all { result ≡ None → ¬ IsAllLine (behind_name words.now) }
-    ensures help { result ≡ None → ¬ IsHelpLine (behind_name words.now) }
+    ensures help { result ≡ None → (topic : Option AnyTopic) → ¬ IsHelpLine (behind_name words.now) topic }
 {
     if is_alone(words, "why") {
         return Some(Asked::Why);
@@ -256,10 +262,10 @@ fn plain_asked(words: &[String]) -> Option<Asked<'_>>
     if asks_all(words) {
         return Some(Asked::AllOutcomes);
     }
-    if asks_help(words) {
-        return Some(Asked::Help);
+    match help_asked(words) {
+        Some(topic) => Some(Asked::Help { topic }),
+        None => None,
     }
-    None
 }
 
 /// What the words ask for, and None where they ask for nothing. The first word is the program's name.

@@ -4,6 +4,7 @@
 mod asking;
 mod flags;
 mod program;
+mod topics;
 mod words;
 
 pub use asking::{LAST_OUTCOME, ask};
@@ -13,4 +14,5 @@ pub use reg_args::WordsFault;
 pub use reg_commands::Command;
 pub use reg_observed::JudgeFlags;
 pub use reg_show::{Form, Player, Showing, View};
+pub use topics::Topic;
 pub use words::Asked;

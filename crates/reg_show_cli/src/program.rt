@@ -1,17 +1,20 @@
 //! The program: the words of its command line, and then what they ask for, over the standard streams.
-ghost use Rattle.std.specs.Prelude.{◌≡◌, ◌≤◌, ◌⊎◌};
+ghost use Rattle.std.specs.Prelude.{◌≡◌, ◌≤◌, ◌⊎◌, OnOk, flat_map};
 ghost use Rattle.std.specs.Io.KnownBytes.{Appends};
-ghost use Rattle.reg_text.specs.Writing.{AppendsPart};
+ghost use Rattle.reg_text.specs.Writing.{AppendsPart, Puts};
 ghost use Rattle.reg_commands.specs.FaultLines.{fault_line};
 ghost use Rattle.reg_args.specs.Faults.{status_of};
 ghost use Rattle.reg_args.specs.Lines.{behind_name};
 ghost use Rattle.reg_show_cli.specs.Lines.{IsLineOf, NumbersFit, refused_line};
 ghost use Rattle.reg_show_cli.specs.Statuses.{Obeys, Stops, Tells, memory_line};
 ghost use Rattle.reg_show_cli.specs.declared.words.Asked.{Asked as AnyAsked};
-ghost use Rattle.reg_show_cli.specs.declared.words.TheConstants.{HELP, VERSION};
+ghost use Rattle.reg_show_cli.specs.declared.words.TheConstants.{VERSION};
+ghost use Rattle.reg_show_cli.specs.Printed.{own_text};
+ghost use Rattle.reg_show_cli.specs.Topics.{help_text, topic_lines, topics};
 
 use crate::asking::ask;
-use crate::words::{Asked, HELP, VERSION};
+use crate::topics::{TOPICS, Topic};
+use crate::words::{Asked, HELP_BEGIN, HELP_END, VERSION};
 use reg_args::{WordsFault, tell, words_of};
 use reg_commands::{Fault, OfDocument, OverText, Refusal, TextCommand, WorkCommand, run_command};
 use reg_observed::judge_text;
@@ -19,19 +22,60 @@ use reg_reasons::Explain;
 use reg_show::{
     EveryOutcome, FindOrder, FullSchedule, ManyPlays, OneOutcome, ShortSchedule, ShowEither,
 };
-use reg_text::write_bytes;
+use reg_text::{Sink, Unwritten};
 use reg_verify::{Merge, Verify};
 use std::io::{self, BufWriter, Read, Write};
 use std::rt::Env;
 
+/// A text of the program's own.
+#[derive(Clone, Copy)]
+enum OwnText {
+    Help { topic: Option<Topic> },
+    Version,
+}
+
+/// Puts what help tells of each command.
+fn put_topics<W: Write>(sink: &mut Sink<'_, W>)
+    ensures { Puts W.contents sink.old sink.new (flat_map topic_lines topics) }
+{
+    for topic in TOPICS.as_slice() {
+        sink.put(topic.lines().as_bytes());
+    }
+}
+
+/// Puts the help with a command, or with all.
+fn put_help<W: Write>(sink: &mut Sink<'_, W>, topic: Option<Topic>)
+    ensures { Puts W.contents sink.old sink.new (help_text topic) }
+{
+    match topic {
+        Some(topic) => sink.put(topic.lines().as_bytes()),
+        None => {
+            sink.put(HELP_BEGIN.as_bytes());
+            put_topics(sink);
+            sink.put(HELP_END.as_bytes());
+        }
+    }
+}
+
+fn write_own<W: Write>(writer: &mut W, text: OwnText) -> Result<(), Unwritten>
+    ensures { OnOk result (Appends (W.contents writer.old) (W.contents writer.new) (own_text text)) }
+{
+    let mut sink = Sink::new(writer);
+    match text {
+        OwnText::Help { topic } => put_help(&mut sink, topic),
+        OwnText::Version => sink.put(VERSION.as_bytes()),
+    }
+    sink.finish()
+}
+
 /// Writes a text of the program's own. Where the writer fails, that is told.
-fn print<W: Write, E: Write>(text: &str, writer: &mut W, errors: &mut E) -> u8
+fn print<W: Write, E: Write>(text: OwnText, writer: &mut W, errors: &mut E) -> u8
     ensures range { result ≤ 1 }
-    ensures written { result ≡ 0 → Appends (W.contents writer.old) (W.contents writer.new) text.now }
+    ensures written { result ≡ 0 → Appends (W.contents writer.old) (W.contents writer.new) (own_text text) }
     ensures told { result ≡ 1 → AppendsPart (E.contents errors.old) (E.contents errors.new) (fault_line Fault.Output) }
     ensures quiet { result ≡ 0 → errors.new ≡ errors.old }
 {
-    if write_bytes(writer, text.as_bytes()).is_ok() && writer.flush().is_ok() {
+    if write_own(writer, text).is_ok() && writer.flush().is_ok() {
         return 0;
     }
     let _ = Fault::Output.write_line(errors);
@@ -48,77 +92,39 @@ fn obey<R: AllocGlobal, I: Read, O: Write, E: Write>(
 ) -> u8
     requires { NumbersFit asked }
     ensures range { result ≤ 1 }
-    ensures obeyed { result ≡ 0 → Obeys HELP.now VERSION.now asked.entry (I.remaining reader.old) (Appends (O.contents writer.old) (O.contents writer.new)) }
+    ensures obeyed { result ≡ 0 → Obeys VERSION.now asked.entry (I.remaining reader.old) (Appends (O.contents writer.old) (O.contents writer.new)) }
     ensures stopped { result ≡ 1 → Stops asked.entry (I.remaining reader.old) (writer.new ≡ writer.old) (O.contents writer.old) (O.contents writer.new) (errors.new ≡ errors.old) (E.contents errors.old) (E.contents errors.new) }
     ensures quiet { result ≡ 0 → errors.new ≡ errors.old }
 {
     let alloc = rt.alloc();
     let global = alloc;
+    macro_rules! run {
+        ($command:expr) => {
+            run_command($command, alloc, reader, writer, errors)
+        };
+    }
+    macro_rules! run_work {
+        ($command:expr) => {
+            run!(OfDocument {
+                command: $command,
+                global
+            })
+        };
+    }
     match asked {
-        Asked::Help => print(HELP, writer, errors),
-        Asked::Version => print(VERSION, writer, errors),
-        Asked::Text { command } => {
-            let command = OverText { command, global };
-            run_command(command, alloc, reader, writer, errors)
-        }
-        Asked::Show { view } => {
-            let command = ShowEither { view, global };
-            run_command(command, alloc, reader, writer, errors)
-        }
-        Asked::Schedule { player } => {
-            let command = FullSchedule { player };
-            run_command(
-                OfDocument { command, global },
-                alloc,
-                reader,
-                writer,
-                errors,
-            )
-        }
-        Asked::ShortSchedule { player } => {
-            let command = ShortSchedule { player };
-            run_command(
-                OfDocument { command, global },
-                alloc,
-                reader,
-                writer,
-                errors,
-            )
-        }
-        Asked::Outcomes { plays, seed } => {
-            let command = ManyPlays { plays, seed };
-            run_command(
-                OfDocument { command, global },
-                alloc,
-                reader,
-                writer,
-                errors,
-            )
-        }
-        Asked::AllOutcomes => {
-            let command = EveryOutcome;
-            run_command(
-                OfDocument { command, global },
-                alloc,
-                reader,
-                writer,
-                errors,
-            )
-        }
-        Asked::Outcome { number } => {
-            let command = OneOutcome { number };
-            run_command(
-                OfDocument { command, global },
-                alloc,
-                reader,
-                writer,
-                errors,
-            )
-        }
-        Asked::Find { kind } => run_command(FindOrder { kind }, alloc, reader, writer, errors),
-        Asked::Why => run_command(Explain { global }, alloc, reader, writer, errors),
-        Asked::Verify => run_command(Verify, alloc, reader, writer, errors),
-        Asked::Merge => run_command(Merge, alloc, reader, writer, errors),
+        Asked::Help { topic } => print(OwnText::Help { topic }, writer, errors),
+        Asked::Version => print(OwnText::Version, writer, errors),
+        Asked::Text { command } => run!(OverText { command, global }),
+        Asked::Show { view } => run!(ShowEither { view, global }),
+        Asked::Schedule { player } => run_work!(FullSchedule { player }),
+        Asked::ShortSchedule { player } => run_work!(ShortSchedule { player }),
+        Asked::Outcomes { plays, seed } => run_work!(ManyPlays { plays, seed }),
+        Asked::AllOutcomes => run_work!(EveryOutcome),
+        Asked::Outcome { number } => run_work!(OneOutcome { number }),
+        Asked::Find { kind } => run!(FindOrder { kind }),
+        Asked::Why => run!(Explain { global }),
+        Asked::Verify => run!(Verify),
+        Asked::Merge => run!(Merge),
         Asked::Judge { flags } => judge_text(alloc, flags, reader, writer, errors),
     }
 }
@@ -147,7 +153,7 @@ pub fn run_line<R: AllocGlobal, I: Read, O: Write, E: Write>(
     errors: &mut E,
 ) -> u8
     ensures range { result ≤ 2 }
-    ensures obeyed { result ≡ 0 → (asked : AnyAsked) × IsLineOf asked (behind_name words.now) × Obeys HELP.now VERSION.now asked (I.remaining reader.old) (Appends (O.contents writer.old) (O.contents writer.new)) }
+    ensures obeyed { result ≡ 0 → (asked : AnyAsked) × IsLineOf asked (behind_name words.now) × Obeys VERSION.now asked (I.remaining reader.old) (Appends (O.contents writer.old) (O.contents writer.new)) }
     ensures stopped { result ≡ 1 → (asked : AnyAsked) × IsLineOf asked (behind_name words.now) × Stops asked (I.remaining reader.old) (writer.new ≡ writer.old) (O.contents writer.old) (O.contents writer.new) (errors.new ≡ errors.old) (E.contents errors.old) (E.contents errors.new) }
     ensures refused { result ≡ 2 → ((asked : AnyAsked) → ¬ IsLineOf asked (behind_name words.now)) × (writer.new ≡ writer.old) }
     ensures told { result ≡ 2 → AppendsPart (E.contents errors.old) (E.contents errors.new) refused_line }
