@@ -8,7 +8,8 @@ use Rattle.reg_log.specs.declared.logs.LogId.{LogId}
 use Rattle.reg_log.specs.Logs.{begun_with, log_lines, log_text}
 use Rattle.reg_log.specs.Seals.{IsSealed}
 use Rattle.reg_c.specs.declared.beginning.LogRow.{LogRow}
-use Rattle.reg_c.specs.Beginning.{BeginsLog, SaysNames, front_at, id_in}
+use Rattle.reg_c.specs.Beginning.{BeginsLog, SaysNames, id_in}
+use Rattle.reg_c.specs.Fronts.{front_at}
 
 -- it is within the limits of a log
 pub begins : (row : LogRow) (text bytes : List ℕ) (crc : ℕ) (front : Front) (names : List (List ℕ)) (shape : Extent) (id : LogId)

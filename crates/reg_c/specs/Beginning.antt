@@ -3,7 +3,6 @@ use Rattle.std.specs.Prelude.{ℕ, ◌≡◌, ◌==◌, ◌<◌, ◌≤◌, ◌�
 use Rattle.reg_base.specs.Names.{names_fault}
 use Rattle.reg_base.specs.Shape.{shape_of}
 use Rattle.reg_front.specs.declared.named.Front.{Front}
-use Rattle.reg_front.specs.declared.named.Front.TheVariants.{Linear, LocalRead, LocalWrite}
 use Rattle.reg_process.specs.declared.faults.ProcessFault.TheVariants.{NoProcess, OutOfMemory}
 use Rattle.reg_text.specs.Lines.{lines_of}
 use Rattle.reg_text.specs.Words.{names_text}
@@ -12,13 +11,8 @@ use Rattle.reg_log.specs.Logs.{IsJournal, Journal, begun_with, log_text}
 use Rattle.reg_commands.specs.Lent.{filled}
 use Rattle.reg_c.specs.declared.beginning.LogRow.{LogRow}
 use Rattle.reg_c.specs.Events.{no_front, no_shape, refusal_code}
+use Rattle.reg_c.specs.Fronts.{front_at}
 use Rattle.reg_c.specs.NodeCodes.{bad_names}
-
-abbrev pub front_at : ℕ → Option Front
-front_at number =
-    (if number == 0 then Some Linear else
-    (if number == 1 then Some LocalRead else
-    (if number == 2 then Some LocalWrite else None)))
 
 -- behind the word `registers`, the text is the one line that has these names
 abbrev pub SaysNames : List ℕ → List (List ℕ) → Type 0

@@ -2,6 +2,7 @@ pub mod Texts
 pub mod Rows
 pub mod Verdicts
 pub mod Events
+pub mod Fronts
 pub mod Worlds
 pub mod Processes
 pub mod NodeCodes

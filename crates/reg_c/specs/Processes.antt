@@ -1,5 +1,5 @@
 -- A process that a caller holds, under one of the three front ends.
-use Rattle.std.specs.Prelude.{nat_lt, is_err, max, ℕ, List, [], ◌∷◌, ◌≡◌, ◌==◌, ◌<◌, ◌⊎◌, length, slice_get, vec_capacity, false, Option, Some, None, unwrap_or, if◌then◌else◌}
+use Rattle.std.specs.Prelude.{nat_lt, is_err, max, ℕ, List, [], ◌∷◌, ◌≡◌, ◌==◌, ◌<◌, ◌⊎◌, length, slice_get, vec_capacity, false, Option, Some, None, unwrap_or, option_map, if◌then◌else◌}
 use Rattle.std.specs.List.{All, flat_map}
 use Rattle.reg_base.specs.Shape.{Extent, shape_of}
 use Rattle.reg_base.specs.declared.memory.Op.{Op}
@@ -8,6 +8,8 @@ use Rattle.reg_base.specs.declared.stamps.Delivered.{Delivered}
 use Rattle.reg_frames.specs.Spelling.{Fits, Spells, spelling}
 use Rattle.reg_frames.specs.declared.bodies.Frame.{Frame}
 use Rattle.reg_frames.specs.declared.puts.Put.{Put}
+use Rattle.reg_front.specs.declared.named.Front.{Front}
+use Rattle.reg_front.specs.declared.named.Front.TheVariants.{Linear as LinearFront, LocalRead as LocalReadFront, LocalWrite as LocalWriteFront}
 use Rattle.reg_front.specs.declared.starts.Start.{Start}
 use Rattle.reg_front.specs.Table.{linear, local_read, local_write}
 use Rattle.reg_process.specs.Events.{Kept, Refused, Steps}
@@ -29,6 +31,7 @@ use Rattle.reg_c.specs.declared.parts.PeerPart.{PeerPart}
 use Rattle.reg_c.specs.declared.parts.PeerPart.TheVariants.{First, Next, Expected, Seen}
 use Rattle.reg_c.specs.declared.parts.ProcessLook.{ProcessLook}
 use Rattle.reg_c.specs.declared.parts.ProcessLook.TheVariants.{OfState, ReplyValue, ReplyPlace}
+use Rattle.reg_c.specs.Fronts.{front_at}
 use Rattle.reg_c.specs.Events.{no_event, no_frame, no_front, no_shape, no_world, refusal_code, reply_code}
 use Rattle.reg_commands.specs.Lent.{filled}
 use Rattle.reg_c.specs.Worlds.{reply_place, reply_value, seen}
@@ -37,19 +40,21 @@ use Rattle.reg_c.specs.Worlds.{reply_place, reply_value, seen}
 abbrev pub first_process : ℕ → Extent → Kept
 first_process me shape = record { failed = false; state = state_of (first_parts me shape.processes shape.registers); room = 0 }
 
+-- what is kept of a process, under its front end
+abbrev pub kept_process : Front → Kept → KeptProcess
+kept_process LinearFront k = Linear k
+kept_process LocalReadFront k = LocalRead k
+kept_process LocalWriteFront k = LocalWrite k
+
 -- what is held at first: a process of the front end of this number that did nothing yet
 abbrev pub process_at_first : ℕ → ℕ → Extent → Option KeptProcess
-process_at_first front me shape =
-    (if front == 0 then Some (Linear (first_process me shape)) else
-    (if front == 1 then Some (LocalRead (first_process me shape)) else
-    (if front == 2 then Some (LocalWrite (first_process me shape)) else None)))
+process_at_first front me shape = option_map (λ f. kept_process f (first_process me shape)) (front_at front)
 
 -- why there is no process of a shape: this number names no front end, or no process of the shape, or there was no
 -- memory
 abbrev pub unmade_process : ℕ → ℕ → ℕ → ℕ
 unmade_process front me processes =
-    (if nat_lt front 3 then
-    (if nat_lt me processes then refusal_code refusals.OutOfMemory else refusal_code refusals.NoProcess) else no_front)
+    unwrap_or (option_map (λ _. if nat_lt me processes then refusal_code refusals.OutOfMemory else refusal_code refusals.NoProcess) (front_at front)) no_front
 
 -- why there is no process: these numbers are no shape, or there is none of their shape
 abbrev pub process_refusal : ℕ → ℕ → ℕ → ℕ → ℕ

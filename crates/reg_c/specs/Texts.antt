@@ -14,6 +14,7 @@ use Rattle.reg_observed.specs.Commands.{IsAnyJudged}
 use Rattle.reg_observed.specs.declared.command.CommandFault.{CommandFault}
 use Rattle.reg_observed.specs.declared.command.CommandFault.TheVariants.{Command as JudgeCommand}
 use Rattle.reg_observed.specs.declared.flags.JudgeFlags.{JudgeFlags}
+use Rattle.reg_verify.specs.Merges.{BlamesMerge, Merges}
 use Rattle.reg_verify.specs.Verifies.{BlamesAccount, Verifies, verify_line}
 use Rattle.reg_verify.specs.declared.faults.VerifyFault.TheVariants.{Command as VerifyCommand}
 
@@ -25,6 +26,10 @@ IsAnswer command = IsTold (command ≡ Check) (λ (fault : Fault). fault) fault_
 abbrev pub IsVerdict : List ℕ → ℕ → List ℕ → List ℕ → Type 0
 IsVerdict = IsTold ⊥ VerifyCommand verify_line BlamesAccount (λ _. Verifies)
 
+-- the status, the record in another order and the line of a fault that the merge gives to a text
+abbrev pub IsMerged : List ℕ → ℕ → List ℕ → List ℕ → Type 0
+IsMerged = IsTold ⊥ VerifyCommand verify_line BlamesMerge (λ _. Merges)
+
 -- what a command tells of a text
 abbrev pub Tells : Command → List ℕ → ℕ → List ℕ → List ℕ → List ℕ → List ℕ → Lengths → Type 0
 Tells command text status old new errors_old errors_new lengths = Fills (IsAnswer command text) status old new errors_old errors_new lengths
@@ -33,19 +38,23 @@ Tells command text status old new errors_old errors_new lengths = Fills (IsAnswe
 abbrev pub TellsVerdict : List ℕ → ℕ → List ℕ → List ℕ → List ℕ → List ℕ → Lengths → Type 0
 TellsVerdict text status old new errors_old errors_new lengths = Fills (IsVerdict text) status old new errors_old errors_new lengths
 
+-- what the merge tells of a text
+abbrev pub TellsMerged : List ℕ → ℕ → List ℕ → List ℕ → List ℕ → List ℕ → Lengths → Type 0
+TellsMerged text status old new errors_old errors_new lengths = Fills (IsMerged text) status old new errors_old errors_new lengths
+
 -- how the judge of histories is asked: the usual first value is meant
 abbrev pub judge_flags : Bool → JudgeFlags
 judge_flags report = record { first = None; report = report }
 
 -- The status, the answer and the line of a refusal that the judge of histories gives to a text: what is said of
 -- `judge_text`.
-pub record IsJudgement (report : Bool) (text : List ℕ) (status : ℕ) (answer told : List ℕ) : Type 0 where
+pub record IsJudgement (flags : JudgeFlags) (text : List ℕ) (status : ℕ) (answer told : List ℕ) : Type 0 where
   pub range : status ≤ 1
   pub within : status ≡ 0 → length text ≤ LONGEST_INPUT
-  pub found : status ≡ 0 → IsAnyJudged (judge_flags report) true (Appends (Some []) (Some answer)) text
-  pub none : status ≡ 1 → (IsAnyJudged (judge_flags report) false (Appends (Some []) (Some answer)) text × (told ≡ [])) ⊎ ((f : CommandFault) × (f ≢ JudgeCommand Output → answer ≡ []))
+  pub found : status ≡ 0 → IsAnyJudged flags true (Appends (Some []) (Some answer)) text
+  pub none : status ≡ 1 → (IsAnyJudged flags false (Appends (Some []) (Some answer)) text × (told ≡ [])) ⊎ ((f : CommandFault) × (f ≢ JudgeCommand Output → answer ≡ []))
   pub quiet : status ≡ 0 → told ≡ []
 
 -- what the judge of histories tells of a text
-abbrev pub TellsJudgement : Bool → List ℕ → ℕ → List ℕ → List ℕ → List ℕ → List ℕ → Lengths → Type 0
-TellsJudgement report text status old new errors_old errors_new lengths = Fills (IsJudgement report text) status old new errors_old errors_new lengths
+abbrev pub TellsJudgement : JudgeFlags → List ℕ → ℕ → List ℕ → List ℕ → List ℕ → List ℕ → Lengths → Type 0
+TellsJudgement flags text status old new errors_old errors_new lengths = Fills (IsJudgement flags text) status old new errors_old errors_new lengths

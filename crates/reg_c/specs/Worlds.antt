@@ -6,6 +6,8 @@ use Rattle.reg_base.specs.declared.memory.OpId.{OpId}
 use Rattle.reg_base.specs.declared.memory.Op.TheVariants.{Read, Write, Swap, CompareAndSwap}
 use Rattle.reg_base.specs.declared.memory.Answer.{Answer}
 use Rattle.reg_base.specs.declared.memory.Answer.TheVariants.{Done, Value, Unequal}
+use Rattle.reg_front.specs.declared.named.Front.{Front}
+use Rattle.reg_front.specs.declared.named.Front.TheVariants.{Linear as LinearFront, LocalRead as LocalReadFront, LocalWrite as LocalWriteFront}
 use Rattle.reg_front.specs.declared.starts.Start.{Start}
 use Rattle.reg_front.specs.Table.{linear, local_read, local_write}
 use Rattle.reg_checkers.specs.declared.entries.Entry.{Entry}
@@ -30,18 +32,22 @@ use Rattle.reg_c.specs.declared.looking.IdPart.{IdPart}
 use Rattle.reg_c.specs.declared.looking.IdPart.TheVariants.{Process as IdProcess, Number as IdNumber}
 use Rattle.reg_c.specs.declared.looking.PointPart.{PointPart}
 use Rattle.reg_c.specs.declared.looking.PointPart.TheVariants.{Process as PointProcess, Number as PointNumber, Event as PointEvent}
+use Rattle.reg_c.specs.Fronts.{front_at}
 use Rattle.reg_c.specs.Events.{answer_value, fault_code, no_event, no_front, no_shape, no_world, reply_code}
+
+-- what is kept of a world, under its front end
+abbrev pub kept_under : Front → Made → Kept
+kept_under LinearFront w = Linear w
+kept_under LocalReadFront w = LocalRead w
+kept_under LocalWriteFront w = LocalWrite w
 
 -- what is held at first: a world of the front end of this number in which nothing happened yet
 abbrev pub kept_at_first : ℕ → Extent → Option Kept
-kept_at_first front shape =
-    (if front == 0 then Some (Linear (new_world shape)) else
-    (if front == 1 then Some (LocalRead (new_world shape)) else
-    (if front == 2 then Some (LocalWrite (new_world shape)) else None)))
+kept_at_first front shape = option_map (λ f. kept_under f (new_world shape)) (front_at front)
 
 -- why there is no world of a shape: there was no memory, or this number names no front end
 abbrev pub unmade : ℕ → ℕ
-unmade front = (if nat_lt front 3 then fault_code OutOfMemory else no_front)
+unmade front = unwrap_or (option_map (λ _. fault_code OutOfMemory) (front_at front)) no_front
 
 -- why there is no world: these numbers are no shape, or there is none of their shape
 abbrev pub refusal_of : ℕ → ℕ → ℕ → ℕ

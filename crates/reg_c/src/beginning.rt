@@ -3,12 +3,13 @@ ghost use Rattle.std.specs.Prelude.{◌≡◌, ◌≤◌, ◌<◌, ◌^◌, ◌�
 ghost use Rattle.reg_base.specs.Names.{names_fault};
 ghost use Rattle.reg_base.specs.declared.limits.TheConstants.{MOST_PROCESSES};
 ghost use Rattle.reg_process.specs.declared.faults.ProcessFault.{ProcessFault};
-ghost use Rattle.reg_c.specs.Beginning.{BeginsLog, IsMisplaced, IsUnbegun, SaysNames, TellsBegun, front_at};
+ghost use Rattle.reg_c.specs.Beginning.{BeginsLog, IsMisplaced, IsUnbegun, SaysNames, TellsBegun};
 ghost use Rattle.reg_c.specs.Events.{refusal_code};
 ghost use Rattle.reg_c.specs.NodeCodes.{bad_names};
 ghost use Rattle.reg_text.specs.Lines.{lines_of};
 ghost use Rattle.reg_text.specs.Words.{names_text};
 
+use crate::choosing::front_of;
 use crate::codes::{NO_FRONT, NO_SHAPE};
 use crate::events::code_of_refusal;
 use crate::node_codes::BAD_NAMES;
@@ -37,18 +38,6 @@ pub struct LogRow {
     pub processes: u32,
     /// The process whose log it is.
     pub process: u8,
-}
-
-/// The front end of this number.
-fn front_of(number: u32) -> Option<Front>
-    ensures { result ≡ front_at number }
-{
-    match number {
-        0 => Some(Front::Linear),
-        1 => Some(Front::LocalRead),
-        2 => Some(Front::LocalWrite),
-        _ => None,
-    }
 }
 
 /// The log that these numbers say.

@@ -2,20 +2,22 @@
 ghost use Rattle.std.specs.Prelude.{◌≡◌, ◌<◌, [], Some, IfErr, IfOk, IfSome, None, vec_capacity};
 ghost use Rattle.reg_checkers.specs.Orders.{IsSerial, IsPointOrder};
 ghost use Rattle.reg_world.specs.declared.faults.WorldFault.{WorldFault};
+ghost use Rattle.reg_world.specs.Worlds.{new_world};
 ghost use Rattle.reg_c.specs.declared.holding.Kept.{Kept};
 ghost use Rattle.reg_c.specs.Events.{compare_and_swap_event, event_of, fault_code};
-ghost use Rattle.reg_c.specs.Worlds.{Goes, GoesIn, HasOrders, HasPoints, IsOrder, Steps, events_in, history_in, kept_at_first, looked, number_of, refusal_of, unmade};
+ghost use Rattle.reg_c.specs.Worlds.{Goes, GoesIn, HasOrders, HasPoints, IsOrder, Steps, events_in, history_in, kept_at_first, kept_under as world_under, looked, number_of, refusal_of, unmade};
 
+use crate::choosing::{front_of, kept_under, of_kept};
 use crate::codes::{CLOSED, NO_EVENT, NO_FRONT, NO_SHAPE};
 use crate::events::{code_of_fault, code_of_reply, compare_and_swap_call, event, value_of_answer};
 use crate::looking::{Look, look_at, of_entry, of_id, of_point};
 use crate::unboxed::Unboxed;
 use reg_base::{OpId, Shape};
 use reg_checkers::{Entry, Point};
-use reg_front::{FrontEnd, Linear, LocalRead, LocalWrite, RealTime};
+use reg_front::{Front, FrontEnd, Linear, LocalRead, LocalWrite, RealTime};
 use reg_process::Reply;
 use reg_world::{Event, PackedWires, World, WorldFault};
-use std::alloc::Global;
+use std::alloc::{AllocError, Global};
 
 /// A world whose wires take four bytes a frame.
 type Packed<F> = World<F, Global, PackedWires<Global>>;
@@ -38,26 +40,24 @@ pub struct Held {
     pub points: Vec<Point>,
 }
 
+/// A world of this front end, in which nothing happened yet.
+fn new_kept(alloc: Global, front: Front, shape: Shape) -> Result<Kept, AllocError>
+    ensures { IfOk result (λ kept. kept ≡ world_under front (new_world shape)) }
+{
+    kept_under!(front, Kept, World::new(alloc, shape))
+}
+
 /// A world of the front end of this number, in which nothing happened yet.
 fn begin(alloc: Global, front: u32, shape: Shape) -> Result<Kept, u32>
     ensures world { IfOk result (λ kept. kept_at_first front shape ≡ Some kept) }
     ensures why { IfErr result (λ code. code ≡ unmade front) }
 {
-    let refused = code_of_fault(WorldFault::OutOfMemory);
-    match front {
-        0 => match World::new(alloc, shape) {
-            Ok(world) => Ok(Kept::Linear(world)),
-            Err(_) => Err(refused),
-        },
-        1 => match World::new(alloc, shape) {
-            Ok(world) => Ok(Kept::LocalRead(world)),
-            Err(_) => Err(refused),
-        },
-        2 => match World::new(alloc, shape) {
-            Ok(world) => Ok(Kept::LocalWrite(world)),
-            Err(_) => Err(refused),
-        },
-        _ => Err(NO_FRONT),
+    let Some(front) = front_of(front) else {
+        return Err(NO_FRONT);
+    };
+    match new_kept(alloc, front, shape) {
+        Ok(kept) => Ok(kept),
+        Err(AllocError) => Err(code_of_fault(WorldFault::OutOfMemory)),
     }
 }
 
@@ -102,12 +102,7 @@ fn go<F: FrontEnd>(world: &mut Packed<F>, event: &Event) -> (Option<Reply>, u32)
 fn go_in(kept: &mut Kept, event: &Event) -> (Option<Reply>, u32)
     ensures { GoesIn event.now kept.old kept.new result.0 result.1 }
 {
-    match kept {
-        Kept::Linear(world) => go(world, event),
-        Kept::LocalRead(world) => go(world, event),
-        Kept::LocalWrite(world) => go(world, event),
-        Kept::Closed => (None, CLOSED),
-    }
+    of_kept!(kept, Kept, world => go(world, event), (None, CLOSED))
 }
 
 /// Makes the event, if there is one.
@@ -198,25 +193,14 @@ pub fn arrange(held: &mut Held) -> u32
 fn events(kept: &Kept) -> u64
     ensures { result ≡ events_in kept.now }
 {
-    let events = match kept {
-        Kept::Linear(world) => world.events(),
-        Kept::LocalRead(world) => world.events(),
-        Kept::LocalWrite(world) => world.events(),
-        Kept::Closed => 0,
-    };
-    u64::from(events)
+    u64::from(of_kept!(kept, Kept, world => world.events(), 0))
 }
 
 /// The calls and answers.
 fn history(kept: &Kept) -> &[Entry]
     ensures { result.now ≡ history_in kept.now }
 {
-    match kept {
-        Kept::Linear(world) => world.history().entries(),
-        Kept::LocalRead(world) => world.history().entries(),
-        Kept::LocalWrite(world) => world.history().entries(),
-        Kept::Closed => &[],
-    }
+    of_kept!(kept, Kept, world => world.history().entries(), &[])
 }
 
 /// What a look tells.

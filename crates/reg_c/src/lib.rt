@@ -4,6 +4,7 @@
 #![tactic(auto)]
 
 mod beginning;
+mod choosing;
 mod codes;
 mod events;
 pub mod holding;
@@ -41,8 +42,8 @@ pub use process_handles::{
     tellwydar_process_new, tellwydar_process_take, tellwydar_process_tick,
 };
 pub use texts::{
-    tellwydar_check, tellwydar_judge, tellwydar_play, tellwydar_play_fair, tellwydar_replay,
-    tellwydar_verify,
+    tellwydar_check, tellwydar_judge, tellwydar_judge_from, tellwydar_merge, tellwydar_play,
+    tellwydar_play_fair, tellwydar_replay, tellwydar_verify,
 };
 pub use worlds::{
     tellwydar_world_arrange, tellwydar_world_close, tellwydar_world_compare_and_swap,

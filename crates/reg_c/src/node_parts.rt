@@ -6,6 +6,7 @@ ghost use Rattle.reg_c.specs.Nodes.{flag, logged_in, node_look_of, node_looked, 
 ghost use Rattle.reg_c.specs.Processes.{TellsKnown, state_part};
 ghost use Rattle.reg_c.specs.Worlds.{seen};
 
+use crate::choosing::of_kept;
 use crate::events::value_of_answer;
 use crate::nodes::{HeldNode, KeptNode};
 use crate::parts::{ProcessLook, StatePart, of_known, peer_look, process_look};
@@ -81,12 +82,7 @@ fn part<F: FrontEnd>(node: &LoggedNode<F>, part: NodePart) -> u64
 fn part_in(kept: &KeptNode, of: NodePart) -> u64
     ensures { result ≡ seen (node_part of) (logged_in kept.now) }
 {
-    match kept {
-        KeptNode::Linear(node) => part(node, of),
-        KeptNode::LocalRead(node) => part(node, of),
-        KeptNode::LocalWrite(node) => part(node, of),
-        KeptNode::Closed => 0,
-    }
+    of_kept!(kept, KeptNode, node => part(node, of), 0)
 }
 
 /// A part of a node's process.
@@ -99,12 +95,7 @@ fn state<F: FrontEnd>(node: &LoggedNode<F>, of: StatePart, register: u16) -> u64
 fn state_in(kept: &KeptNode, of: StatePart, register: u16) -> u64
     ensures { result ≡ seen (state_part of register) (node_state_in kept.now) }
 {
-    match kept {
-        KeptNode::Linear(node) => state(node, of, register),
-        KeptNode::LocalRead(node) => state(node, of, register),
-        KeptNode::LocalWrite(node) => state(node, of, register),
-        KeptNode::Closed => 0,
-    }
+    of_kept!(kept, KeptNode, node => state(node, of, register), 0)
 }
 
 /// The reply that was handed out last.
@@ -160,12 +151,7 @@ pub fn look(held: &mut HeldNode, what: u32, register: u16) -> u64
 fn known_in(kept: &KeptNode, peer: u8) -> Option<Known>
     ensures { MatchOption (node_state_in kept.now) (result ≡ None) (λ s. MatchOption result (IsNoPeer s peer) (λ k. k ≡ known_of (peer_at s peer))) }
 {
-    match kept {
-        KeptNode::Linear(node) => node.meeting().node().process().known(peer),
-        KeptNode::LocalRead(node) => node.meeting().node().process().known(peer),
-        KeptNode::LocalWrite(node) => node.meeting().node().process().known(peer),
-        KeptNode::Closed => None,
-    }
+    of_kept!(kept, KeptNode, node => node.meeting().node().process().known(peer), None)
 }
 
 /// One number of what the process of the node knows of another one, as the number `what` says.

@@ -7,6 +7,7 @@ ghost use Rattle.reg_c.specs.Events.{compare_and_swap_of, op_of, refusal_code};
 ghost use Rattle.reg_c.specs.Nodes.{HandsAs, HandsIn, HearsAs, HearsIn, IsNothing, MarksAs, MarksIn, NodeCalls, NodeHands, NodeHears, NodeMarks, NodeSteps, NodeTakes, NoStep, Steps, StepsIn, TellsBytes, frames_handed};
 ghost use Rattle.reg_c.specs.Processes.{TellsFrames};
 
+use crate::choosing::of_kept;
 use crate::codes::{CLOSED, NO_EVENT, NO_FRAME};
 use crate::events;
 use crate::events::{code_of_refusal, code_of_reply, operation};
@@ -102,15 +103,10 @@ fn make<F: FrontEnd>(alloc: Global, node: &mut LoggedNode<F>, step: &Step) -> Wr
 fn make_in(alloc: Global, kept: &mut KeptNode, step: &Step) -> Written
     ensures { StepsIn step.now kept.old kept.new result.bytes.items result.code }
 {
-    match kept {
-        KeptNode::Linear(node) => make(alloc, node, step),
-        KeptNode::LocalRead(node) => make(alloc, node, step),
-        KeptNode::LocalWrite(node) => make(alloc, node, step),
-        KeptNode::Closed => Written {
-            bytes: Vec::new(alloc),
-            code: CLOSED,
-        },
-    }
+    of_kept!(kept, KeptNode, node => make(alloc, node, step), Written {
+        bytes: Vec::new(alloc),
+        code: CLOSED,
+    })
 }
 
 /// Makes a step at the node that is held, and holds its bytes.
@@ -199,12 +195,7 @@ fn note<F: FrontEnd>(node: &mut LoggedNode<F>, other: u8, count: u64) -> u32
 fn hear_in(kept: &mut KeptNode, other: u8, count: u64) -> u32
     ensures { HearsIn other count kept.old kept.new result }
 {
-    match kept {
-        KeptNode::Linear(node) => note(node, other, count),
-        KeptNode::LocalRead(node) => note(node, other, count),
-        KeptNode::LocalWrite(node) => note(node, other, count),
-        KeptNode::Closed => CLOSED,
-    }
+    of_kept!(kept, KeptNode, node => note(node, other, count), CLOSED)
 }
 
 /// Hears that another process accepted so many bodies of this one.
@@ -226,12 +217,7 @@ fn mark<F: FrontEnd>(node: &mut LoggedNode<F>, count: u64) -> u32
 fn mark_in(kept: &mut KeptNode, count: u64) -> u32
     ensures { MarksIn count kept.old kept.new result }
 {
-    match kept {
-        KeptNode::Linear(node) => mark(node, count),
-        KeptNode::LocalRead(node) => mark(node, count),
-        KeptNode::LocalWrite(node) => mark(node, count),
-        KeptNode::Closed => CLOSED,
-    }
+    of_kept!(kept, KeptNode, node => mark(node, count), CLOSED)
 }
 
 /// Notes that the first `count` entries of the log are durable.
@@ -262,15 +248,10 @@ fn hand<F: FrontEnd>(node: &mut LoggedNode<F>) -> Handed
 fn hand_in(kept: &mut KeptNode) -> Handed
     ensures { HandsIn kept.old kept.new result.output result.code }
 {
-    match kept {
-        KeptNode::Linear(node) => hand(node),
-        KeptNode::LocalRead(node) => hand(node),
-        KeptNode::LocalWrite(node) => hand(node),
-        KeptNode::Closed => Handed {
-            output: None,
-            code: CLOSED,
-        },
-    }
+    of_kept!(kept, KeptNode, node => hand(node), Handed {
+        output: None,
+        code: CLOSED,
+    })
 }
 
 /// Hands out what is due next, and holds it.

@@ -5,6 +5,7 @@ ghost use Rattle.reg_log.specs.Logs.{Journal, log_crc, log_text};
 ghost use Rattle.reg_node.specs.Opening.{IsOpenFault};
 ghost use Rattle.reg_c.specs.Nodes.{IsReadAs, IsUnopened, IsUnread, KeptAfter, Opens};
 
+use crate::choosing::kept_under;
 use crate::node_codes::{LogRefusal, refusal_of_log, refusal_of_opening};
 use crate::nodes::{HeldNode, KeptNode};
 use reg_front::Front;
@@ -17,20 +18,7 @@ fn keep(alloc: Global, read: ReadLog) -> Result<KeptNode, OpenFault>
     ensures kept { read.crc ≡ log_crc read.log → IfOk result (KeptAfter read.log) }
     ensures why { IfErr result (IsOpenFault (start_of read.log.front) read.log.shape read.log.id.process read.log.entries) }
 {
-    match read.log.front {
-        Front::Linear => match LoggedNode::open(alloc, read) {
-            Ok(node) => Ok(KeptNode::Linear(node)),
-            Err(fault) => Err(fault),
-        },
-        Front::LocalRead => match LoggedNode::open(alloc, read) {
-            Ok(node) => Ok(KeptNode::LocalRead(node)),
-            Err(fault) => Err(fault),
-        },
-        Front::LocalWrite => match LoggedNode::open(alloc, read) {
-            Ok(node) => Ok(KeptNode::LocalWrite(node)),
-            Err(fault) => Err(fault),
-        },
-    }
+    kept_under!(read.log.front, KeptNode, LoggedNode::open(alloc, read))
 }
 
 /// The log that a text is, with how much of the text it is.

@@ -1,14 +1,16 @@
 //! A process that a caller holds.
 ghost use Rattle.std.specs.Prelude.{◌≡◌, ◌<◌, ◌⊎◌, ◌++◌, Some, None, IfErr, IfOk, MatchOption, MatchResult, vec_capacity};
 ghost use Rattle.reg_frames.specs.Spelling.{Fits};
+ghost use Rattle.reg_process.specs.Faults.{NewRefused};
 ghost use Rattle.reg_process.specs.Known.{IsNoPeer, known_of};
 ghost use Rattle.reg_process.specs.Process.{peer_at};
 ghost use Rattle.reg_process.specs.declared.faults.ProcessFault.{ProcessFault};
 ghost use Rattle.reg_process.specs.declared.steps.Step.TheVariants.{Tick};
 ghost use Rattle.reg_c.specs.declared.processes.KeptProcess.{KeptProcess};
 ghost use Rattle.reg_c.specs.Events.{compare_and_swap_of, no_frame, op_of, refusal_code};
-ghost use Rattle.reg_c.specs.Processes.{AllFit, Calls, IsFirstProcess, IsUnspelled, Made, Makes, MakesIn, Takes, TellsFrames, TellsKnown, all_bytes, process_at_first, process_looked, process_number, process_refusal, put_bytes, running_code, state_in, state_part, unmade_process, with_room};
+ghost use Rattle.reg_c.specs.Processes.{AllFit, Calls, IsFirstProcess, IsUnspelled, Made, Makes, MakesIn, Takes, TellsFrames, TellsKnown, all_bytes, first_process, kept_process, process_at_first, process_looked, process_number, process_refusal, put_bytes, running_code, state_in, state_part, unmade_process, with_room};
 
+use crate::choosing::{front_of, kept_under, of_kept};
 use crate::codes::{CLOSED, NO_EVENT, NO_FRAME, NO_FRONT, NO_SHAPE};
 use crate::events;
 use crate::events::{code_of_refusal, code_of_reply, operation, value_of_answer};
@@ -17,7 +19,7 @@ use crate::unboxed::Unboxed;
 use reg_base::{Op, Shape};
 use reg_commands::fill;
 use reg_frames::{FrameFault, decode, encode};
-use reg_front::{FrontEnd, Linear, LocalRead, LocalWrite};
+use reg_front::{Front, FrontEnd, Linear, LocalRead, LocalWrite};
 use reg_process::{Awaited, Known, Process, ProcessFault, Put, Reply, Step};
 use std::alloc::Global;
 use std::mem;
@@ -47,25 +49,25 @@ struct Given {
     code: u32,
 }
 
+/// A process of this front end that did nothing yet.
+fn new_kept(alloc: Global, front: Front, shape: Shape, me: u8) -> Result<KeptProcess, ProcessFault>
+    ensures process { IfOk result (λ kept. (kept ≡ kept_process front (first_process me shape)) × (me < shape.processes)) }
+    ensures why { IfErr result (λ fault. NewRefused shape.processes me fault) }
+{
+    kept_under!(front, KeptProcess, Process::new(alloc, shape, me))
+}
+
 /// A process of the front end of this number that did nothing yet.
 fn begin(alloc: Global, front: u32, shape: Shape, me: u8) -> Result<KeptProcess, u32>
     ensures process { IfOk result (λ kept. (process_at_first front me shape ≡ Some kept) × (me < shape.processes)) }
     ensures why { IfErr result (λ code. code ≡ unmade_process front me shape.processes) }
 {
-    match front {
-        0 => match Process::new(alloc, shape, me) {
-            Ok(process) => Ok(KeptProcess::Linear(process)),
-            Err(fault) => Err(code_of_refusal(fault)),
-        },
-        1 => match Process::new(alloc, shape, me) {
-            Ok(process) => Ok(KeptProcess::LocalRead(process)),
-            Err(fault) => Err(code_of_refusal(fault)),
-        },
-        2 => match Process::new(alloc, shape, me) {
-            Ok(process) => Ok(KeptProcess::LocalWrite(process)),
-            Err(fault) => Err(code_of_refusal(fault)),
-        },
-        _ => Err(NO_FRONT),
+    let Some(front) = front_of(front) else {
+        return Err(NO_FRONT);
+    };
+    match new_kept(alloc, front, shape, me) {
+        Ok(kept) => Ok(kept),
+        Err(fault) => Err(code_of_refusal(fault)),
     }
 }
 
@@ -124,16 +126,11 @@ fn make<F: FrontEnd>(process: &mut Process<F>, list: Vec<Put>, step: &Step) -> G
 fn make_in(kept: &mut KeptProcess, list: Vec<Put>, step: &Step) -> Given
     ensures { MakesIn step.now (vec_capacity list) kept.old kept.new result.frames.items result.reply result.code }
 {
-    match kept {
-        KeptProcess::Linear(process) => make(process, list, step),
-        KeptProcess::LocalRead(process) => make(process, list, step),
-        KeptProcess::LocalWrite(process) => make(process, list, step),
-        KeptProcess::Closed => Given {
-            frames: Vec::new(*list.allocator()),
-            reply: None,
-            code: CLOSED,
-        },
-    }
+    of_kept!(kept, KeptProcess, process => make(process, list, step), Given {
+        frames: Vec::new(*list.allocator()),
+        reply: None,
+        code: CLOSED,
+    })
 }
 
 /// Makes a step at the process that is held.
@@ -274,12 +271,9 @@ fn number(held: &HeldProcess, look: ProcessLook, register: u16) -> u64
     ensures { result ≡ process_looked held.now register look }
 {
     match look {
-        ProcessLook::OfState(of) => match &held.process {
-            KeptProcess::Linear(process) => part(process, of, register),
-            KeptProcess::LocalRead(process) => part(process, of, register),
-            KeptProcess::LocalWrite(process) => part(process, of, register),
-            KeptProcess::Closed => 0,
-        },
+        ProcessLook::OfState(of) => {
+            of_kept!(&held.process, KeptProcess, process => part(process, of, register), 0)
+        }
         ProcessLook::ReplyValue => match held.reply {
             Some(reply) => value_of_answer(reply.answer),
             None => 0,
@@ -306,12 +300,7 @@ pub fn look(held: &mut HeldProcess, what: u32, register: u16) -> u64
 fn known_in(kept: &KeptProcess, peer: u8) -> Option<Known>
     ensures { MatchOption (state_in kept.now) (result ≡ None) (λ s. MatchOption result (IsNoPeer s peer) (λ k. k ≡ known_of (peer_at s peer))) }
 {
-    match kept {
-        KeptProcess::Linear(process) => process.known(peer),
-        KeptProcess::LocalRead(process) => process.known(peer),
-        KeptProcess::LocalWrite(process) => process.known(peer),
-        KeptProcess::Closed => None,
-    }
+    of_kept!(kept, KeptProcess, process => process.known(peer), None)
 }
 
 /// One number of what the process that is held knows of another one, as the number `what` says.

@@ -1,12 +1,15 @@
 //! The commands over memory that the caller lends.
-ghost use Rattle.std.specs.Prelude.{◌≡◌, ◌==◌, not, true, false};
+ghost use Rattle.std.specs.Prelude.{◌≡◌, ◌==◌, not, Some, option_copied, true, false};
+ghost use Rattle.std.specs.Str.{IsUtf8};
 ghost use Rattle.reg_commands.specs.declared.command.Command.{Command};
-ghost use Rattle.reg_c.specs.Texts.{IsJudgement, Tells, TellsJudgement, TellsVerdict};
+ghost use Rattle.reg_observed.specs.declared.flags.JudgeFlags.{JudgeFlags as AnyFlags};
+ghost use Rattle.reg_c.specs.Texts.{IsJudgement, Tells, TellsJudgement, TellsMerged, TellsVerdict, judge_flags};
 
 use reg_commands::{Command, Lengths, OverText, Response, tell};
 use reg_observed::{JudgeFlags, judge_text};
-use reg_verify::Verify;
+use reg_verify::{Merge, Verify};
 use std::alloc::Global;
+use std::str;
 
 /// The command over a text, with the table of a document in the global heap.
 fn over(global: Global, command: Command) -> OverText
@@ -92,14 +95,25 @@ pub extern "C" fn tellwydar_verify(
     tell(Verify, alloc, text).put(output, errors, lengths)
 }
 
-/// What the judge of histories tells of a text.
-fn judged(global: Global, report: bool, text: &[u8]) -> Response<Global>
-    ensures { IsJudgement report text.now result.status result.answer.items result.line.items }
+/// Puts the steps of a record into an order that is a run, those of each process in their own order. The answer is the
+/// record of it, and the status 0; or 1 with the line of a fault, or a first part of it.
+#[unsafe(no_mangle)]
+pub extern "C" fn tellwydar_merge(
+    alloc: Global,
+    text: &[u8],
+    output: &mut [u8],
+    errors: &mut [u8],
+    lengths: &mut Lengths,
+) -> u8
+    ensures { TellsMerged text.now result output.old output.new errors.old errors.new lengths.new }
 {
-    let flags = JudgeFlags {
-        first: None,
-        report,
-    };
+    tell(Merge, alloc, text).put(output, errors, lengths)
+}
+
+/// What the judge of histories tells of a text.
+fn judged(global: Global, flags: JudgeFlags<'_>, text: &[u8]) -> Response<Global>
+    ensures { IsJudgement flags.entry text.now result.status result.answer.items result.line.items }
+{
     let mut reader = text;
     let mut answer = Vec::new(global);
     let mut line = Vec::new(global);
@@ -123,7 +137,43 @@ pub extern "C" fn tellwydar_judge(
     errors: &mut [u8],
     lengths: &mut Lengths,
 ) -> u8
-    ensures { TellsJudgement (not (report == 0)) text.now result output.old output.new errors.old errors.new lengths.new }
+    ensures { TellsJudgement (judge_flags (not (report == 0))) text.now result output.old output.new errors.old errors.new lengths.new }
 {
-    judged(alloc, report != 0, text).put(output, errors, lengths)
+    let flags = JudgeFlags {
+        first: None,
+        report: report != 0,
+    };
+    judged(alloc, flags, text).put(output, errors, lengths)
+}
+
+/// The flags for this first value. Bytes that are no text are no value, as the empty text is none.
+fn flags_from(first: &[u8], report: u8) -> JudgeFlags<'_>
+    ensures first { IsUtf8 first.now → option_copied result.first ≡ Some first.now }
+    ensures report { result.report ≡ not (report == 0) }
+{
+    let first = match str::from_utf8(first) {
+        Ok(first) => first,
+        Err(_) => "",
+    };
+    JudgeFlags {
+        first: Some(first),
+        report: report != 0,
+    }
+}
+
+/// Judges a history of registers that begin with this value, as JSON has it. The rest is as of `tellwydar_judge`; a
+/// report, whose registers begin with 0, is refused.
+#[unsafe(no_mangle)]
+pub extern "C" fn tellwydar_judge_from(
+    alloc: Global,
+    text: &[u8],
+    first: &[u8],
+    report: u8,
+    output: &mut [u8],
+    errors: &mut [u8],
+    lengths: &mut Lengths,
+) -> u8
+    ensures { IsUtf8 first.now → (flags : AnyFlags) × (option_copied flags.first ≡ Some first.now) × (flags.report ≡ not (report == 0)) × TellsJudgement flags text.now result output.old output.new errors.old errors.new lengths.new }
+{
+    judged(alloc, flags_from(first, report), text).put(output, errors, lengths)
 }
