@@ -6,16 +6,20 @@ ghost use Rattle.reg_commands.specs.Lent.{Fills};
 ghost use Rattle.reg_commands.specs.declared.command.Command.{Command};
 ghost use Rattle.reg_outcomes.specs.declared.orders.kinds.OrderKind.{OrderKind as AnyOrder};
 ghost use Rattle.reg_show.specs.declared.showing.Showing.{Showing as AnyShowing};
-ghost use Rattle.reg_web.specs.Texts.{IsAnswer, IsFound, IsRuled, IsShown, IsVerified, kind_number};
+ghost use Rattle.reg_web.specs.Tables.{start_in, table_of};
+ghost use Rattle.reg_web.specs.Texts.{IsAnswer, IsExplained, IsFound, IsMerged, IsReplayedUnder, IsRuled, IsShown, IsToldUnder, IsVerified, kind_number};
 
 use crate::judging::{Check, Replay, ShowSchedule};
+use crate::tables::Table;
 use crate::telling::tell_in;
+use crate::under::{DataUnder, ReplayUnder};
 use reg_commands::{Kind, Lengths, kind_of};
 use reg_heap::Room;
 use reg_outcomes::OrderKind;
+use reg_reasons::ExplainLent;
 use reg_rulings::JudgeReport;
 use reg_show::{FindOrder, Showing};
-use reg_verify::Verify;
+use reg_verify::{Merge, Verify};
 
 /// What a text is meant as, by its first line that counts: 0 is a schedule, 1 a workload, 2 a report.
 #[unsafe(no_mangle)]
@@ -108,6 +112,37 @@ pub extern "C" fn tellwydar_verify(
     tell_in(Verify, room, text, output, errors, lengths)
 }
 
+/// Puts the steps of a record into an order that is a run. The answer is the record in that order, and the status 0; or
+/// 1 with the line of a fault, or a first part of it.
+#[unsafe(no_mangle)]
+pub extern "C" fn tellwydar_merge(
+    room: &mut Room,
+    text: &[u8],
+    output: &mut [u8],
+    errors: &mut [u8],
+    lengths: &mut Lengths,
+) -> u8
+    ensures { Fills (IsMerged text.now) result output.old output.new errors.old errors.new lengths.new }
+{
+    tell_in(Merge, room, text, output, errors, lengths)
+}
+
+/// Tells what is wrong with a text, or what an accepted one is. A workload is accepted in its layout alone. The answer
+/// is of one line where the text is accepted, and the status 0; or it begins with the line of what is wrong, with what
+/// explains it, and the status is 1; or 1 with the line of a fault or a first part of it.
+#[unsafe(no_mangle)]
+pub extern "C" fn tellwydar_why(
+    room: &mut Room,
+    text: &[u8],
+    output: &mut [u8],
+    errors: &mut [u8],
+    lengths: &mut Lengths,
+) -> u8
+    ensures { Fills (IsExplained text.now) result output.old output.new errors.old errors.new lengths.new }
+{
+    tell_in(ExplainLent, room, text, output, errors, lengths)
+}
+
 /// Looks for a serial order of a report's history. The answer is the report with it, and the status 0; or 1 with the
 /// line that there is none, or with the line of a fault or a first part of it.
 #[unsafe(no_mangle)]
@@ -189,6 +224,29 @@ pub extern "C" fn tellwydar_draw(
     )
 }
 
+/// Draws the run of a schedule large enough for a projector, and the status is 0; or 1 with the line of a fault, or a
+/// first part of it.
+#[unsafe(no_mangle)]
+pub extern "C" fn tellwydar_draw_large(
+    room: &mut Room,
+    text: &[u8],
+    output: &mut [u8],
+    errors: &mut [u8],
+    lengths: &mut Lengths,
+) -> u8
+    ensures { Fills (IsShown AnyShowing.DrawLarge text.now) result output.old output.new errors.old errors.new lengths.new }
+{
+    let showing = Showing::DrawLarge;
+    tell_in(
+        ShowSchedule { showing },
+        room,
+        text,
+        output,
+        errors,
+        lengths,
+    )
+}
+
 /// Tells the run of a schedule as data, and the status 0; or 1 with the line of a fault, or a first part of it.
 #[unsafe(no_mangle)]
 pub extern "C" fn tellwydar_data(
@@ -209,6 +267,47 @@ pub extern "C" fn tellwydar_data(
         errors,
         lengths,
     )
+}
+
+/// Runs a schedule under the front end of the table of this number, whatever its own front line says, and tells the
+/// run as data, without points. The number is the sum of 1 where a read with no own cast on its way looks at the copy,
+/// 2 where one with own casts on their way is held for them, 4 where a write with no own cast on its way is answered at
+/// once, and 8 where one with own casts on their way is. All else is cast and runs until its delivery. What is above 15
+/// in the number is not looked at. The front end that the data names is that of the text. The status is 0; or 1 with
+/// the line of a fault, or a first part of it.
+#[unsafe(no_mangle)]
+pub extern "C" fn tellwydar_data_under(
+    room: &mut Room,
+    text: &[u8],
+    table: u32,
+    output: &mut [u8],
+    errors: &mut [u8],
+    lengths: &mut Lengths,
+) -> u8
+    ensures { Fills (IsToldUnder (start_in (table_of table)) text.now) result output.old output.new errors.old errors.new lengths.new }
+{
+    let table = Table::numbered(table);
+    let command = DataUnder { table };
+    tell_in(command, room, text, output, errors, lengths)
+}
+
+/// Runs a schedule under the front end of the table of this number, as `tellwydar_data_under` does. The answer is the
+/// report of that run, whose order is a serial order of its history. It names the text's front end, and has no points.
+/// The status is 0; or 1 with the line of a fault, or a first part of it.
+#[unsafe(no_mangle)]
+pub extern "C" fn tellwydar_replay_under(
+    room: &mut Room,
+    text: &[u8],
+    table: u32,
+    output: &mut [u8],
+    errors: &mut [u8],
+    lengths: &mut Lengths,
+) -> u8
+    ensures { Fills (IsReplayedUnder (start_in (table_of table)) text.now) result output.old output.new errors.old errors.new lengths.new }
+{
+    let table = Table::numbered(table);
+    let command = ReplayUnder { table };
+    tell_in(command, room, text, output, errors, lengths)
 }
 
 /// Makes the page of the run of a schedule, and the status is 0; or 1 with the line of a fault, or a first part of it.
