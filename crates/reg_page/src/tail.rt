@@ -51,11 +51,12 @@ function frameText(frame) {
 }
 
 class Run {
-  constructor(told) {
+  constructor(told, startedBy = told.front) {
     this.title = told.title;
     this.processes = told.processes;
     this.registers = told.registers;
     this.front = told.front;
+    this.startedBy = startedBy;
     this.witness = told.witness;
     this.isRealTime = told.points !== null;
     this.blank = blankState(told.processes);
@@ -167,7 +168,7 @@ class Run {
   }
 
   sharedWith(other) {
-    const shape = run => [run.processes, run.front, run.registers, run.shownRegisters].join(" ");
+    const shape = run => [run.processes, run.startedBy, run.registers, run.shownRegisters].join(" ");
     if (shape(this) !== shape(other)) return -1;
     const differs = this.events.findIndex((event, at) => at > other.last || event.text !== other.events[at].text);
     return differs < 0 ? this.events.length : differs;
@@ -305,7 +306,7 @@ function whyHeld(run, state, process, stamp) {
 }
 
 function whyStarted(run, operation, start) {
-  const { front } = run;
+  const { startedBy: front } = run;
   if (start === "look") {
     return [`Under ${front} a read is not cast. No own cast of `, who(operation.process),
       " is on its way, so its copy answers at once."];
@@ -316,8 +317,8 @@ function whyStarted(run, operation, start) {
   if (front === "linear") {
     return ["The front end linear casts every operation, and answers it when its own process delivers it."];
   }
-  if (front === "local-write" && operation.kind === "write") {
-    return ["Under local-write a write is answered at once; its cast is still to be delivered."];
+  if (front !== "local-read" && operation.kind === "write" && operation.answer?.at === operation.call) {
+    return [`Under ${front} a write is answered at once; its cast is still to be delivered.`];
   }
   if (operation.kind === "swap") {
     return ["A swap's answer is the value before it, which is known at its delivery alone: it is cast, and waits."];
@@ -1544,6 +1545,8 @@ const FRONTS = {
   "local-write": "writes are answered at once, reads wait for the own writes: sequentially consistent",
 };
 
+const LAWFUL = "not the one of the text, and lawful: sequentially consistent";
+
 const MANY_EVENTS = 100; // a run that has so many more or fewer is another one
 
 class View {
@@ -1574,8 +1577,8 @@ class View {
     const bold = text => html("b", {}, text);
     if (run.title) byId("title").textContent = document.title = run.title;
     byId("facts").replaceChildren(bold(`${run.processes} ${plural(run.processes, "process", "processes")}`),
-      ` \u00b7 ${plural(run.registers.length, "register")} `, bold(names), " \u00b7 front end ", bold(run.front),
-      `: ${FRONTS[run.front]} \u00b7 `,
+      ` \u00b7 ${plural(run.registers.length, "register")} `, bold(names), " \u00b7 front end ", bold(run.startedBy),
+      `: ${FRONTS[run.startedBy] || LAWFUL} \u00b7 `,
       bold(`${run.events.length} ${plural(run.events.length, "event")}`));
     byId("key-point").hidden = !run.isRealTime;
   }

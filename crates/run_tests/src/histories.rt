@@ -13,15 +13,12 @@ pub(crate) const STALE_READ: &[Entry] = &[
     answered!(5, 1, 0, Answer::Value(0)),
 ];
 
-/// A history of `processes` processes on one register. None where memory is refused, or an entry isn't in place.
-pub(crate) fn history_of<A: Allocator + Copy>(
+/// A history of this shape. None where memory is refused, or an entry isn't in place.
+pub(crate) fn history_on<A: Allocator + Copy>(
     alloc: A,
-    processes: u32,
+    shape: Shape,
     entries: &[Entry],
 ) -> Option<History<A>> {
-    let Ok(shape) = Shape::new(processes, 1) else {
-        return None;
-    };
     let Ok(mut history) = History::new(alloc, shape) else {
         return None;
     };
@@ -31,4 +28,16 @@ pub(crate) fn history_of<A: Allocator + Copy>(
         }
     }
     Some(history)
+}
+
+/// A history of `processes` processes on one register. None where memory is refused, or an entry isn't in place.
+pub(crate) fn history_of<A: Allocator + Copy>(
+    alloc: A,
+    processes: u32,
+    entries: &[Entry],
+) -> Option<History<A>> {
+    let Ok(shape) = Shape::new(processes, 1) else {
+        return None;
+    };
+    history_on(alloc, shape, entries)
 }

@@ -46,6 +46,8 @@ mod nevers;
 #[cfg(test)]
 mod orders_found;
 #[cfg(test)]
+mod orders_lagging;
+#[cfg(test)]
 mod overtaking;
 #[cfg(test)]
 mod parts;

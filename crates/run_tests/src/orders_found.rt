@@ -7,7 +7,7 @@ use refusing::{Trial, refusals};
 use reg_base::{Answer, Op, OpId};
 use reg_history::{Entry, History, Point, check_points, check_serial};
 use reg_outcomes::{InterleavingFault, find_points, find_serial};
-use std::alloc::{Allocator, Global};
+use std::alloc::{AllocError, Allocator, Global};
 use std::test::Fail;
 
 /// Whether this is the serial order that is found, which the checker takes, or there is none.
@@ -117,24 +117,149 @@ const TWO_WRITES: &[Entry] = &[
     answered!(3, 1, 0, Answer::Done),
 ];
 
-/// Whether both orders are found within two stages.
-fn are_found(alloc: Global, history: &History) -> bool {
-    matches!(find_serial(alloc, history, 2), Ok(Some(_)))
-        && matches!(find_points(alloc, history, 2), Ok(Some(_)))
+/// Two writes run at once, and then a value is read that neither wrote.
+const NEITHER: &[Entry] = &[
+    called!(0, 0, 0, write_of!(1)),
+    called!(1, 1, 0, write_of!(2)),
+    answered!(2, 0, 0, Answer::Done),
+    answered!(3, 1, 0, Answer::Done),
+    called!(4, 2, 0, READ),
+    answered!(5, 2, 0, Answer::Value(3)),
+];
+
+/// Whether both orders are found within this many stages.
+fn are_found(alloc: Global, history: &History, limit: u32) -> bool {
+    matches!(find_serial(alloc, history, limit), Ok(Some(_)))
+        && matches!(find_points(alloc, history, limit), Ok(Some(_)))
 }
 
-/// Whether both orders are found within two stages, and not within one.
-fn is_limited(alloc: Global, history: &History) -> bool {
-    let limit = Some(InterleavingFault::TooManyStages);
-    find_serial(alloc, history, 1).err() == limit
-        && find_points(alloc, history, 1).err() == limit
-        && are_found(alloc, history)
+/// Two writes of one value run at once, and then it is read, and after it the first value.
+const ALIKE: &[Entry] = &[
+    called!(0, 0, 0, WRITE_FIVE),
+    called!(1, 1, 0, WRITE_FIVE),
+    answered!(2, 0, 0, Answer::Done),
+    answered!(3, 1, 0, Answer::Done),
+    called!(4, 2, 0, READ),
+    answered!(5, 2, 0, Answer::Value(5)),
+    called!(6, 2, 1, READ),
+    answered!(7, 2, 1, Answer::Value(0)),
+];
+
+/// Whether it is found that there are no points within two stages, and not within one: each write may be the first.
+fn has_limited_points(alloc: Global, history: &History) -> bool {
+    find_points(alloc, history, 1).err() == Some(InterleavingFault::TooManyStages)
+        && matches!(find_points(alloc, history, 2), Ok(None))
+}
+
+/// Whether the same is found of a serial order.
+fn has_limited_order(alloc: Global, history: &History) -> bool {
+    find_serial(alloc, history, 1).err() == Some(InterleavingFault::TooManyStages)
+        && matches!(find_serial(alloc, history, 2), Ok(None))
 }
 
 #[test]
 fn limit(rt: HostRuntime) {
-    let history = history_of(rt.alloc(), 4, TWO_WRITES).expect(&rt, "in place");
-    assert!(rt; is_limited(rt.alloc(), &history));
+    let found = history_of(rt.alloc(), 4, TWO_WRITES).expect(&rt, "in place");
+    // Only stages that lead to no order are kept, and none is met on the way to one.
+    assert!(rt; are_found(rt.alloc(), &found, 2));
+    assert!(rt; are_found(rt.alloc(), &found, 0));
+    // Either write may have left the five, so that nothing is known without a search.
+    let alike = history_of(rt.alloc(), 4, ALIKE).expect(&rt, "in place");
+    assert!(rt; has_limited_points(rt.alloc(), &alike));
+    assert!(rt; has_limited_order(rt.alloc(), &alike));
+}
+
+#[test]
+fn an_order_that_nothing_allows_needs_no_stage(rt: HostRuntime) {
+    let none = history_of(rt.alloc(), 4, NEITHER).expect(&rt, "in place");
+    assert!(rt; has_limited_points(rt.alloc(), &none));
+    assert!(rt; matches!(find_serial(rt.alloc(), &none, 0), Ok(None)));
+}
+
+/// The processes of a long history, one of which writes in each round.
+const READERS: u8 = 8;
+
+/// What a process does in a round, where this many have done something before it: the first writes the number of the
+/// round, and each of the others reads it or, every other time, the number of the round before.
+fn done_in(round: u32, process: u8, before: u8) -> (Op, Answer) {
+    if before == 0 {
+        let write = write_of!(u64::from(round));
+        return (write, Answer::Done);
+    }
+    let late = u32::from(process).wrapping_add(round) % 2;
+    (READ, Answer::Value(u64::from(round.saturating_sub(late))))
+}
+
+/// Adds a round, in which each operation is answered at once.
+fn add_round(entries: &mut Vec<Entry>, round: u32) -> Result<(), AllocError> {
+    let writer = (round % u32::from(READERS)) as u8;
+    for before in 0..READERS {
+        let process = writer.wrapping_add(before) % READERS;
+        let id = OpId {
+            process,
+            number: round.saturating_sub(1),
+        };
+        let (op, answer) = done_in(round, process, before);
+        let at = u32::try_from(entries.len()).unwrap_or(0);
+        entries.push(Entry::Called { at, id, op })?;
+        entries.push(Entry::Answered {
+            at: at.wrapping_add(1),
+            id,
+            answer,
+        })?;
+    }
+    Ok(())
+}
+
+/// A hundred rounds.
+fn rounds(alloc: Global) -> Result<Vec<Entry>, AllocError> {
+    let mut entries = Vec::new(alloc);
+    for round in 1..101 {
+        add_round(&mut entries, round)?;
+    }
+    Ok(entries)
+}
+
+/// Whether these have a serial order, which is found with few stages kept, and no point order.
+fn are_serial_alone(alloc: Global, entries: &[Entry]) -> bool {
+    let Some(history) = history_of(alloc, u32::from(READERS), entries) else {
+        return false;
+    };
+    let Ok(Some(found)) = find_serial(alloc, &history, 100) else {
+        return false;
+    };
+    check_serial(alloc, &history, &found) == Ok(())
+        && matches!(find_points(alloc, &history, 100), Ok(None))
+}
+
+#[test]
+fn a_long_history_of_stale_reads(rt: HostRuntime) {
+    let entries = rounds(rt.alloc()).expect(&rt, "memory");
+    assert!(rt; are_serial_alone(rt.alloc(), &entries));
+}
+
+/// The hundred rounds, where in the fiftieth a process reads what was written in the third.
+fn rounds_with_old_read(alloc: Global) -> Result<Vec<Entry>, AllocError> {
+    let mut entries = rounds(alloc)?;
+    if let Some(entry) = entries.get_mut(791) {
+        *entry = answered!(791, 5, 49, Answer::Value(3));
+    }
+    Ok(entries)
+}
+
+/// Whether it is found that these have neither order, with few stages kept.
+fn have_none(alloc: Global, entries: &[Entry]) -> bool {
+    let Some(history) = history_of(alloc, u32::from(READERS), entries) else {
+        return false;
+    };
+    matches!(find_serial(alloc, &history, 100), Ok(None))
+        && matches!(find_points(alloc, &history, 100), Ok(None))
+}
+
+#[test]
+fn a_long_history_with_one_old_read(rt: HostRuntime) {
+    let entries = rounds_with_old_read(rt.alloc()).expect(&rt, "memory");
+    assert!(rt; have_none(rt.alloc(), &entries));
 }
 
 /// The stale read, with its memory refused.

@@ -1,7 +1,7 @@
 //! What is done with a text, and what is to be given for it.
 use reg_commands::{OfDocument, run_command};
 use reg_outcomes::OrderKind;
-use reg_reasons::Explain;
+use reg_reasons::{Explain, ExplainLent};
 use reg_show::{
     EveryOutcome, FindOrder, Form, FullSchedule, ManyPlays, OneOutcome, Player, ShortSchedule,
     ShowEither, Showing, View,
@@ -41,6 +41,8 @@ pub(crate) enum Task {
     Verify,
     /// It is told what is wrong with the text.
     Why,
+    /// The same, where there is no heap but one.
+    WhyLent,
 }
 
 /// The status of a task. No command has 255, which stands for an outcome of number 0.
@@ -85,6 +87,7 @@ fn run(alloc: Global, task: Task, text: &str, output: &mut Vec<u8>, errors: &mut
         }
         Task::Verify => run_command(Verify, alloc, input, output, errors),
         Task::Why => run_command(Explain { global }, alloc, input, output, errors),
+        Task::WhyLent => run_command(ExplainLent, alloc, input, output, errors),
     }
 }
 

@@ -13,6 +13,8 @@ mod given;
 #[cfg(test)]
 mod histories_judged;
 #[cfg(test)]
+mod layouts;
+#[cfg(test)]
 mod lines;
 #[cfg(test)]
 mod litmus;

@@ -2,7 +2,9 @@
 use crate::lines::words_of;
 use crate::play_words::{OUTCOMES, SCHEDULES};
 use reg_outcomes::OrderKind;
-use reg_show_cli::{Asked, Command, Form, JudgeFlags, Showing, View, WordsFault, ask, refuse};
+use reg_show_cli::{
+    Asked, Command, Form, JudgeFlags, Showing, Topic, View, WordsFault, ask, refuse,
+};
 use std::alloc::Global;
 use std::process::Abort;
 
@@ -83,27 +85,38 @@ const JUDGED: [(&str, Option<Asked<'static>>); 17] = [
     ("judge judge", None),
 ];
 
-/// Lines that ask for help, or seem to, and what each asks for.
-const HELP: [(&str, Option<Asked<'static>>); 20] = [
-    ("help", Some(Asked::Help)),
-    ("-h", Some(Asked::Help)),
-    ("--help", Some(Asked::Help)),
-    ("draw --help", Some(Asked::Help)),
-    ("schedule --help", Some(Asked::Help)),
-    ("outcomes -h", Some(Asked::Help)),
-    ("find --help", Some(Asked::Help)),
-    ("why --help", Some(Asked::Help)),
-    ("verify -h", Some(Asked::Help)),
-    ("judge --help", Some(Asked::Help)),
-    ("help judge", Some(Asked::Help)),
-    ("help outcomes", Some(Asked::Help)),
+/// Lines that ask for help with a command, and with which.
+const HELP: [(&str, Topic); 17] = [
+    ("draw --help", Topic::Draw),
+    ("schedule --help", Topic::Schedule),
+    ("outcomes -h", Topic::Outcomes),
+    ("find --help", Topic::Find),
+    ("why --help", Topic::Why),
+    ("verify -h", Topic::Verify),
+    ("judge --help", Topic::Judge),
+    ("help judge", Topic::Judge),
+    ("help outcomes", Topic::Outcomes),
+    ("data -h", Topic::Data),
+    ("page --help", Topic::Page),
+    ("help rest", Topic::Rest),
+    ("help merge", Topic::Merge),
+    ("help trace", Topic::Trace),
+    ("help replay", Topic::Replay),
+    ("check --help", Topic::Check),
+    ("play -h", Topic::Play),
+];
+
+/// Lines that ask for help with no command, or seem to ask for help, and what each asks for.
+const WHOLE_HELP: [(&str, Option<Asked<'static>>); 10] = [
+    ("help", Some(Asked::Help { topic: None })),
+    ("-h", Some(Asked::Help { topic: None })),
+    ("--help", Some(Asked::Help { topic: None })),
     ("help help", None),
+    ("help -h", None),
+    ("help --help", None),
+    ("-h replay", None),
     ("help trace draw", None),
     ("schedule --help --fair", None),
-    ("help trace", Some(Asked::Help)),
-    ("help replay", Some(Asked::Help)),
-    ("check --help", Some(Asked::Help)),
-    ("play -h", Some(Asked::Help)),
     ("help live", None),
 ];
 
@@ -305,7 +318,14 @@ fn each_line_of_judge_asks_for_what_it_says(rt: HostRuntime) {
 
 #[test]
 fn each_line_of_help_asks_for_what_it_says(rt: HostRuntime) {
-    check_lines(&rt, rt.alloc(), &HELP);
+    for (line, topic) in &HELP {
+        let topic = Some(*topic);
+        assert!(rt;
+            asks(&rt, rt.alloc(), line, &Some(Asked::Help { topic })),
+            "{line}"
+        );
+    }
+    check_lines(&rt, rt.alloc(), &WHOLE_HELP);
 }
 
 #[test]

@@ -3,7 +3,7 @@ use crate::given::{Task, answer_of, tells};
 use crate::{why_reports, why_schedules, why_workloads};
 use refusing::{Trial, refusals};
 use reg_commands::run_command;
-use reg_reasons::Explain;
+use reg_reasons::{Explain, ExplainLent};
 use std::alloc::{Allocator, Global};
 use std::process::Abort;
 use std::test::Fail;
@@ -13,27 +13,53 @@ use std::test::Fail;
 pub(crate) type Row = (&'static str, bool, &'static str);
 
 /// Demands what is told of each text, with the status that goes with it.
-fn demand_told(rt: &(impl Abort + AllocGlobal), rows: &[Row]) {
+fn demand_told(rt: &(impl Abort + AllocGlobal), task: Task, rows: &[Row]) {
     for (text, is_accepted, answer) in rows {
         let given = (u8::from(!*is_accepted), *answer, "");
-        assert!(rt; tells(rt.alloc(), Task::Why, text, given), "{text}");
+        assert!(rt; tells(rt.alloc(), task, text, given), "{text}");
     }
+}
+
+/// Demands what is told of the texts of all tables but one.
+fn demand_all_told(rt: &(impl Abort + AllocGlobal), task: Task) {
+    demand_told(rt, task, &[(REFUSED, false, REFUSED_TOLD)]);
+    demand_told(rt, task, why_schedules::words());
+    demand_told(rt, task, why_schedules::spaces());
+    demand_told(rt, task, why_schedules::numbers());
+    demand_told(rt, task, why_schedules::names());
+    demand_told(rt, task, why_schedules::events());
+    demand_told(rt, task, why_workloads::rows());
+    demand_told(rt, task, why_reports::lines());
+    demand_told(rt, task, why_reports::places());
+    demand_told(rt, task, why_reports::orders());
+    demand_told(rt, task, why_reports::entries());
+    demand_told(rt, task, why_reports::lists());
 }
 
 #[test]
 fn texts_are_told_as_worked_by_hand(rt: HostRuntime) {
-    demand_told(&rt, &[(REFUSED, false, REFUSED_TOLD)]);
-    demand_told(&rt, why_schedules::words());
-    demand_told(&rt, why_schedules::spaces());
-    demand_told(&rt, why_schedules::numbers());
-    demand_told(&rt, why_schedules::names());
-    demand_told(&rt, why_schedules::events());
-    demand_told(&rt, why_workloads::rows());
-    demand_told(&rt, why_reports::lines());
-    demand_told(&rt, why_reports::places());
-    demand_told(&rt, why_reports::orders());
-    demand_told(&rt, why_reports::entries());
-    demand_told(&rt, why_reports::lists());
+    demand_all_told(&rt, Task::Why);
+    demand_told(&rt, Task::Why, why_workloads::in_no_layout());
+}
+
+#[test]
+fn the_same_is_told_with_one_heap(rt: HostRuntime) {
+    demand_all_told(&rt, Task::WhyLent);
+}
+
+#[test]
+fn broken_documents_are_told_alike(rt: HostRuntime) {
+    let alloc = rt.alloc();
+    for text in why_workloads::broken() {
+        let (mut output, mut errors) = (Vec::new(alloc), Vec::new(alloc));
+        let (mut one, mut other) = (text.as_bytes(), text.as_bytes());
+        let command = Explain { global: alloc };
+        run_command(command, alloc, &mut one, &mut output, &mut errors);
+        let (mut lent, mut faults) = (Vec::new(alloc), Vec::new(alloc));
+        run_command(ExplainLent, alloc, &mut other, &mut lent, &mut faults);
+        let is_same = output.as_slice() == lent.as_slice() && output.len() > "toml\n".len();
+        assert!(rt; is_same && errors.is_empty() && faults.is_empty(), "{text}");
+    }
 }
 
 /// A schedule of which the last event is refused, and what is told of it.
@@ -66,12 +92,28 @@ impl Trial for Asked {
     }
 }
 
+/// What is told of a text where there is no heap but one.
+#[derive(Clone, Copy)]
+struct AskedLent {
+    text: &'static str,
+}
+
+impl Trial for AskedLent {
+    fn answer<A: Allocator + Copy>(&self, alloc: A, ample: Global) -> Result<Option<String>, Fail> {
+        let mut reader = self.text.as_bytes();
+        let (mut output, mut errors) = (Vec::new(ample), Vec::new(ample));
+        run_command(ExplainLent, alloc, &mut reader, &mut output, &mut errors);
+        Ok(answer_of(ample, output, errors.as_slice()))
+    }
+}
+
 #[test]
 fn want_of_memory_is_told_and_nothing_else(rt: HostRuntime) -> Result<(), Fail> {
     let alloc = rt.alloc();
     let misspelt = "processes 1\nregisters x\nfront linear\ncal 0 read x\n";
     for text in [REFUSED, misspelt, "front = 1\n"] {
         assert!(rt; refusals(&Asked { text }, alloc)? > 3, "{text}");
+        assert!(rt; refusals(&AskedLent { text }, alloc)? > 3, "{text}");
     }
     Ok(())
 }

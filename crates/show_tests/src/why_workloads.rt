@@ -2,19 +2,14 @@
 use crate::why::Row;
 
 /// A text, whether it is accepted, and what is told of it, worked out by hand.
-const ROWS: [Row; 27] = [
+const ROWS: [Row; 26] = [
     (
         "{\"process\": 0, \"type\": \"invoke\", \"f\": \"read\", \"key\": \"x\"}\n",
         false,
         "toml\n1 | {\"process\": 0, \"type\": \"invoke\", \"f\": \"read\", \"key\": \"x\"}\n  | ^\ninvalid key, expected letters, numbers, `-`, `_` or a quoted key\na history in lines of JSON is judged by awshow judge\n",
     ),
     (
-        "front = \"local-write\"\nregisters = [\"x\"]\nscripts = [[\"write x 5\", \"read x\"], [\"read x\"]]\n",
-        true,
-        "a workload: 2 processes, 1 register, local-write, 3 operations\n",
-    ),
-    (
-        "front = \"local-write\"\nregisters = [\"x\"]\nscripts = [[\"write x 5\", \"read x\"], [\"read x\"]]\nbudget = 10\n",
+        "budget = 10\nfront = \"local-write\"\nloss = 0\nregisters = [\"x\"]\nrepeat = 0\nscripts = [[\"write x 5\", \"read x\"], [\"read x\"]]\nseed = 0\n",
         true,
         "a workload: 2 processes, 1 register, local-write, 3 operations\n",
     ),
@@ -140,7 +135,67 @@ const ROWS: [Row; 27] = [
     ),
 ];
 
-/// What is told of each of these texts.
+/// Workloads that stand in no layout.
+const IN_NO_LAYOUT: [Row; 2] = [
+    (
+        "front = \"local-write\"\nregisters = [\"x\"]\nscripts = [[\"write x 5\", \"read x\"], [\"read x\"]]\n",
+        true,
+        "a workload: 2 processes, 1 register, local-write, 3 operations\n",
+    ),
+    (
+        "front = \"local-write\"\nregisters = [\"x\"]\nscripts = [[\"write x 5\", \"read x\"], [\"read x\"]]\nbudget = 10\n",
+        true,
+        "a workload: 2 processes, 1 register, local-write, 3 operations\n",
+    ),
+];
+
+/// Texts that are no documents, and documents that say no workload.
+const BROKEN: &[&str] = &[
+    "front = \"linear\"\nfront = \"linear\"\n",
+    "front.x = 1\nfront = 1\n",
+    "front = 1\nfront.x = 1\n",
+    "front = 1\n[front]\n",
+    "[[registers]]\nregisters = 1\n",
+    "front = \"a\\qb\"\n",
+    "front = \"\\uD800\"\n",
+    "front = \"\"\"\na \\\n b\"\"\"\nseed = \"\"\"a\"\"\"\"\"\"\n",
+    "front = 'a\n",
+    "# a\u{1}b\nfront = 1\n",
+    "seed = [[1, 2], {a = 1, \"b\" = [2]}, ]\nx = {a = 1 b = 2}\n",
+    "seed = {a}\n",
+    "seed = [1,, 2]\n",
+    "seed = 1__0\n",
+    "seed = 0xg\n",
+    "seed = -9223372036854775809\n",
+    "seed = 1.\n",
+    "seed = 1e+\n",
+    "seed = 1979-13-27\n",
+    "seed = 25:00\n",
+    "seed = 1 # one\nloss = 1 2\n",
+    "[a\n",
+    "[[a]\n",
+    "[a] b\n",
+    "a..b = 1\n",
+    "loss = 0x65\nfront = 'linear'\nregisters = ['x']\nscripts = [[]]\n",
+    "repeat = -1_0\nfront = 'linear'\nregisters = ['x']\nscripts = [[]]\n",
+    "seed = 1e2\nfront = 'linear'\nregisters = ['x']\nscripts = [[]]\n",
+    "front = 'linear'\nregisters = {a = \"]\", b = [1, 2]}\nscripts = [[]]\n",
+    "front = 'linear'\n\"registers\" = ['x', '''Y''']\nscripts = [[]]\n",
+    "front = 'linear'\nregisters = ['x']\n[[scripts]]\n",
+    "front = 'linear'\nregisters = ['x']\nscripts = [['read x'], # [\n ['raed x']]\n",
+];
+
+/// What is told of each of these texts. A workload that is accepted stands in its layout.
 pub(crate) fn rows() -> &'static [Row] {
     &ROWS
+}
+
+/// What is told of workloads that stand in no layout.
+pub(crate) fn in_no_layout() -> &'static [Row] {
+    &IN_NO_LAYOUT
+}
+
+/// Texts that are no documents, and documents that say no workload.
+pub(crate) fn broken() -> &'static [&'static str] {
+    BROKEN
 }
