@@ -20,13 +20,13 @@
 
 /* Which functions and numbers there are. 2 adds compare-and-swaps, 3 nodes, and 4 the judge of histories: all functions
  * and numbers of those before are there, and mean what they did. */
-#define TELLWYDAR_ABI 4
+#define TELLWYDAR_ABI 5
 
 #ifdef __cplusplus
 extern "C" {
 #endif
 
-/* --- Texts: the commands of the program `awreg`, and `verify` and `judge` of `awshow` ----------------------------------------- */
+/* --- Texts: the commands of the program `awreg`, and `verify`, `merge` and `judge` of `awshow` -------------------------------- */
 
 /* How many bytes an answer has, and how many the line of a fault, also where less room was lent. */
 struct tellwydar_lengths {
@@ -52,11 +52,20 @@ uint8_t tellwydar_play_fair(const uint8_t *text, size_t text_length, uint8_t *ou
 /* A record of processes that ran apart, as `awshow verify` reads it: the answer is the report of the run that it is. */
 uint8_t tellwydar_verify(const uint8_t *text, size_t text_length, uint8_t *output, size_t output_length, uint8_t *errors,
                          size_t errors_length, struct tellwydar_lengths *lengths);
+/* A record whose steps stand in any order, those of each process in their own one, as `awshow merge` reads it: the answer is the record
+ * of the same steps in an order that is a run. If there is none, the line names a step that no run of first steps has. */
+uint8_t tellwydar_merge(const uint8_t *text, size_t text_length, uint8_t *output, size_t output_length, uint8_t *errors,
+                        size_t errors_length, struct tellwydar_lengths *lengths);
 /* What any system answered its clients, as lines of JSON, EDN or a report: `awshow judge` reads it, and docs/JUDGE.md says how. The answer
  * begins with yes if it is linearizable (status 0) and with no if it isn't (status 1); with a line, and no answer, it is refused (status 1).
  * If `report` isn't 0, a report with the points that were found stands in the place of a yes: `tellwydar_check` judges it anew. */
 uint8_t tellwydar_judge(const uint8_t *text, size_t text_length, uint8_t report, uint8_t *output, size_t output_length,
                         uint8_t *errors, size_t errors_length, struct tellwydar_lengths *lengths);
+
+/* The same of registers that begin with this value, as JSON has it: `5`, `null`, `"idle"`. A report, whose registers begin with 0, is refused. */
+uint8_t tellwydar_judge_from(const uint8_t *text, size_t text_length, const uint8_t *first, size_t first_length, uint8_t report,
+                             uint8_t *output, size_t output_length, uint8_t *errors, size_t errors_length,
+                             struct tellwydar_lengths *lengths);
 
 /* --- Checkers: a history of your own, judged ---------------------------------------------------------------------------------- */
 

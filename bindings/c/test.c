@@ -13,6 +13,26 @@ static void rooms(void) {
     expect("no text is no record", status == 1 && lengths.errors == strlen("line 1: end\n"));
 }
 
+/* Two processes: one writes, and the other takes that before it stands in the text. */
+static void merged(void) {
+    const char *head = "tellwydar record 1\nfront linear\nprocesses 2\nregisters x\n";
+    const char *call = "0 call write x 5\n";
+    const char *take = "1 take 0 001e010100000000000000000100000000000000010200000000000000000005\n";
+    char text[512], wanted[512], answer[512], line[64];
+    struct tellwydar_lengths lengths;
+    snprintf(text, sizeof text, "%s%s%s", head, take, call);
+    snprintf(wanted, sizeof wanted, "%s%s%s", head, call, take);
+    uint8_t status = tellwydar_merge((const uint8_t *)text, strlen(text), (uint8_t *)answer, sizeof answer, (uint8_t *)line,
+                                     sizeof line, &lengths);
+    expect("steps are put into an order that is a run", status == 0 && lengths.output == strlen(wanted) &&
+                                                            memcmp(answer, wanted, strlen(wanted)) == 0);
+    snprintf(text, sizeof text, "%s%s", head, take);
+    status = tellwydar_merge((const uint8_t *)text, strlen(text), (uint8_t *)answer, sizeof answer, (uint8_t *)line, sizeof line,
+                             &lengths);
+    expect("a step that is in no run is named", status == 1 && lengths.errors == strlen("line 5: unfaithful\n") &&
+                                                    memcmp(line, "line 5: unfaithful\n", lengths.errors) == 0);
+}
+
 /* What `tellwydar_judge` tells of a history: its status, with the answer and the line as strings. */
 static char judged_answer[1024], judged_line[256];
 
@@ -28,6 +48,32 @@ static uint8_t judged(const char *history, uint8_t report) {
 
 static int begins(const char *text, const char *word) {
     return strncmp(text, word, strlen(word)) == 0;
+}
+
+static uint8_t judged_from(const char *history, const char *first) {
+    struct tellwydar_lengths lengths;
+    uint8_t status = tellwydar_judge_from((const uint8_t *)history, strlen(history), (const uint8_t *)first, strlen(first), 0,
+                                          (uint8_t *)judged_answer, sizeof judged_answer - 1, (uint8_t *)judged_line,
+                                          sizeof judged_line - 1, &lengths);
+    expect("the answer has room", lengths.output < sizeof judged_answer && lengths.errors < sizeof judged_line);
+    judged_answer[lengths.output] = 0;
+    judged_line[lengths.errors] = 0;
+    return status;
+}
+
+/* A read of 5 by the only client: right where registers begin with 5. */
+static void first_values(void) {
+    const char *lines = "{\"process\": 1, \"type\": \"invoke\", \"f\": \"read\"}\n"
+                        "{\"process\": 1, \"type\": \"ok\", \"f\": \"read\", \"value\": 5}\n";
+    const char *report = "awreg report 2\nfront observed\nprocesses 1\nregisters 1\nx\nentries 0\norder 0\n";
+    expect("no value of the kind", judged(lines, 0) == 1 && begins(judged_answer, "no\n"));
+    expect("the first value", judged_from(lines, "5") == 0 && begins(judged_answer, "yes\n") && judged_line[0] == 0);
+    expect("another first value", judged_from(lines, "6") == 1 && begins(judged_answer, "no\n"));
+    const char *refused = "refused: --first: wanted an integer, a string or null, as JSON has it\n";
+    expect("a first value that is none", judged_from(lines, "05") == 1 && strcmp(judged_line, refused) == 0);
+    expect("nothing is no first value", judged_from(lines, "") == 1 && strcmp(judged_line, refused) == 0);
+    expect("nor are bytes that are no text", judged_from(lines, "\"\xff\"") == 1 && strcmp(judged_line, refused) == 0);
+    expect("a report begins with 0", judged_from(report, "0") == 1 && begins(judged_line, "refused: --first is for lines of JSON and EDN"));
 }
 
 /* A write that is done, and a read behind it: of the value, and of another one. */
@@ -256,6 +302,8 @@ static void comparing_processes(void) {
 
 int main(void) {
     rooms();
+    merged();
+    first_values();
     histories();
     refusals();
     fronts();

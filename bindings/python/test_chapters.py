@@ -5,8 +5,9 @@ import threading
 import unittest
 
 from tellwydar import check
-from tellwydar.net import LossyRoad, Node, core, merge
+from tellwydar.net import LossyRoad, Node, core, judge
 from tellwydar.net.chapters import State, StoryFault, check_story, is_over, told_of, values_after
+from tellwydar.net.room import Room, room_of
 from test_net import free_addresses
 from test_node_programs import COUNT, CALLS, RUST, YES, Cluster, wait_until
 
@@ -55,6 +56,29 @@ class States(unittest.TestCase):
         self.assertFalse(is_over({0: over[0]}, 2))
         for other in (State(False, True, 1, (2, 0)), State(True, False, 1, (2, 0)), State(True, True, 1, (1, 0)), State(True, True, 2, (2, 0))):
             self.assertFalse(is_over({0: over[0], 1: other}, 2), other)
+
+
+class Rooms(unittest.TestCase):
+    def refused(self, why, *given):
+        with self.assertRaises(ValueError) as told:
+            room_of(*given)
+        self.assertEqual(str(told.exception), why)
+
+    def test_they_are_as_worked_by_hand(self):
+        # 13 entries an operation, so 39 for one of each process; 262,144 / 39 = 6,721
+        self.assertEqual(room_of(3, 2, None, None), Room(65_000, 262_144, 6_721))
+        self.assertEqual(room_of(1, 1, None, None), Room(65_000, 786_432, 262_144))
+        # 8,065 entries an operation, and 516,160 for one of each process
+        self.assertEqual(room_of(64, 2, None, None), Room(65_000, 8_319, 1))
+        self.refused("with 64 processes and 66 registers a chapter needs 540355 entries to begin, and has 532416", 64, 66, None, None)
+        for entries in (39, 1_048_537):
+            self.assertEqual(room_of(3, 2, None, entries).entries, entries // 3)
+        for entries in (38, 1_048_538):
+            self.refused(f"chapter_entries is {entries}; with 3 processes and 2 registers it can be 39 to 1048537", 3, 2, None, entries)
+        for operations in (3, 65_535):
+            self.assertEqual(room_of(3, 2, operations, None).operations, operations)
+        for operations in (2, 65_536):
+            self.refused(f"chapter_operations is {operations}; with 2 registers it can be 3 to 65535", 3, 2, operations, None)
 
 
 class Stories(unittest.TestCase):
@@ -113,17 +137,14 @@ class Clusters(unittest.TestCase):
         """The report of each chapter that all nodes have begun."""
         found, chapter = [], 0
         while all(os.path.exists(self.path(p, chapter)) for p in range(count)):
-            status, text, fault = merge.merge([self.path(p, chapter) for p in range(count)], self.said.append)
-            self.assertEqual((status, fault), (0, b""), chapter)
-            found.append(text)
+            found.append(judge.judge([self.path(p, chapter) for p in range(count)], self.said.append))
             chapter += 1
         return found
 
     def play(self, front, count, calls, lossy=None):
         addresses, answers = free_addresses(count), {}
-        nodes = [
-            Node(front, ["x", "y"], p, addresses, None, self.path(p, 0), say=self.said.append, lossy=lossy, chapter_operations=8) for p in range(count)
-        ]
+        of = {"cluster": 7, "say": self.said.append, "lossy": lossy, "chapter_operations": 8}
+        nodes = [Node(front, ["x", "y"], p, addresses, None, self.path(p, 0), **of) for p in range(count)]
 
         def perform(p):
             for k in range(calls):

@@ -110,6 +110,23 @@ def test_texts_are_judged() -> None:
     assert not other and "  by line 2: process 0 cas done\n" in other.text
 
 
+FIVE = READ.replace('"value": 0', '"value": 5')
+
+
+def test_registers_begin_with_the_first_value() -> None:
+    assert judge(READ) and not judge(FIVE)
+    assert judge(FIVE, first=5) and not judge(READ, first=5)
+    assert judge(READ.replace("0}", '"idle"}'), first="idle")
+    assert not judge(READ, first=None)
+    assert judge(FIVE, first=5, report=True).text.startswith("awreg report 2\n")
+    try:
+        judge(judge(READ, report=True).text, first=0)
+    except HistoryRefused as refused:
+        assert str(refused) == "refused: --first is for lines of JSON and EDN: the registers of a report begin with 0"
+    else:
+        raise AssertionError("a report takes no first value")
+
+
 def refusal(history: object) -> str:
     try:
         judge(history)  # type: ignore[arg-type]

@@ -118,6 +118,13 @@ class OneNode(unittest.TestCase):
         node.close()
         self.assertEqual(refusal(node.tick), "closed")
 
+    def test_a_node_that_is_guarded_is_shared(self):
+        node = Node.open(HEAD, 0, guarded=True)
+        other = threading.Thread(target=node.tick)
+        other.start()
+        other.join()
+        self.assertEqual((node.logged, node.delivered), (1, 0))
+
 
 class Disk:
     """A log as a crash leaves it: what was synced, and of the rest a random part."""

@@ -1,7 +1,10 @@
 """Clusters of three programs on loopback, over a road that loses, repeats and reorders: python3 -m unittest, with TELLWYDAR_LIB set. Where
 TELLWYDAR_NODE names the program in Rust, clusters of nodes of both languages too."""
+import contextlib
+import json
 import os
 import random
+import re
 import signal
 import subprocess
 import sys
@@ -9,9 +12,9 @@ import tempfile
 import time
 import unittest
 
-from tellwydar import check
-from tellwydar.net import core, log
-from test_net import free_addresses
+from tellwydar import check, judge
+from test_net import free_addresses, lines_of, sealed
+from test_port import ANSWERED, REFUSED
 
 HERE = os.path.dirname(os.path.abspath(__file__))
 COUNT, CALLS = 3, 8
@@ -33,7 +36,7 @@ class Cluster:
     def __init__(self, folder, front, seed, more="", rust=()):
         self.folder, self.front, self.seed, self.nodes = folder, front, seed, [None] * COUNT
         self.rust = rust  # the processes whose nodes are in Rust
-        self.write("cluster.toml", f'front = "{front}"\nregisters = ["x", "y"]\n{more}{self.places()}')
+        self.write("cluster.toml", f'cluster = {seed + 1}\nfront = "{front}"\nregisters = ["x", "y"]\n{more}{self.places()}')
         words = random.Random(f"{front} {seed}")
         for me in range(COUNT):
             calls = []
@@ -103,9 +106,9 @@ class Changed(unittest.TestCase):
             cls.cluster.start(me)
         cls.has_ended = wait_until(cls.cluster.has_ended)
         cls.cluster.close()
-        cls.old = log.read(cls.cluster.log(1))
         with open(cls.cluster.log(1), "rb") as file:
             cls.data = file.read()
+        cls.lines = lines_of(cls.data)
 
     @classmethod
     def tearDownClass(cls):
@@ -124,13 +127,9 @@ class Changed(unittest.TestCase):
         self.assertEqual(len({it.stderr for it in told}), 1)
         return told[0].stderr.decode()
 
-    def changed(self, entries):
-        os.unlink(self.cluster.log(1))
-        writer = log.Writer(self.cluster.log(1), self.old.head)
-        for it in entries:
-            writer.add(log.entry_text(it))
-        writer.write(False)
-        writer.close()
+    def changed(self, lines):
+        with open(self.cluster.log(1), "wb") as file:
+            file.write(sealed(*lines))
         return self.refused()
 
     def test_a_byte(self):
@@ -142,18 +141,15 @@ class Changed(unittest.TestCase):
         self.assertEqual(self.refused(), f"{self.cluster.log(1)}: line {line + 1}: changed, or a line before it is missing\n")
 
     def test_a_reply_that_was_invented(self):
-        entries = self.old.entries
-        place = next(k for k, it in enumerate(entries) if it.reply and it.reply.value is not None)
-        reply = core.Reply(entries[place].reply.value + 1, entries[place].reply.place)
-        told = self.changed([*entries[:place], entries[place]._replace(reply=reply), *entries[place + 1 :]])
-        self.assertEqual(told, f"{self.cluster.log(1)}: line {place + 7}: not what process 1 does there (unfaithful)\n")
+        place, line = next((at, it) for at, it in enumerate(self.lines) if " = value " in it)
+        step, value, order = re.fullmatch(r"(.* = value )(\d+)( \d+)", line).groups()
+        told = self.changed([*self.lines[:place], f"{step}{int(value) + 1}{order}", *self.lines[place + 1 :]])
+        self.assertEqual(told, f"{self.cluster.log(1)}: line {place + 1}: no step of its process\n")
 
     def test_an_entry_that_is_gone(self):
-        entries = self.old.entries
-        place = next(k for k, it in enumerate(entries) if it.step == "call")
-        told = self.changed(entries[:place] + entries[place + 1 :])
-        # (at a step that is another one without it, or at a frame that is never put then)
-        self.assertRegex(told, r"line \d+: (not what process \d does there|take \d \w+: was not put before by process \d)")
+        place = next(at for at, it in enumerate(self.lines) if it.startswith("1 call "))
+        told = self.changed(self.lines[:place] + self.lines[place + 1 :])
+        self.assertRegex(told, r"line \d+: (no step of its process|unfaithful)\n")
 
 
 class Programs(unittest.TestCase):
@@ -194,6 +190,85 @@ class Programs(unittest.TestCase):
         for front in YES:
             for rust in ({1}, {0, 2}):
                 self.play(front, killed=True, rust=rust)
+
+
+class Sockets(unittest.TestCase):
+    """A node that programs call, of each language by the client of each."""
+
+    PROGRAMS = [[sys.executable, "-m", "tellwydar.net"], *([[RUST]] if RUST else [])]
+
+    def run_client(self, program, path, lines):
+        words = [*program, "client", path]
+        told = subprocess.run(words, cwd=HERE, input="".join(f"{it}\n" for it in lines), capture_output=True, text=True, timeout=60)
+        return told.returncode, told.stdout.splitlines(), told.stderr
+
+    def setUp(self):
+        self.folder = tempfile.TemporaryDirectory()
+        self.addCleanup(self.folder.cleanup)
+        self.socket, (self.address,) = self.at("0.socket"), free_addresses(1)
+        with open(self.at("c.toml"), "w") as file:
+            file.write(f'cluster = 5\nfront = "linear"\nregisters = ["x"]\n[[node]]\naddress = "{self.address}"\n')
+
+    def at(self, name):
+        return os.path.join(self.folder.name, name)
+
+    @contextlib.contextmanager
+    def node(self, program, log, *more, shell='exec "$@"'):
+        words = [*program, "node", "--me", "0", "--config", self.at("c.toml"), "--log", self.at(log), "--socket", self.socket, *more]
+        with subprocess.Popen(["bash", "-c", shell, "bash", *words], cwd=HERE, stderr=subprocess.DEVNULL) as node:
+            try:
+                self.assertTrue(wait_until(lambda: os.path.exists(self.socket)))
+                yield
+            finally:
+                node.terminate()
+                node.wait(60)
+        self.status = node.returncode
+
+    def test_a_program_has_its_calls_answered(self):
+        for k, program in enumerate(self.PROGRAMS):
+            with self.node(program, f"{k}.log"):
+                for client in self.PROGRAMS:
+                    lines = ["swap x 5", "", "cas x 5 6", "cas x 5 7", "read x", "write x 0", "read y", "health", "metrics"]
+                    status, out, err = self.run_client(client, self.socket, lines)
+                    self.assertEqual((status, err), (0, ""))
+                    self.assertEqual(out[:5], ["value 0", "done", "unequal", "value 6", "done"])
+                    self.assertRegex(out[5], "^refused: no ")
+                    self.assertEqual((out[6], out[7], out[-1]), ("ok", "# TYPE tellwydar_operations_total counter", "# EOF"))
+            self.assertEqual(self.status, 0)
+            self.assertFalse(os.path.exists(self.socket))
+            for client in self.PROGRAMS:
+                status, out, err = self.run_client(client, self.socket, ["read x"])
+                self.assertEqual((status, out, err.count("\n")), (1, [], 1))
+                self.assertTrue(err.startswith(self.socket + ": No such file or directory"), err)
+            told = subprocess.run([*program, "merge", self.at(f"{k}.log")], cwd=HERE, capture_output=True)
+            self.assertEqual(check(told.stdout).answer, YES["linear"])
+
+    def test_objects_are_answered_alike(self):
+        for k, program in enumerate(self.PROGRAMS):
+            with self.node(program, f"{k}.log"):
+                for client in self.PROGRAMS:
+                    told = self.run_client(client, self.socket, [*ANSWERED, *REFUSED])
+                    self.assertEqual(told, (0, [*ANSWERED.values(), *REFUSED.values()], ""))
+
+    def test_of_a_call_whose_entry_is_not_written_nobody_knows(self):
+        calls = [{"process": 0, "type": "invoke", "f": "write", "key": "x", "value": value} for value in range(1, 51)]
+        for k, program in enumerate(self.PROGRAMS):
+            # (the log has no more than 1,024 bytes)
+            with self.node(program, f"{k}.log", shell='ulimit -f 1; trap "" XFSZ; exec "$@"'):
+                _, out, _ = self.run_client(self.PROGRAMS[0], self.socket, map(json.dumps, calls))
+            told = [json.loads(it) for it in out]
+            last = [it["type"] for it in told].index("info")
+            self.assertIn("File too large", told[last]["error"])
+            # (a node in Rust ends then; one in Python answers on, and calls nothing)
+            self.assertEqual({it["type"] for it in told[:last]}, {"ok"})
+            self.assertLessEqual({it["type"] for it in told[last + 1 :]}, {"fail"})
+            with self.node(program, f"{k}.log", "--resume"):
+                _, (read,), _ = self.run_client(self.PROGRAMS[0], self.socket, [json.dumps({"f": "read", "key": "x"})])
+            rows = [row for call, end in zip(calls, told) for row in (call, {"process": 0, **end})]
+            rows += [{"process": 1, "type": "invoke", "f": "read", "key": "x"}, {"process": 1, **json.loads(read)}]
+            self.assertIn(rows[-1]["value"], (last, last + 1))
+            judged = judge(rows)
+            self.assertTrue(judged, judged.text)
 
 
 if __name__ == "__main__":

@@ -36,6 +36,17 @@ class Tests(unittest.TestCase):
         self.assertEqual(tellwydar.verify(b""), tellwydar.Told(1, b"", b"line 1: end\n"))
         self.assertRaises(TypeError, tellwydar.replay, "text")
 
+    def test_a_record_is_put_into_order(self):
+        head = b"tellwydar record 1\nfront linear\nprocesses 2\nregisters x\n"
+        call, count = b"0 call write x 5\n", b"0 take 1 000a01020000000000000001\n"
+        answer = b"0 take 1 001301010000000000000000020000000000000002 = done 0\n"
+        other = b"1 take 0 001e010100000000000000000100000000000000010200000000000000000005\n"
+        for steps in ([call, count, answer, other], [other, call, count, answer], [call, other, count, answer]):
+            ordered = tellwydar.Told(0, head + call + other + count + answer, b"")
+            self.assertEqual(tellwydar.merge(head + b"".join(steps)), ordered)
+        self.assertEqual(tellwydar.merge(head + call + count), tellwydar.Told(1, b"", b"line 6: unfaithful\n"))
+        self.assertEqual(tellwydar.merge(b""), tellwydar.Told(1, b"", b"line 1: end\n"))
+
     def test_handles_are_not_copied_and_threads_take_turns(self):
         with tellwydar.Process(tellwydar.Front.LOCAL_WRITE, 4, 1, 0) as one:
             for copied in (copy.copy, copy.deepcopy, pickle.dumps):

@@ -11,8 +11,8 @@ import tempfile
 import threading
 import time
 
-from tellwydar import check
-from tellwydar.net import LossyRoad, Node, core, merge
+from tellwydar import UNEQUAL, check
+from tellwydar.net import LossyRoad, Node, core, judge
 from tellwydar.net.chapters import check_story, told_of
 from test_net import free_addresses
 
@@ -21,13 +21,18 @@ MOST_SECONDS = 120
 
 def calls_of(words, process, count):
     """Calls by chance, each with a value of its own."""
-    kinds = [words.choice(core.KINDS) for _ in range(count)]
-    return [(kind, words.choice("xy")) if kind == "read" else (kind, words.choice("xy"), process * 1000 + k + 1) for k, kind in enumerate(kinds)]
+    calls = []
+    for value in range(process * 1000 + 1, process * 1000 + count + 1):
+        kind, register = words.choice(["read", "write", "swap", "compare_and_swap"]), words.choice("xy")
+        expected = [words.choice([0, value - 1])] if kind == "compare_and_swap" else []
+        calls.append((kind, register) if kind == "read" else (kind, register, *expected, value))
+    return calls
 
 
 def perform(node, calls, answers):
     for kind, *given in calls:
-        answers.append(getattr(node, kind)(*given, MOST_SECONDS))
+        answer = getattr(node, kind)(*given, MOST_SECONDS)
+        answers.append({True: None, False: UNEQUAL}[answer] if kind == "compare_and_swap" else answer)
 
 
 def told_answers(reports, process):
@@ -38,7 +43,7 @@ def told_answers(reports, process):
         opening = len(told_opening(reports[number - 1])) if number and process == 0 else 0
         for it in lines:
             if it[3] == "answer" and int(it[2][1:]) >= opening:
-                found.append(None if it[4] == "done" else int(it[5]))
+                found.append({"done": None, "unequal": UNEQUAL}[it[4]] if len(it) == 5 else int(it[5]))
     return found
 
 
@@ -58,7 +63,8 @@ def run(seed, folder):
     lossy = (lambda road: LossyRoad(road, seed, loss, repeats, reorder, delay)) if loss else None
     addresses = free_addresses(count, scheme)
     paths = [os.path.join(folder, f"{p}.log") for p in range(count)]
-    nodes = [Node(front, ["x", "y"], p, addresses, None, paths[p], lossy=lossy, say=lambda _: None, chapter_operations=short) for p in range(count)]
+    of = {"cluster": seed + 1, "lossy": lossy, "say": lambda _: None, "chapter_operations": short}
+    nodes = [Node(front, ["x", "y"], p, addresses, None, paths[p], **of) for p in range(count)]
     answers = [[] for _ in range(count)]
     threads = [threading.Thread(target=perform, args=(node, calls_of(words, p, each), answers[p])) for p, node in enumerate(nodes)]
     for it in threads:
@@ -69,9 +75,7 @@ def run(seed, folder):
         it.close()
     reports, chapter = [], ""
     while all(os.path.exists(path + chapter) for path in paths):
-        status, report, fault = merge.merge([path + chapter for path in paths], lambda _: None)
-        if status:
-            return f"chapter {len(reports)} is refused: {fault.decode().strip()}"
+        report = judge.judge([path + chapter for path in paths], lambda _: None)
         if b"no" in check(report).answer:
             return f"chapter {len(reports)}: check says no"
         reports.append(report)

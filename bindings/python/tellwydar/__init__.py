@@ -3,8 +3,9 @@
 Each process of a `World` keeps a copy of all registers, and keeps it in step by Lamport's totally ordered multicast. One steps a world
 by events: calls of operations, takes of frames, ticks. A history of one's own is judged by `check_serial` and `check_points`. The
 commands of the program `awreg` are `replay`, `check`, `play` and `play_fair`. A `Process` is one process alone, whose
-frames one carries oneself; what such processes did is judged by `verify`. A `Node` is one process that outlives crashes
-by a log, which one writes down. What any system answered its clients is judged by `judge`.
+frames one carries oneself; what such processes did is put into one order by `merge`, and judged by `verify`. A `Node` is
+one process that outlives crashes by a log, which one writes down. What any system answered its clients is judged by
+`judge`.
 
 The environment's TELLWYDAR_LIB names the folder of `libtellwydar.so`, which `tools/bindings --keep FOLDER` makes.
 """
@@ -18,7 +19,7 @@ from typing import Any, Callable, Dict, List, NoReturn, Optional, Sequence, Tupl
 __all__ = [
     "UNEQUAL", "Answered", "Called", "CompareAndSwap", "Fault", "Front", "HistoryRefused", "Judgement", "Known", "Node",
     "Output", "Process", "Read", "Refused", "Reply", "Row", "Swap", "Told", "Unequal", "World", "Write",
-    "check", "check_points", "check_serial", "judge", "play", "play_fair", "replay", "verify",
+    "check", "check_points", "check_serial", "judge", "merge", "play", "play_fair", "replay", "verify",
 ]
 
 
@@ -49,11 +50,13 @@ def _load() -> Tuple[ctypes.CDLL, Any]:
     library = ctypes.CDLL(path)
     u8, u16, u32, u64, size, handle = ctypes.c_uint8, ctypes.c_uint16, ctypes.c_uint32, ctypes.c_uint64, ctypes.c_size_t, ctypes.c_void_p
     room = ctypes.c_char_p
-    for word in ("replay", "check", "play", "play_fair", "verify"):
+    for word in ("replay", "check", "play", "play_fair", "merge", "verify"):
         call = getattr(library, f"tellwydar_{word}")
         call.restype, call.argtypes = u8, [room, size, room, size, room, size, ctypes.POINTER(_Lengths)]
     library.tellwydar_judge.restype = u8
     library.tellwydar_judge.argtypes = [room, size, u8, room, size, room, size, ctypes.POINTER(_Lengths)]
+    library.tellwydar_judge_from.restype = u8
+    library.tellwydar_judge_from.argtypes = [room, size, room, size, u8, room, size, room, size, ctypes.POINTER(_Lengths)]
     for word, row in (("serial", _Id), ("points", _Point)):
         call = getattr(library, f"tellwydar_check_{word}_expecting")
         call.restype = u32
@@ -139,6 +142,12 @@ def play(workload: bytes) -> Told:
 def play_fair(workload: bytes) -> Told:
     """Plays a workload fairly."""
     return _tell("play_fair", workload)
+
+
+def merge(record: bytes) -> Told:
+    """Puts the steps of a record, those of each process in their own order, into an order that is a run: the answer is
+    the record in that order."""
+    return _tell("merge", record)
 
 
 def verify(record: bytes) -> Told:
@@ -455,7 +464,7 @@ def _framed(room: Any, asks: Callable[..., int]) -> List[Tuple[int, bytes]]:
     code = asks(room, _ROOM, ctypes.byref(length))
     if code:
         raise Refused(_REFUSALS[code])
-    told = room.raw[: length.value]
+    told = ctypes.string_at(room, length.value)
     while told:
         end = 3 + int.from_bytes(told[1:3], "big")
         frames.append((told[0], told[1:end]))
@@ -463,7 +472,38 @@ def _framed(room: Any, asks: Callable[..., int]) -> List[Tuple[int, bytes]]:
     return frames
 
 
-class Process(_Handle):
+class _Progress(_Handle):
+    """How far one process has come, and its copy."""
+
+    def _look(self, what: int, register: int = 0) -> int:
+        raise NotImplementedError
+
+    @property
+    def delivered(self) -> int:
+        """How many casts it has delivered."""
+        return self._look(1)
+
+    @property
+    def unsettled(self) -> int:
+        """How many of its own casts are not delivered here."""
+        return self._look(2)
+
+    @property
+    def pending(self) -> int:
+        """How many data frames are not acknowledged, over all links."""
+        return self._look(3)
+
+    @property
+    def busy(self) -> bool:
+        """Whether an operation runs."""
+        return self._look(4) != 0
+
+    def register(self, register: int) -> int:
+        """The value of a register in its copy."""
+        return self._look(5, _ranged(register, 16))
+
+
+class Process(_Progress):
     """One process of a run, whose frames its owner carries: whatever is lost, repeated or reordered."""
 
     def __init__(self, front: Front, processes: int, registers: int, me: int):
@@ -506,30 +546,6 @@ class Process(_Handle):
     @property
     def clock(self) -> int:
         return self._look(0)
-
-    @property
-    def delivered(self) -> int:
-        """How many casts it has delivered."""
-        return self._look(1)
-
-    @property
-    def unsettled(self) -> int:
-        """How many of its own casts are not delivered here."""
-        return self._look(2)
-
-    @property
-    def pending(self) -> int:
-        """How many data frames are not acknowledged, over all links."""
-        return self._look(3)
-
-    @property
-    def busy(self) -> bool:
-        """Whether an operation runs."""
-        return self._look(4) != 0
-
-    def register(self, register: int) -> int:
-        """The value of a register in its copy."""
-        return self._look(5, _ranged(register, 16))
 
     def known(self, peer: int) -> Known:
         """What it knows of another process."""

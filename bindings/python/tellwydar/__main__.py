@@ -1,11 +1,14 @@
 """python3 -m tellwydar replay|check|play|play-fair|verify|judge < FILE: the commands of `awreg`, and `verify` and `judge` of `awshow`, from
 the library."""
 import sys
+from typing import Callable
 
-from . import check, play, play_fair, replay, verify
+from . import Told, check, play, play_fair, replay, verify
 from .histories import judged
 
-COMMANDS = {"replay": replay, "check": check, "play": play, "play-fair": play_fair, "verify": verify, "judge": judged}
+COMMANDS: dict[str, Callable[[bytes], Told]] = {
+    "replay": replay, "check": check, "play": play, "play-fair": play_fair, "verify": verify, "judge": judged
+}
 
 
 def main(words: list[str]) -> int:

@@ -12,11 +12,12 @@ the order in which they happened:
 import ctypes
 import json
 from dataclasses import dataclass
-from typing import Any, Iterable, Literal, Mapping, Sequence, TypedDict, Union
+from typing import Any, Iterable, Literal, Mapping, Optional, Sequence, TypedDict, Union
 
 from . import Told, _Lengths, _library, _told_by
 
 Word = Union[int, str, None]
+_USUAL: Any = object()  # no first value was given
 
 
 class _Named(TypedDict):
@@ -54,11 +55,16 @@ def _lines(rows: Iterable[Mapping[str, object]]) -> str:
     return "".join(json.dumps(dict(row), allow_nan=False) + "\n" for row in rows)
 
 
-def judged(history: bytes, report: bool = False) -> Told:
-    """What `awshow judge` tells of a text, and with `report` what `awshow judge --report` does."""
+def judged(history: bytes, report: bool = False, first: Optional[str] = None) -> Told:
+    """What `awshow judge` tells of a text, with `report` as of the flag `--report`, and with a text as of `--first`."""
 
     def call(room: Any, size: int, line: Any, line_size: int, lengths: _Lengths) -> int:
-        status: int = _library.tellwydar_judge(history, len(history), report, room, size, line, line_size, ctypes.byref(lengths))
+        rest = report, room, size, line, line_size, ctypes.byref(lengths)
+        if first is None:
+            status: int = _library.tellwydar_judge(history, len(history), *rest)
+        else:
+            value = first.encode()
+            status = _library.tellwydar_judge_from(history, len(history), value, len(value), *rest)
         return status
 
     if not isinstance(history, bytes):
@@ -66,13 +72,18 @@ def judged(history: bytes, report: bool = False) -> Told:
     return _told_by(len(history), call)
 
 
-def judge(history: Union[str, bytes, Iterable[Mapping[str, object]]], *, report: bool = False) -> Judgement:
+def judge(
+    history: Union[str, bytes, Iterable[Mapping[str, object]]], *, report: bool = False, first: Word = _USUAL
+) -> Judgement:
     """Judges a history: a text, or rows, which are written as lines of JSON.
 
+    `first` is the first value of registers; where it isn't given that is null, or None in rows, if some answer is null or
+    a compare-and-swap expects null, and else 0. A report, whose registers begin with 0, takes none.
     With `report` the text of a linearizable history is a report with the points that were found, which `check` judges
     anew. A history that is none raises HistoryRefused."""
     text = history if isinstance(history, (str, bytes)) else _lines(history)
-    told = judged(text.encode() if isinstance(text, str) else text, report)
+    first_text = None if first is _USUAL else json.dumps(first, allow_nan=False)
+    told = judged(text.encode() if isinstance(text, str) else text, report, first_text)
     is_refused = told.line or told.status != 0 and not told.answer.startswith(b"no\n")
     if is_refused:
         raise HistoryRefused(told.line.decode().rstrip("\n") or "refused: out of memory")

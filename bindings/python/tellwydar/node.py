@@ -18,7 +18,7 @@ from dataclasses import dataclass
 from typing import Any, Callable, List, Optional, Sequence, Tuple, Union
 
 from . import (
-    _CALLS, _REFUSALS, _ROOM, CompareAndSwap, Front, Known, Op, Refused, Reply, _framed, _Handle, _library, _ranged,
+    _CALLS, _REFUSALS, _ROOM, CompareAndSwap, Front, Known, Op, Refused, Reply, _framed, _library, _Progress, _ranged,
     _reply,
 )
 
@@ -89,15 +89,16 @@ class Output:
     reply: Optional[Reply]
 
 
-class Node(_Handle):
-    """A node that goes on after its log. It is used by the thread that opened it alone, as its bytes have one order."""
+class Node(_Progress):
+    """A node that goes on after its log. It is used by the thread that opened it alone, as its bytes have one order,
+    unless its owner guards it by a lock of his own."""
 
     # (an entry's line has at most 151 bytes)
     _BYTES = 160
 
-    def __init__(self) -> None:
+    def __init__(self, guarded: bool) -> None:
         super().__init__(_library.tellwydar_node_new, _library.tellwydar_node_close)
-        self._thread = threading.get_ident()
+        self._thread = None if guarded else threading.get_ident()
         self._line: Any = ctypes.create_string_buffer(self._BYTES)
         self._room = ctypes.create_string_buffer(_ROOM)
 
@@ -119,14 +120,15 @@ class Node(_Handle):
         return room.raw[: length.value]
 
     @classmethod
-    def open(cls, log: bytes, durable: int) -> "Node":
+    def open(cls, log: bytes, durable: int, *, guarded: bool = False) -> "Node":
         """A node that goes on after its log, all of whose entries count as durable, so see that they are; `durable` is
         how many were told so before. The log is `log[: node.whole]`: what a crash left behind that is to be cut off
-        before more is written."""
+        before more is written. With `guarded` threads share the node: its owner has a lock, and each holds it from a
+        step until the step's bytes are in their place."""
         if not isinstance(log, (bytes, bytearray)):
             raise TypeError("a log is bytes")
         text = bytes(log)
-        node = cls()
+        node = cls(guarded)
         code = node._asked(_library.tellwydar_node_open, text, len(text), _ranged(durable, 64))
         if code:
             place = node._look(14)
@@ -138,7 +140,7 @@ class Node(_Handle):
         return self
 
     def _asked(self, function: Callable[..., int], *numbers: Union[int, bytes]) -> int:
-        if threading.get_ident() != self._thread:
+        if self._thread not in (None, threading.get_ident()):
             raise RuntimeError("a node is used by the thread that opened it alone")
         return super()._asked(function, *numbers)
 
@@ -152,7 +154,7 @@ class Node(_Handle):
     def _step(self, function: Callable[..., int], *numbers: Union[int, bytes]) -> bytes:
         self._told(self._asked(function, *numbers))
         count = self._asked(_library.tellwydar_node_bytes, self._line, self._BYTES)
-        return bytes(self._line.raw[:count])
+        return ctypes.string_at(self._line, count)
 
     def call(self, op: Op) -> bytes:
         """Calls an operation, and gives the bytes by which the log grows."""
@@ -213,20 +215,6 @@ class Node(_Handle):
     def has_heard_all(self) -> bool:
         """Whether it has heard from all others, and so may cast."""
         return self._look(12) != 0
-
-    @property
-    def busy(self) -> bool:
-        """Whether an operation runs."""
-        return self._look(4) != 0
-
-    @property
-    def pending(self) -> int:
-        """How many data frames are not acknowledged, over all links."""
-        return self._look(3)
-
-    def register(self, register: int) -> int:
-        """The value of a register in its copy."""
-        return self._look(5, _ranged(register, 16))
 
     def known(self, peer: int) -> Known:
         """What its process knows of another one."""

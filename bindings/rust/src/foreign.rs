@@ -32,6 +32,16 @@ pub struct PointRow {
     process: u8,
 }
 
+#[repr(C)]
+pub struct LogRow {
+    pub cluster: u64,
+    pub chapter: u64,
+    pub begun: u64,
+    pub front: u32,
+    pub processes: u32,
+    pub process: u8,
+}
+
 /// What a handle points to.
 #[derive(Debug)]
 #[repr(C)]
@@ -82,7 +92,9 @@ unsafe extern "C" {
     pub fn tellwydar_check(text: *const u8, text_length: usize, output: *mut u8, output_length: usize, errors: *mut u8, errors_length: usize, lengths: *mut Lengths) -> u8;
     pub fn tellwydar_play(text: *const u8, text_length: usize, output: *mut u8, output_length: usize, errors: *mut u8, errors_length: usize, lengths: *mut Lengths) -> u8;
     pub fn tellwydar_verify(text: *const u8, text_length: usize, output: *mut u8, output_length: usize, errors: *mut u8, errors_length: usize, lengths: *mut Lengths) -> u8;
+    pub fn tellwydar_merge(text: *const u8, text_length: usize, output: *mut u8, output_length: usize, errors: *mut u8, errors_length: usize, lengths: *mut Lengths) -> u8;
     pub fn tellwydar_judge(text: *const u8, text_length: usize, report: u8, output: *mut u8, output_length: usize, errors: *mut u8, errors_length: usize, lengths: *mut Lengths) -> u8;
+    pub fn tellwydar_judge_from(text: *const u8, text_length: usize, first: *const u8, first_length: usize, report: u8, output: *mut u8, output_length: usize, errors: *mut u8, errors_length: usize, lengths: *mut Lengths) -> u8;
     pub fn tellwydar_play_fair(text: *const u8, text_length: usize, output: *mut u8, output_length: usize, errors: *mut u8, errors_length: usize, lengths: *mut Lengths) -> u8;
     pub fn tellwydar_check_serial_expecting(processes: u32, registers: u32, entries: *const EntryRow, entries_length: usize, expected: *const u64, expected_length: usize, ids: *const IdRow, ids_length: usize, place: *mut usize) -> u32;
     pub fn tellwydar_check_points_expecting(processes: u32, registers: u32, entries: *const EntryRow, entries_length: usize, expected: *const u64, expected_length: usize, points: *const PointRow, points_length: usize, place: *mut usize) -> u32;
@@ -101,5 +113,27 @@ unsafe extern "C" {
     pub fn tellwydar_process_look(handle: *mut Opaque, what: u32, register: u16) -> u64;
     pub fn tellwydar_process_known(handle: *mut Opaque, what: u32, peer: u8) -> u64;
     pub fn tellwydar_process_close(handle: *mut Opaque);
+    pub fn tellwydar_node_begin(
+        log: *const LogRow,
+        names: *const u8,
+        names_length: usize,
+        room: *mut u8,
+        room_length: usize,
+        length: *mut usize,
+    ) -> u32;
+    pub fn tellwydar_node_new(handle: *mut *mut Opaque) -> u32;
+    pub fn tellwydar_node_open(handle: *mut Opaque, text: *const u8, text_length: usize, durable: u64) -> u32;
+    pub fn tellwydar_node_call(handle: *mut Opaque, kind: u32, register: u32, value: u64) -> u32;
+    pub fn tellwydar_node_compare_and_swap(handle: *mut Opaque, register: u32, expected: u64, value: u64) -> u32;
+    pub fn tellwydar_node_take(handle: *mut Opaque, from: u8, bytes: *const u8, bytes_length: usize) -> u32;
+    pub fn tellwydar_node_tick(handle: *mut Opaque) -> u32;
+    pub fn tellwydar_node_bytes(handle: *mut Opaque, room: *mut u8, room_length: usize) -> usize;
+    pub fn tellwydar_node_mark_durable(handle: *mut Opaque, count: u64) -> u32;
+    pub fn tellwydar_node_hand_out(handle: *mut Opaque) -> u32;
+    pub fn tellwydar_node_frames(handle: *mut Opaque, room: *mut u8, room_length: usize, length: *mut usize) -> u32;
+    pub fn tellwydar_node_hear(handle: *mut Opaque, other: u8, count: u64) -> u32;
+    pub fn tellwydar_node_look(handle: *mut Opaque, what: u32, register: u16) -> u64;
+    pub fn tellwydar_node_known(handle: *mut Opaque, what: u32, peer: u8) -> u64;
+    pub fn tellwydar_node_close(handle: *mut Opaque);
     pub fn free(block: *mut Opaque);
 }

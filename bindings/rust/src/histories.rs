@@ -128,8 +128,25 @@ pub struct Judgement {
     pub text: String,
 }
 
-fn judge_text(history: &[u8], report: bool) -> Result<Judgement, String> {
-    let told = judged(history, report);
+/// How a history is to be judged.
+#[derive(Clone, Debug, Default, PartialEq, Eq)]
+pub struct Judging {
+    /// The first value of registers, or none for the usual one: null if some answer is null or a compare-and-swap expects
+    /// null, and else 0.
+    pub first: Option<Word>,
+    /// Whether the text of a linearizable history is a report with the points that were found, which `check` judges anew.
+    pub report: bool,
+}
+
+/// Judges what a system answered its clients: lines of JSON, EDN as Jepsen writes it, or a report, whose registers begin
+/// with 0, so that one with a first value is refused.
+///
+/// # Errors
+///
+/// The line of the refusal: it names the first line that is wrong, and what was wanted; or says that memory was refused.
+pub fn judge_with(history: &[u8], judging: &Judging) -> Result<Judgement, String> {
+    let first = judging.first.as_ref().map(Word::to_string);
+    let told = judged(history, first.as_deref(), judging.report);
     let text = |bytes: &[u8]| String::from_utf8_lossy(bytes).into_owned();
     let is_linearizable = told.status == 0;
     if told.line.is_empty() && (is_linearizable || told.answer.starts_with(b"no\n")) {
@@ -143,9 +160,9 @@ fn judge_text(history: &[u8], report: bool) -> Result<Judgement, String> {
 ///
 /// # Errors
 ///
-/// The line of the refusal: it names the first line that is wrong, and what was wanted; or says that memory was refused.
+/// As of `judge_with`.
 pub fn judge(history: &[u8]) -> Result<Judgement, String> {
-    judge_text(history, false)
+    judge_with(history, &Judging::default())
 }
 
 /// The same, but the text of a linearizable history is a report with the points that were found: `check` judges it anew.
@@ -154,7 +171,7 @@ pub fn judge(history: &[u8]) -> Result<Judgement, String> {
 ///
 /// As of `judge`.
 pub fn judge_report(history: &[u8]) -> Result<Judgement, String> {
-    judge_text(history, true)
+    judge_with(history, &Judging { report: true, ..Judging::default() })
 }
 
 /// Judges rows, in the order in which they happened. They are written as lines of JSON.

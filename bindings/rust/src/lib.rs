@@ -3,8 +3,9 @@
 //! Each process of a [`World`] keeps a copy of all registers, and keeps it in step by Lamport's totally ordered multicast. One steps a
 //! world by events: calls of operations, takes of frames, ticks. A [`History`](Entry) of one's own is judged by [`check_serial`] and
 //! [`check_points`]. The commands of the program `awreg` are [`replay`], [`check`], [`play`] and [`play_fair`]. A [`Process`] is one
-//! process alone, whose frames one carries oneself; what such processes did is judged by [`verify`]. What any system
-//! answered its clients is judged by [`judge`] and [`judge_rows`].
+//! process alone, whose frames one carries oneself; what such processes did is put into one order by [`merge`] and judged
+//! by [`verify`]. A [`LoggedNode`] is a process that outlives crashes by its log. What any system answered its clients
+//! is judged by [`judge`] and [`judge_rows`].
 //!
 //! ```
 //! use tellwydar::{Answer, Event, Linear, Op, World};
@@ -23,15 +24,19 @@
 
 mod checkers;
 mod foreign;
+mod fronts;
 mod histories;
+mod nodes;
 mod processes;
 mod texts;
 mod worlds;
 
 pub use checkers::{Fault, check_points, check_serial};
-pub use histories::{Call, End, Judgement, Row, Word, judge, judge_report, judge_rows};
-pub use processes::{Known, Process};
-pub use texts::{Told, check, play, play_fair, replay, verify};
+pub use fronts::{FrontEnd, NoFrontEnd};
+pub use histories::{Call, End, Judgement, Judging, Row, Word, judge, judge_report, judge_rows, judge_with};
+pub use nodes::{LogFault, LogHead, LoggedNode, Output};
+pub use processes::{Frames, Known, Process};
+pub use texts::{Told, check, merge, play, play_fair, replay, verify};
 pub use worlds::{Event, Front, Linear, LocalRead, LocalWrite, RealTime, Refused, Reply, World};
 
 /// What a process calls.

@@ -5,8 +5,49 @@ use crate::{Answer, Front, Op, Refused, Reply};
 use std::marker::PhantomData;
 use std::ptr::NonNull;
 
-/// 63 links, 16 frames each, of at most 40 bytes and one for the receiver.
-const ROOM: usize = 63 * 16 * 41;
+/// Room for the frames of a step: 63 links, 16 frames each, of at most 40 bytes and one for the receiver.
+pub(crate) const ROOM: usize = 63 * 16 * 41;
+
+/// The frames of a step, in their order, each with its receiver.
+#[derive(Clone, Debug)]
+pub struct Frames<'a>(pub(crate) &'a [u8]);
+
+impl<'a> Iterator for Frames<'a> {
+    type Item = (u8, &'a [u8]);
+
+    fn next(&mut self) -> Option<Self::Item> {
+        let [to, high, low, ..] = *self.0 else { return None };
+        let (first, rest) = self.0.split_at_checked(3 + usize::from(u16::from_be_bytes([high, low])))?;
+        self.0 = rest;
+        Some((to, &first[1..]))
+    }
+}
+
+/// Calls one of two functions with the numbers of an operation; the second takes a compare-and-swap.
+pub(crate) fn with_numbers(
+    op: Op,
+    call: impl FnOnce(u32, u32, u64) -> u32,
+    compare_and_swap: impl FnOnce(u32, u64, u64) -> u32,
+) -> u32 {
+    match op {
+        Op::Read { register } => call(0, register.into(), 0),
+        Op::Write { register, value } => call(1, register.into(), value),
+        Op::Swap { register, value } => call(2, register.into(), value),
+        Op::CompareAndSwap { register, expected, value } => compare_and_swap(register.into(), expected, value),
+    }
+}
+
+/// The reply that a number says, whose value and place are looked up, or why there is none.
+pub(crate) fn reply_of(code: u32, look: impl Fn(u32) -> u64) -> Result<Option<Reply>, Refused> {
+    let answer = match code {
+        0 => return Ok(None),
+        1 => Answer::Done,
+        2 => Answer::Value(look(6)),
+        3 => Answer::Unequal,
+        code => return Err(refused(code)),
+    };
+    Ok(Some(Reply { answer, place: look(7) }))
+}
 
 /// What a process knows of another one.
 #[derive(Clone, Copy, Debug, PartialEq, Eq)]
@@ -69,19 +110,13 @@ impl<F: Front> Process<F> {
     /// The first fault that applies; as of every step, the process is as before, but after `OutOfMemory` and `ClockFull`.
     pub fn call(&mut self, op: Op) -> Result<Option<Reply>, Refused> {
         let handle = self.handle.as_ptr();
-        let (kind, register, value) = match op {
-            Op::Read { register } => (0, register, 0),
-            Op::Write { register, value } => (1, register, value),
-            Op::Swap { register, value } => (2, register, value),
-            Op::CompareAndSwap { register, expected, value } => {
-                // SAFETY: as below.
-                let code = unsafe { foreign::tellwydar_process_compare_and_swap(handle, register.into(), expected, value) };
-                return self.told(code);
-            }
-        };
         // SAFETY: the handle is of `tellwydar_process_new`, and `&mut self` lends it to one call.
-        let code = unsafe { foreign::tellwydar_process_call(handle, kind, register.into(), value) };
-        self.told(code)
+        let call = |kind, register, value| unsafe { foreign::tellwydar_process_call(handle, kind, register, value) };
+        // SAFETY: as above.
+        let compare_and_swap = |register, expected, value| unsafe {
+            foreign::tellwydar_process_compare_and_swap(handle, register, expected, value)
+        };
+        self.told(with_numbers(op, call, compare_and_swap))
     }
 
     /// Takes a frame that the process `from` put for this one, as often and in whatever order.
@@ -110,14 +145,7 @@ impl<F: Front> Process<F> {
         if code != 0 {
             return Err(refused(code));
         }
-        let mut told = &self.room[..length];
-        let mut frames = Vec::new();
-        while let [to, high, low, ..] = *told {
-            let end = 3 + usize::from(u16::from_be_bytes([high, low]));
-            frames.push((to, told[1..end].to_vec()));
-            told = &told[end..];
-        }
-        Ok(frames)
+        Ok(Frames(&self.room[..length]).map(|(to, frame)| (to, frame.to_vec())).collect())
     }
 
     /// The time of its clock.
@@ -158,17 +186,11 @@ impl<F: Front> Process<F> {
     }
 
     fn told(&mut self, code: u32) -> Result<Option<Reply>, Refused> {
-        match code {
-            0 => Ok(None),
-            1 => Ok(Some(Reply { answer: Answer::Done, place: self.look(7, 0) })),
-            2 => Ok(Some(Reply { answer: Answer::Value(self.look(6, 0)), place: self.look(7, 0) })),
-            3 => Ok(Some(Reply { answer: Answer::Unequal, place: self.look(7, 0) })),
-            code => Err(refused(code)),
-        }
+        reply_of(code, |what| self.look(what, 0))
     }
 
-    fn look(&mut self, what: u32, register: u16) -> u64 {
-        // SAFETY: as in `call`.
+    fn look(&self, what: u32, register: u16) -> u64 {
+        // SAFETY: as in `call`: the type stays on its thread, so no other call goes on.
         unsafe { foreign::tellwydar_process_look(self.handle.as_ptr(), what, register) }
     }
 }

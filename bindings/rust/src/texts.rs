@@ -1,4 +1,4 @@
-//! The commands of `awreg` over texts, and `verify` and `judge` of `awshow`.
+//! The commands of `awreg` over texts, and `verify`, `merge` and `judge` of `awshow`.
 use crate::foreign::{self, Command, Lengths};
 
 /// What a command told.
@@ -34,11 +34,21 @@ fn tell(command: Command, text: &[u8]) -> Told {
     told_by(text.len(), |answer, line, lengths| unsafe { command(text.as_ptr(), text.len(), answer.as_mut_ptr(), answer.len(), line.as_mut_ptr(), line.len(), lengths) })
 }
 
-/// What the judge of histories tells of a text: with `report`, of a linearizable one its report.
-pub(crate) fn judged(history: &[u8], report: bool) -> Told {
+/// What the judge of histories tells of a text: with `report`, of a linearizable one its report. `first` is the first
+/// value of registers, as JSON has it, or none for the usual one.
+pub(crate) fn judged(history: &[u8], first: Option<&str>, report: bool) -> Told {
+    let report = report.into();
     // SAFETY: as in `tell`.
     told_by(history.len(), |answer, line, lengths| unsafe {
-        foreign::tellwydar_judge(history.as_ptr(), history.len(), report.into(), answer.as_mut_ptr(), answer.len(), line.as_mut_ptr(), line.len(), lengths)
+        let (text, length) = (history.as_ptr(), history.len());
+        let (room, size, errors, errors_size) = (answer.as_mut_ptr(), answer.len(), line.as_mut_ptr(), line.len());
+        match first {
+            None => foreign::tellwydar_judge(text, length, report, room, size, errors, errors_size, lengths),
+            Some(first) => {
+                let (first, first_length) = (first.as_ptr(), first.len());
+                foreign::tellwydar_judge_from(text, length, first, first_length, report, room, size, errors, errors_size, lengths)
+            }
+        }
     })
 }
 
@@ -65,4 +75,10 @@ pub fn play_fair(workload: &[u8]) -> Told {
 /// Judges a record of processes that ran apart: the answer is the report of the run that it is.
 pub fn verify(record: &[u8]) -> Told {
     tell(foreign::tellwydar_verify, record)
+}
+
+/// Puts the steps of a record into an order that is a run, those of each process in their own order: the answer is the
+/// record in that order. Where there is none, the line names a step that is in none.
+pub fn merge(record: &[u8]) -> Told {
+    tell(foreign::tellwydar_merge, record)
 }

@@ -68,8 +68,8 @@ pub struct Reply {
     pub place: u64,
 }
 
-/// Why an event, a world or a process is refused. Nothing has changed, but after `OutOfMemory` and `ClockFull` the world or the process has
-/// stopped, and answers `Failed`.
+/// Why an event, a world, a process or a node is refused. Nothing has changed, but after `OutOfMemory` and `ClockFull` the
+/// world or the process has stopped, and answers `Failed`.
 #[derive(Clone, Copy, Debug, PartialEq, Eq)]
 pub enum Refused {
     Failed,
@@ -90,6 +90,22 @@ pub enum Refused {
     NotAFrame,
     /// Not 1 to 64 processes, or not 1 to 4,096 registers.
     NoShape,
+    /// Of a node: it stopped before, since there was no memory for the text of an entry.
+    Stopped,
+    /// Of a node: it made a step and stops here, since there was no memory for the text of its entry.
+    Unspelled,
+    /// Of a node, which has stopped: another process accepted more than was ever queued for it.
+    LogLost,
+    /// Of a node: the operation would be cast, and it hasn't heard from all others yet.
+    Unheard,
+    /// Of a node: its log has 1,048,576 entries.
+    LogFull,
+    /// Of a node: there was no memory before the step.
+    NoRoom,
+    /// Of a node: its log has fewer entries.
+    NotLogged,
+    /// These aren't 1 to 4,096 names of 1 to 16 letters a to z, which differ.
+    BadNames,
 }
 
 impl fmt::Display for Refused {
@@ -108,6 +124,14 @@ impl fmt::Display for Refused {
             Self::ClockFull => "clock full",
             Self::NotAFrame => "not a frame",
             Self::NoShape => "no shape",
+            Self::Stopped => "stopped",
+            Self::Unspelled => "unspelled",
+            Self::LogLost => "log lost",
+            Self::Unheard => "unheard",
+            Self::LogFull => "log full",
+            Self::NoRoom => "no room",
+            Self::NotLogged => "not logged",
+            Self::BadNames => "bad names",
         })
     }
 }
@@ -128,6 +152,14 @@ pub(crate) fn refused(code: u32) -> Refused {
         26 => Refused::ClockFull,
         48 => Refused::NotAFrame,
         34 => Refused::NoShape,
+        64 => Refused::Stopped,
+        65 => Refused::Unspelled,
+        66 => Refused::LogLost,
+        67 => Refused::Unheard,
+        68 => Refused::LogFull,
+        69 => Refused::NoRoom,
+        70 => Refused::NotLogged,
+        76 => Refused::BadNames,
         _ => Refused::OutOfMemory,
     }
 }

@@ -46,6 +46,12 @@ fn histories() {
     let edn = b"{:process 0, :type :invoke, :f :read, :value nil}\n{:process 0, :type :ok, :f :read, :value nil}\n";
     let report = judge_report(edn).expect("a history");
     assert_eq!(check(report.text.as_bytes()).answer, b"serial yes\npoints yes\n");
+    let five = b"{\"process\": 0, \"type\": \"invoke\", \"f\": \"read\"}\n{\"process\": 0, \"type\": \"ok\", \"f\": \"read\", \"value\": 5}\n";
+    let first = |value: i32| Judging { first: Some(value.into()), report: false };
+    assert!(!judge(five).expect("a history").is_linearizable);
+    assert!(judge_with(five, &first(5)).expect("a history").is_linearizable);
+    assert!(!judge_with(five, &first(6)).expect("a history").is_linearizable);
+    assert!(judge_with(report.text.as_bytes(), &first(0)).is_err_and(|line| line.starts_with("refused: --first is for lines")));
     assert_eq!(judge(b"{}\n"), Err("refused: line 1: wanted process, an integer or a string".to_owned()));
 }
 
@@ -206,7 +212,7 @@ fn run<F: Front>(processes: u8, seed: u64) -> (World<F>, Vec<Event>) {
 fn agree<F: Front>(front: &str, points: impl Fn(&mut World<F>) -> Option<Vec<Point>>) {
     for seed in 1..=112 {
         for processes in [1, 2, 3] {
-            let (mut world, events) = run::<F>(processes, seed * 0x9E37_79B9_7F4A_7C15);
+            let (mut world, events) = run::<F>(processes, 0x9E37_79B9_7F4A_7C15_u64.wrapping_mul(seed));
             let report = replay(schedule(front, processes, &events).as_bytes());
             assert_eq!((report.status, report.line.len()), (0, 0));
             let (history, order, points) = (world.history(), world.serial_order().expect("memory"), points(&mut world));

@@ -1,7 +1,11 @@
-"""One process a machine, over ZeroMQ, and an order from the logs, judged afterwards by a run of the library."""
-from .core import Refused
-from .node import Busy, Closed, Node, Paused, TimedOut
+"""One process a machine, over ZeroMQ or UDP. Its steps and its log are those of a proved node (`tellwydar.Node`), and
+the library judges the logs of all afterwards. What nodes send each other is written in `messages`."""
+from .. import Refused
+from .core import Busy, Closed, NodeFailed, Paused, TimedOut
+from .logfile import LogFault
+from .node import Node
 from .road import Keys, LossyRoad, Road
-from .story import NodeFailed
 
-__all__ = ["Busy", "Closed", "Keys", "LossyRoad", "Node", "NodeFailed", "Paused", "Refused", "Road", "TimedOut"]
+__all__ = [
+    "Busy", "Closed", "Keys", "LogFault", "LossyRoad", "Node", "NodeFailed", "Paused", "Refused", "Road", "TimedOut",
+]

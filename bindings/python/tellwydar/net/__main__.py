@@ -1,32 +1,32 @@
-"""python3 -m tellwydar.net node --me 0 --config cluster.toml --log FILE [--script FILE] ..
+"""python3 -m tellwydar.net node --me 0 --config cluster.toml --log FILE [--script FILE | --socket FILE] ..
+python3 -m tellwydar.net client SOCKET < LINES
 python3 -m tellwydar.net merge [--cut] LOG.. > report
 python3 -m tellwydar.net story REPORT..
 python3 -m tellwydar.net keys FILE"""
 import argparse
+import contextlib
 import os
 import signal
 import sys
 import threading
 import time
 import tomllib
-from typing import Callable, Dict, List, Optional, TextIO
+from typing import List, TextIO
 
-from .. import check
-from . import core, log, merge, road
+from .. import Refused, check
+from . import judge, port, road
+from .calls import WORDS, perform
 from .chapters import StoryFault, check_story
-from .node import CHAPTER_ENTRIES, CHAPTER_OPERATIONS, AnyRoad, Closed, Node
+from .core import Closed, NodeFailed, answer_text, say
+from .logfile import LogFault
+from .node import AnyRoad, Node
 from .road import Keys, LossyRoad, RoadFault
-from .story import NodeFailed
-
-
-def say(text: str) -> None:
-    print(text, file=sys.stderr, flush=True)
 
 
 def node_of(a: argparse.Namespace) -> Node:
     with open(a.config, "rb") as file:
         config = tomllib.load(file)
-    for key in ("front", "registers", "node"):
+    for key in ("cluster", "front", "registers", "node"):
         if key not in config:
             raise RoadFault(f"{a.config}: no {key}")
     nodes = config["node"]
@@ -44,8 +44,9 @@ def node_of(a: argparse.Namespace) -> Node:
 
     return Node(
         config["front"], config["registers"], a.me, [n["address"] for n in nodes], keys, a.log,
-        sync=a.sync or config.get("sync", False), look=config.get("look_ms", 10) / 1000, resume=a.resume, lossy=lossy, say=say,
-        chapter_operations=config.get("chapter_operations", CHAPTER_OPERATIONS), chapter_entries=config.get("chapter_entries", CHAPTER_ENTRIES),
+        cluster=config["cluster"], sync=a.sync or config.get("sync", False), resume=a.resume, lossy=lossy,
+        look=config.get("look_ms", 10) / 1000,
+        chapter_operations=config.get("chapter_operations"), chapter_entries=config.get("chapter_entries"),
     )
 
 
@@ -57,7 +58,7 @@ def run_script(node: Node, lines: List[str], out: TextIO) -> None:
     """Makes the calls of a script. A node that was resumed goes on where its log ends."""
     called, going_on = node.so_far()
     if going_on:
-        print(core.answer_text(node.wait()), file=out, flush=True)
+        print(answer_text(node.wait()), file=out, flush=True)
     for number, line in enumerate(lines, 1):
         words = line.split()
         if not words or words[0].startswith("#"):
@@ -65,19 +66,14 @@ def run_script(node: Node, lines: List[str], out: TextIO) -> None:
         if called > 0:
             called -= words[0] != "sleep"
             continue
-        calls: Dict[str, Callable[..., core.Answer]] = {
-            "read": node.read, "write": node.write, "swap": node.swap, "cas": lambda *it: None if node.compare_and_swap(*it) else core.UNEQUAL,
-        }
         try:
             if words[0] == "sleep":
                 time.sleep(float(words[1]))
                 continue
-            if len(words) != {"read": 2, "write": 3, "swap": 3, "cas": 4}.get(words[0]):
-                raise ValueError("no call")
-            answer = calls[words[0]](words[1], *map(int, words[2:]))
-        except (ValueError, IndexError, core.Refused) as why:
+            answer = perform(node, WORDS.call(line, node.registers))
+        except (ValueError, IndexError, Refused) as why:
             raise ScriptFault(f"line {number}: {line.strip()}: {why}") from None
-        print(core.answer_text(answer), file=out, flush=True)
+        print(answer_text(answer), file=out, flush=True)
     print("end", file=out, flush=True)
 
 
@@ -100,6 +96,18 @@ def tell_story(paths: List[str]) -> int:
     return 0
 
 
+def ask(path: str) -> int:
+    """Has the node at this socket answer the lines of the standard input."""
+    try:
+        for answer in port.answers(path, sys.stdin.buffer):
+            sys.stdout.buffer.write(answer)
+            sys.stdout.buffer.flush()
+    except OSError as why:
+        say(f"{path}: {why.strerror or why}")
+        return 1
+    return 0
+
+
 def main(words: List[str]) -> int:
     parser = argparse.ArgumentParser(prog="python3 -m tellwydar.net", description=__doc__, formatter_class=argparse.RawDescriptionHelpFormatter)
     sub = parser.add_subparsers(dest="word", required=True)
@@ -107,11 +115,15 @@ def main(words: List[str]) -> int:
     p.add_argument("--me", type=int, required=True)
     p.add_argument("--config", required=True)
     p.add_argument("--log", required=True)
-    p.add_argument("--script")
+    given = p.add_mutually_exclusive_group()
+    given.add_argument("--script", help="makes the calls of this file")
+    given.add_argument("--socket", help="programs on this machine call it here")
     p.add_argument("--secret")
     p.add_argument("--sync", action="store_true", help="each entry is on the disk before its frames go out")
     p.add_argument("--resume", action="store_true", help="go on from the log")
     p.add_argument("--lossy", help="for tests: SEED,LOSS%%,DUPLICATES%%,REORDER%%,DELAY_MS")
+    p = sub.add_parser("client", help="has a node answer the lines of the standard input")
+    p.add_argument("socket")
     p = sub.add_parser("merge", help="prints the report of the run that the logs are")
     p.add_argument("--cut", action="store_true", help="where no order has all entries, the report of those that one has")
     p.add_argument("logs", nargs="+")
@@ -127,15 +139,15 @@ def main(words: List[str]) -> int:
         os.close(made)
         print(f'key = "{public.decode()}"')
         return 0
+    if a.word == "client":
+        return ask(a.socket)
     if a.word == "merge":
         try:
-            status, report, fault = merge.merge(a.logs, say, a.cut)
-        except (merge.MergeFault, log.LogFault, OSError) as why:
+            sys.stdout.buffer.write(judge.judge(a.logs, say, a.cut))
+        except (LogFault, OSError) as why:
             say(str(why))
             return 1
-        sys.stdout.buffer.write(report)
-        sys.stderr.buffer.write(fault)
-        return status
+        return 0
     if a.word == "story":
         return tell_story(a.reports)
     end, faults = threading.Event(), []
@@ -150,7 +162,9 @@ def main(words: List[str]) -> int:
     for number in (signal.SIGTERM, signal.SIGINT):
         signal.signal(number, lambda *_: end.set())
     try:
-        with node_of(a) as node:
+        with node_of(a) as node, contextlib.ExitStack() as opened:
+            if a.socket:
+                opened.enter_context(port.Port(node, a.socket))
             if not a.sync:
                 say("without --sync a crash of the machine may lose entries that others have seen; a crash of this program loses none")
             if a.script:
@@ -161,7 +175,7 @@ def main(words: List[str]) -> int:
         if faults:
             say(str(faults[0]))
             return 1
-    except (NodeFailed, RoadFault, log.LogFault, OSError, core.Refused, ValueError) as why:
+    except (NodeFailed, RoadFault, LogFault, OSError, Refused, TypeError, ValueError) as why:
         say(str(why))
         return 1
     return 0

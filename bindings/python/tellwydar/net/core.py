@@ -1,23 +1,38 @@
-"""What a node asks of the library: its process. All that decides an answer stands behind it."""
-from typing import TYPE_CHECKING, Optional
+"""What the modules of a node share: exceptions, names of front ends, answers as texts, and where odd lines go."""
+import contextlib
+import sys
 
-from .. import UNEQUAL, Answer, CompareAndSwap, Front, Op, Process, Read, Refused, Reply, Swap, Write
-
-if TYPE_CHECKING:
-    from . import log
-
-__all__ = [
-    "CAS", "FRONTS", "KINDS", "READ", "SWAP", "STOPS", "UNEQUAL", "WRITE", "Answer", "Front", "Process", "Refused", "Reply", "answer_text", "front_of",
-    "operation", "step",
-]
+from .. import UNEQUAL, Answer, Front
 
 FRONTS = ("linear", "local-read", "local-write")
-READ, WRITE, SWAP, CAS = 0, 1, 2, 3
-KINDS = ("read", "write", "swap", "cas")
-STOPS = ("failed", "out of memory", "clock full")  # after these a process has stopped for good
+# (after these a node has stopped for good)
+STOPS = ("failed", "out of memory", "clock full", "stopped", "unspelled", "log lost", "log full")
+
+
+class Busy(Exception):
+    """Another operation goes on, or its answer wasn't fetched by `wait`. This one was not made."""
+
+
+class TimedOut(Exception):
+    """No answer yet. The operation goes on; `wait` gives its answer."""
+
+
+class Paused(Exception):
+    """Nothing was called in time: a chapter ended meanwhile, not all other nodes were heard, or they were too far
+    behind with what this node cast."""
+
+
+class Closed(Exception):
+    """The node was closed."""
+
+
+class NodeFailed(Exception):
+    """The node stopped: its process stopped for good, its log was lost, or can't be written."""
 
 
 def front_of(name: str) -> Front:
+    if name not in FRONTS:
+        raise ValueError(f"{name!r} is no front end: {', '.join(FRONTS)}")
     return Front(FRONTS.index(name))
 
 
@@ -26,18 +41,8 @@ def answer_text(answer: Answer) -> str:
     return "done" if answer is None else "unequal" if answer is UNEQUAL else f"value {answer}"
 
 
-def operation(kind: int, register: int, value: int, expected: int = 0) -> Op:
-    """The operation of this kind: only a compare-and-swap expects a value."""
-    if kind == CAS:
-        return CompareAndSwap(register, expected, value)
-    return Read(register) if kind == READ else (Write, Swap)[kind - WRITE](register, value)
-
-
-def step(process: Process, entry: "log.Entry") -> Optional[Reply]:
-    """Makes the step of a log's entry."""
-    if entry.step == "call":
-        return process.call(operation(entry.process, entry.register, entry.value, entry.expected))
-    if entry.step == "take":
-        return process.take(entry.process, entry.frame)
-    process.tick()
-    return None
+def say(text: str) -> None:
+    """Says a line on the error stream, if anybody reads that."""
+    if sys.stderr is not None:  # (else `print` takes the stream of the answers)
+        with contextlib.suppress(OSError):
+            print(text, file=sys.stderr, flush=True)

@@ -89,7 +89,7 @@ class Complaints:
     def __call__(self, kind: str, text: str) -> None:
         count = self.counts[kind] = self.counts.get(kind, 0) + 1
         if count & (count - 1) == 0:
-            self.say(text if count == 1 else f"{text} (the {count}th of this kind)")
+            self.say(text if count == 1 else f"{text} ({count} of this kind)")
 
 
 class Road:

@@ -1,95 +1,153 @@
-"""Where one node is: its process, its log, and the chapters before. All that a chapter is, is in its log, so a node that was killed is made again."""
+"""Where one node is: its proved node, the file of its log, and the chapters before. All that a chapter is, is in its
+log, so a node that was killed goes on. It needs the logs of its last two chapters, and no others."""
 import os
+import re
 import secrets
-from typing import Callable, Dict, List, Optional, Tuple
+from typing import Callable, Dict, Iterator, List, Optional, Tuple
 
-from . import core, log
+from .. import Node, Op, Output
 from .chapters import State, is_over, opening_of
-
-
-class NodeFailed(Exception):
-    """The node stopped: its process stopped for good, or its log could not be written."""
+from .core import NodeFailed
+from .logfile import HEAD_LINES, Head, LogFault, LogFile, keep, lines_of, open_log, say_cut
+from .room import Room
 
 
 class Story:
-    """The chapters of a node up to the one that goes on. `most`: how many operations and entries of its own end a chapter."""
+    """The chapters of a node up to the one that goes on."""
 
-    def __init__(self, head: log.Head, path: str, most: Tuple[int, int], resume: bool, say: Callable[[str], None]):
-        self._path, self._most, self._say = path, most, say
+    def __init__(self, head: Head, path: str, room: Room, resume: bool, say: Callable[[str], None]):
+        self._path, self._room, self._say = path, room, say
         self.called_before, self.opening = 0, []  # type: int, List[Tuple[int, int]]
-        self.last_state, self.last_begun = b"", ""
-        self._open(head, resume)
+        self.last_head, self.last_state = head, b""
+        chapter = self._last_chapter() if resume else 0
+        if chapter > 0:
+            self._end_again(head._replace(chapter=chapter - 1))
+        self._open(head._replace(chapter=chapter), not resume)
 
     def log_of(self, chapter: int) -> str:
         """The path of a chapter's log."""
         return self._path if chapter == 0 else f"{self._path}.{chapter}"
 
-    def _open(self, head: log.Head, resume: bool) -> None:
-        if not resume:
-            self._begin(head)
-            return
-        chapter = 0
-        while os.path.exists(self.log_of(chapter + 1)):
-            chapter += 1
-        for earlier in range(chapter):
-            self._made_again(head._replace(chapter=earlier), log.read(self.log_of(earlier)))
-            self._end()
-        self._go_on(head._replace(chapter=chapter))
+    def _quiet_of(self, chapter: int) -> str:
+        """The file that says that nothing more is called in a chapter, and how many operations were called up to its
+        end."""
+        return self.log_of(chapter) + ".quiet"
 
-    def _process_of(self, head: log.Head) -> core.Process:
-        return core.Process(core.front_of(head.front), head.processes, len(head.registers), head.me)
+    def _last_chapter(self) -> int:
+        """The last chapter that has a log. Those before the last two may have been put aside."""
+        folder, name = os.path.split(os.path.abspath(self._path))
+        ends = (it[len(name) + 1 :] for it in os.listdir(folder) if it.startswith(name + "."))
+        return max((int(it) for it in ends if re.fullmatch("[1-9][0-9]{0,18}", it)), default=0)
 
-    def _begin(self, head: log.Head) -> None:
-        """Begins a chapter with a log of its own."""
-        self.head = head._replace(begun=secrets.token_hex(8))
-        self.process = self._process_of(head)
-        self.running, self.called, self.entries, self.ending = False, 0, 0, False
-        self.states: Dict[int, State] = {}
+    def _end_again(self, head: Head) -> None:
+        """Ends the chapter before the one that goes on, as it was ended before the node was killed."""
+        with open(self.log_of(head.chapter), "rb") as file:
+            self._go_on(head, file.read(), True)
+        self._end()
+        self.node.close()
+        path = self._quiet_of(head.chapter)
+        with open(path, "rb") as file:
+            count = re.fullmatch(rb"([0-9]{1,20})\n", file.read())
+        if count is None:
+            raise LogFault(f"{path}: no number of calls")
+        self.called_before = int(count[1])
+
+    def _open(self, head: Head, is_new: bool) -> None:
+        """Goes on with a chapter's log, in a new file or in one that is there. One without a whole head never began."""
         path = self.log_of(head.chapter)
         try:
-            self.log = log.Writer(path, self.head)
+            file = LogFile(path, is_new)
         except FileExistsError:
             raise NodeFailed(f"{path} is there already: resume it, or take a new one for a new cluster") from None
+        try:
+            text = file.read()
+            if head.never_began(text):
+                text = head._replace(begun=secrets.randbits(64)).text()
+                file.begin(text)
+            self._go_on(head, text, False)
+            file.cut(self.node.whole)
+        except BaseException:
+            file.close()
+            raise
+        self.file = file
+        say_cut(path, text, self.node, self._say)
 
-    def _go_on(self, head: log.Head) -> None:
-        """Goes on with a chapter whose log is there."""
+    def _go_on(self, head: Head, text: bytes, is_over: bool) -> None:
+        """Goes on with the chapter of this log. In `head` all is known but what was drawn for the log."""
         path = self.log_of(head.chapter)
-        writer = log.Writer(path)  # from here on it is in no other program's hands
-        old = log.read(path, self._say)
-        self._made_again(head, old)
-        writer.go_on(old)
-        self.log = writer
+        node = open_log(path, text, is_over)
+        lines = lines_of(text, HEAD_LINES)
+        self.head = head._replace(begun=int(lines[4].split(b" ")[1]))
+        for found, wanted in zip(lines, lines_of(self.head.text())):
+            if found != wanted:
+                node.close()
+                raise LogFault(f"{path} is of {found.decode()}, and this node of {wanted.decode()}")
+        self.node, self.running = node, node.busy
+        self.lines, self.states = [], {}  # type: List[bytes], Dict[int, State]
+        # (a name is never behind a number, so these words stand in each line of a call once, and in no other)
+        self.called = text.count(b" %d call " % head.me, 0, node.whole)
+        self._queued, self._held = self._bodies(), 0  # bodies that went out, and steps of which nothing did yet
+        self.ending = os.path.exists(self._quiet_of(head.chapter)) or self._is_full(node.logged)
+        self._is_said_quiet = False
 
-    def _made_again(self, head: log.Head, old: log.Log) -> None:
-        """The process is a function of the steps in its log: makes them again."""
-        if old.head._replace(begun="") != head:
-            raise NodeFailed(f"{old.path} is of another process, chapter, front end or shape")
-        self.head, self.process = old.head, self._process_of(head)
-        self.running, self.called, self.entries, self.states = False, 0, len(old.entries), {}
-        for place, e in enumerate(old.entries):
-            try:
-                reply = core.step(self.process, e)
-            except core.Refused as why:
-                raise NodeFailed(f"{old.path}: line {place + 7}: {why}") from None
-            if reply != e.reply:
-                raise NodeFailed(f"{old.path}: line {place + 7}: another reply")
-            if e.step == "call":
-                self.running, self.called = True, self.called + 1
-            if e.reply is not None:
-                self.running = False
-        is_full = self.called >= self._most[0] or self.entries >= self._most[1]
-        self.ending = is_full or os.path.exists(old.path + ".quiet")
+    # --- steps
+
+    def step(self, make: Callable[..., bytes], *given: object) -> None:
+        """Makes a step of the node, whose entry is to be written."""
+        self.lines.append(make(*given))
+        self._held += 1
+
+    def call(self, op: Op) -> None:
+        self.step(self.node.call, op)
+        self.running, self.called = True, self.called + 1
+
+    def _bodies(self) -> int:
+        """How many bodies the node queued for each other one: as many for all."""
+        return self.node.known(0 if self.head.me else 1).next
+
+    def is_urgent(self) -> bool:
+        """Whether more waits to go out than counts: a body, or a reply."""
+        before, self._queued = self._queued, self._bodies()
+        return self._queued > before or self.running and not self.node.busy
+
+    def write(self, sync: bool) -> None:
+        """Writes the entries down that were made."""
+        try:
+            self.file.append(b"".join(self.lines), sync)
+        except OSError as why:
+            raise NodeFailed(f"the log can't be written: {why}") from None
+        self.lines.clear()
+
+    def outputs(self) -> Iterator[Output]:
+        """What goes out now that all entries are durable."""
+        logged = self.node.logged
+        self.node.mark_durable(logged)
+        self.ending |= self._is_full(logged)
+        while self._held > 0 and (output := self.node.hand_out()) is not None:
+            self._held -= 1
+            self.running &= output.reply is None
+            yield output
+
+    # --- chapters
+
+    def _is_full(self, logged: int) -> bool:
+        """Whether there is little room left, where the log has so many entries."""
+        return self.called >= self._room.operations or logged >= self._room.entries
+
+    def is_far_ahead(self) -> bool:
+        """Whether so many casts of this node are on their way that no other is made."""
+        return self.node.unsettled >= self._room.ahead
 
     def state(self) -> State:
         """How far this node has come in its chapter."""
-        known = {p: self.process.known(p) for p in range(self.head.processes) if p != self.head.me}
+        known = {p: self.node.known(p) for p in range(self.head.processes) if p != self.head.me}
         put = max((it.next for it in known.values()), default=0)
         accepted = tuple(known[p].expected if p in known else 0 for p in range(self.head.processes))
-        return State(self.ending and not self.running and not self.is_opening(), self.process.pending == 0, put, accepted)
+        return State(self.ending and not self.running and not self.is_opening(), self.node.pending == 0, put, accepted)
 
     def is_opening(self) -> bool:
         """Whether the values that the last chapter ended with aren't all written here: then nothing else is called."""
-        return self.process.delivered < len(self.opening)
+        return len(self.opening) > 0 and self.node.delivered < len(self.opening)
 
     def next_opening(self) -> Optional[Tuple[int, int]]:
         """What this node writes next of what the last chapter ended with."""
@@ -99,11 +157,6 @@ class Story:
         """How many of this node's calls wrote what the last chapter ended with."""
         return min(self.called, len(self.opening)) if self.head.me == 0 else 0
 
-    def count(self) -> None:
-        """One entry more: whether there is little room left."""
-        self.entries += 1
-        self.ending |= self.called >= self._most[0] or self.entries >= self._most[1]
-
     def heard(self, sender: int, state: State) -> None:
         """Another node told how far it has come: somebody has little room left."""
         self.ending = True
@@ -111,16 +164,16 @@ class Story:
 
     def say_quiet(self) -> None:
         """Before it is told that this node calls nothing more in this chapter, that is kept for when it is resumed."""
-        with open(self.log_of(self.head.chapter) + ".quiet", "a") as file:
-            os.fsync(file.fileno())
+        if not self._is_said_quiet:
+            keep(self._quiet_of(self.head.chapter), b"%d\n" % (self.called_before + self.called - self.opened()))
+            self._is_said_quiet = True
 
     def _end(self) -> None:
         """The chapter is over: what the next one begins with, and what is told to those who don't know it yet."""
         self.called_before += self.called - self.opened()
         self.last_state = self.state()._replace(quiet=True, at_rest=True).data()
-        self.last_begun = self.head.begun
-        self.opening = opening_of([self.process.register(r) for r in range(len(self.head.registers))])
-        self.process.close()
+        self.last_head = self.head
+        self.opening = opening_of([self.node.register(r) for r in range(len(self.head.registers))])
 
     def turn(self) -> bool:
         """Begins the next chapter where this one is over, and tells whether it was."""
@@ -129,13 +182,16 @@ class Story:
         self.states[self.head.me] = self.state()
         if not is_over(self.states, self.head.processes):
             return False
+        self.write(True)  # before there is a log behind it, this one is on the disk
+        self.say_quiet()
+        node, file = self.node, self.file
         self._end()
-        self.log.close()
-        self._begin(self.head._replace(chapter=self.head.chapter + 1))
+        self._open(self.head._replace(chapter=self.head.chapter + 1), True)
+        node.close()
+        file.close()
         self._say(f"chapter {self.head.chapter} begins, in {self.log_of(self.head.chapter)}")
         return True
 
     def close(self) -> None:
-        self.log.close()
-        self.process.close()
-
+        self.file.close()
+        self.node.close()

@@ -13,6 +13,7 @@ pub enum Kind {
     Front,
     Processes,
     Registers,
+    Cluster,
     Receiver,
     Sender,
     /// A process was begun anew.
@@ -21,6 +22,8 @@ pub enum Kind {
     Frame(u8),
     /// What this process told of itself is no state.
     State(u8),
+    /// What this process says where it meets this one is no greeting.
+    Greeting(u8),
 }
 
 /// A kind and a line about it.
@@ -50,7 +53,7 @@ impl Complaints {
         *count += 1;
         match *count {
             1 => Some(it.text.clone()),
-            count if count.is_power_of_two() => Some(format!("{} (the {count}th of this kind)", it.text)),
+            count if count.is_power_of_two() => Some(format!("{} ({count} of this kind)", it.text)),
             _ => None,
         }
     }
@@ -65,10 +68,7 @@ mod tests {
         let mut complaints = Complaints::default();
         let it = Complaint { kind: Kind::Form, text: "odd".to_string() };
         let said: Vec<String> = (0..9).filter_map(|_| complaints.line(&it)).collect();
-        assert_eq!(
-            said,
-            ["odd", "odd (the 2th of this kind)", "odd (the 4th of this kind)", "odd (the 8th of this kind)"]
-        );
+        assert_eq!(said, ["odd", "odd (2 of this kind)", "odd (4 of this kind)", "odd (8 of this kind)"]);
         assert_eq!(
             complaints.line(&Complaint { kind: Kind::Frame(1), text: "other".to_string() }).as_deref(),
             Some("other")

@@ -1,29 +1,15 @@
 //! The configuration of a cluster, which is the same on all machines.
-use crate::front::FrontEnd;
 use crate::keys::Key;
+use crate::room::{Most, Size};
 use std::collections::HashSet;
 use std::fmt;
 use std::str::FromStr;
 use std::time::Duration;
+use tellwydar::FrontEnd;
 use toml::Value;
 
 const MOST_PROCESSES: usize = 64;
 const MOST_REGISTERS: usize = 4096;
-
-/// What ends a chapter: so many operations of a process, or so many entries of all logs together.
-#[derive(Clone, Copy, Debug, PartialEq, Eq)]
-pub struct Most {
-    /// A process has at most 65,535.
-    pub operations: u32,
-    /// A run has at most 1,048,576; what is left is room to come to rest.
-    pub entries: u32,
-}
-
-impl Default for Most {
-    fn default() -> Self {
-        Self { operations: 65_000, entries: 786_432 }
-    }
-}
 
 /// A process: where it is heard, and its public key.
 #[derive(Clone, Debug, PartialEq, Eq)]
@@ -37,6 +23,8 @@ pub struct Peer {
 /// What all nodes of a cluster know. It is parsed from the text of `cluster.toml`.
 #[derive(Clone, Debug, PartialEq, Eq)]
 pub struct Config {
+    /// The same at all nodes of a cluster, and at no other cluster's: 1 to 2^63 - 1.
+    pub cluster: u64,
     pub front: FrontEnd,
     pub registers: Vec<String>,
     /// Whether each entry is on the disk before its frames go out.
@@ -91,9 +79,13 @@ fn number(it: &Value) -> Option<u32> {
     it.as_integer().and_then(|it| u32::try_from(it).ok())
 }
 
-/// Whether a log and a record can have a register of this name.
-pub(crate) fn is_name(text: &str) -> bool {
+/// Whether a log can have a register of this name.
+fn is_name(text: &str) -> bool {
     (1..=16).contains(&text.len()) && text.bytes().all(|it| it.is_ascii_lowercase())
+}
+
+fn cluster(it: &Value) -> Option<u64> {
+    it.as_integer().and_then(|it| u64::try_from(it).ok()).filter(|&it| it > 0)
 }
 
 fn names(it: &Value) -> Option<Vec<String>> {
@@ -117,6 +109,7 @@ impl FromStr for Config {
     fn from_str(text: &str) -> Result<Self, ConfigFault> {
         let table: Value = text.parse()?;
         let front = field(&table, "front", "linear, local-read or local-write", |it| it.as_str()?.parse().ok())?;
+        let cluster = field(&table, "cluster", "a number from 1 to 2^63 - 1", cluster)?;
         let registers = field(&table, "registers", "different names of 1 to 16 letters from a to z", names)?;
         let nodes = needed("node", field(&table, "node", "a list of tables", Value::as_array)?)?;
         let nodes: Vec<Peer> = nodes.iter().map(peer).collect::<Result<_, _>>()?;
@@ -130,16 +123,17 @@ impl FromStr for Config {
         let look = field(&table, "look_ms", "a number of milliseconds", milliseconds)?.unwrap_or(10.0);
         let look = Duration::try_from_secs_f64(look / 1000.0)
             .map_err(|_| ConfigFault("look_ms should be a number of milliseconds".to_string()))?;
-        let most = Most {
-            operations: field(&table, "chapter_operations", "a number", number)?.unwrap_or(Most::default().operations),
-            entries: field(&table, "chapter_entries", "a number", number)?.unwrap_or(Most::default().entries),
-        };
         let registers = needed("registers", registers)?;
-        if most.operations as usize <= registers.len() {
-            return Err(ConfigFault("a chapter has room for a write of each register, and more".to_string()));
-        }
+        let size = Size { processes: nodes.len() as u32, registers: registers.len() as u32 };
+        let usual = size.usual();
+        let most = Most {
+            operations: field(&table, "chapter_operations", "a number", number)?.unwrap_or(usual.operations),
+            entries: field(&table, "chapter_entries", "a number", number)?.unwrap_or(usual.entries),
+        };
+        size.room(most)?;
         let sync = field(&table, "sync", "true or false", Value::as_bool)?.unwrap_or(false);
-        Ok(Self { front: needed("front", front)?, registers, sync, look, most, nodes })
+        let (front, cluster) = (needed("front", front)?, needed("cluster", cluster)?);
+        Ok(Self { cluster, front, registers, sync, look, most, nodes })
     }
 }
 
@@ -151,11 +145,11 @@ mod tests {
 
     #[test]
     fn the_rest_is_as_the_python_package_has_it() {
-        let config: Config =
-            format!("front = \"linear\"\nregisters = [\"x\", \"y\"]\n{NODES}").parse().expect("a configuration");
+        let text = format!("cluster = 7\nfront = \"linear\"\nregisters = [\"x\", \"y\"]\n{NODES}");
+        let config: Config = text.parse().expect("a configuration");
         assert_eq!(
-            (config.front, config.registers, config.sync),
-            (FrontEnd::Linear, vec!["x".to_string(), "y".to_string()], false)
+            (config.cluster, config.front, config.registers, config.sync),
+            (7, FrontEnd::Linear, vec!["x".to_string(), "y".to_string()], false)
         );
         assert_eq!(
             (config.look, config.most),
@@ -168,6 +162,11 @@ mod tests {
     fn what_is_wrong_is_told() {
         let refused = |text: &str| text.parse::<Config>().expect_err("no configuration").to_string();
         assert_eq!(refused(&format!("registers = [\"x\"]\n{NODES}")), "front is missing");
+        assert_eq!(refused(&format!("front = \"linear\"\nregisters = [\"x\"]\n{NODES}")), "cluster is missing");
+        for cluster in ["0", "-1", "9223372036854775808", "\"7\"", "7.0"] {
+            let told = refused(&format!("cluster = {cluster}\nfront = \"linear\"\nregisters = [\"x\"]\n{NODES}"));
+            assert!(told.starts_with("cluster should be") || cluster.len() > 18, "{told}");
+        }
         assert_eq!(refused(&format!("front = \"linear\"\n{NODES}")), "registers is missing");
         assert_eq!(refused("front = \"linear\"\nregisters = [\"x\"]\n"), "node is missing");
         assert!(refused(&format!("front = \"other\"\n{NODES}")).starts_with("front should be linear"));
@@ -184,7 +183,7 @@ mod tests {
         );
         assert!(
             refused(&format!("front = \"linear\"\nregisters = [\"x\"]\nchapter_operations = 1\n{NODES}"))
-                .starts_with("a chapter has room")
+                .starts_with("chapter_operations is 1; with 1 registers")
         );
         let key = "key = \"Yne@$w-vo<fVvi]a<NY6T1ed:M$fCG*[IaLV{hID\"\n";
         assert!(

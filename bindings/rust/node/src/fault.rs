@@ -1,6 +1,5 @@
 //! Why a node refuses a call, doesn't start, or stopped.
 use crate::config::ConfigFault;
-use crate::log::LogFault;
 use crate::road::RoadFault;
 use std::fmt;
 use std::io;
@@ -14,7 +13,8 @@ pub enum Fault {
     Busy,
     /// No answer yet. The operation goes on, and [`crate::Node::wait`] gives its answer.
     TimedOut,
-    /// Nothing was called in time, since a chapter ended meanwhile.
+    /// Nothing was called in time: a chapter ended meanwhile, or not all others were heard yet, or they were too far
+    /// behind with what this node cast.
     Paused,
     /// The bell rang first. As after `TimedOut` and `Paused`, what was called goes on.
     Rung,
@@ -26,10 +26,11 @@ pub enum Fault {
     Stopped,
     /// The process stopped for good.
     Failed(Refused),
-    /// A log is there where none may be, or it isn't one of this process.
+    /// The log lost entries: another process accepted more bodies than it has. This is the line that says so.
+    LogLost(String),
+    /// A log is there where none may be, or it isn't one of this process, or a file is no log.
     OtherLog(String),
     Config(ConfigFault),
-    Log(LogFault),
     Road(RoadFault),
     Io(io::Error),
 }
@@ -46,15 +47,16 @@ impl fmt::Display for Fault {
         match self {
             Self::Busy => f.write_str("an operation goes on"),
             Self::TimedOut => f.write_str("no answer in time"),
-            Self::Paused => f.write_str("a chapter ended meanwhile, and nothing was called in time"),
+            Self::Paused => {
+                f.write_str("nothing was called in time: a chapter ended, or others weren't heard or are far behind")
+            }
             Self::Rung => f.write_str("the bell rang"),
             Self::Refused(why) => write!(f, "refused: {why}"),
             Self::Nothing => f.write_str("no operation goes on"),
             Self::Stopped => f.write_str("the node has stopped"),
             Self::Failed(why) => write!(f, "the process stopped: {why}"),
-            Self::OtherLog(why) => f.write_str(why),
+            Self::LogLost(why) | Self::OtherLog(why) => f.write_str(why),
             Self::Config(why) => why.fmt(f),
-            Self::Log(why) => why.fmt(f),
             Self::Road(why) => why.fmt(f),
             Self::Io(why) => why.fmt(f),
         }
@@ -67,7 +69,12 @@ impl From<Refused> for Fault {
     /// Behind some refusals the process has stopped for good.
     fn from(why: Refused) -> Self {
         match why {
-            Refused::Failed | Refused::OutOfMemory | Refused::ClockFull => Self::Failed(why),
+            Refused::Failed
+            | Refused::OutOfMemory
+            | Refused::ClockFull
+            | Refused::Stopped
+            | Refused::Unspelled
+            | Refused::LogLost => Self::Failed(why),
             _ => Self::Refused(why),
         }
     }
@@ -76,12 +83,6 @@ impl From<Refused> for Fault {
 impl From<ConfigFault> for Fault {
     fn from(why: ConfigFault) -> Self {
         Self::Config(why)
-    }
-}
-
-impl From<LogFault> for Fault {
-    fn from(why: LogFault) -> Self {
-        Self::Log(why)
     }
 }
 

@@ -1,10 +1,10 @@
-//! One process a machine: a node carries the frames of a [`tellwydar::Process`] over ZeroMQ, and writes each step into
-//! a log before its frames go out. What the logs of all nodes say is put into one order by [`merge`] and judged by
-//! [`tellwydar::verify`], whatever the network and the machines did.
+//! One process a machine: a node carries the frames of a [`tellwydar::LoggedNode`] over ZeroMQ, and writes down the bytes
+//! by which its log grows before its frames go out. What the logs of all nodes say is put into one order and judged by
+//! the library ([`merge`]), whatever the network and the machines did.
 //!
 //! A [`Node`] is for one thread, as its process is: it does its work inside of [`Node::perform`] and [`Node::serve`].
-//! Its configuration, its messages and its log are those of the Python package `tellwydar.net`, so nodes of both are in
-//! one cluster.
+//! Its configuration and its messages are those of the Python package `tellwydar.net`, so nodes of both are in one
+//! cluster. The form of a message stands in `message.rs`, that of a log in docs/FORMATS.md of the repository.
 //!
 //! ```no_run
 //! use tellwydar::{LocalRead, Op};
@@ -16,35 +16,42 @@
 //! # Ok::<(), Box<dyn std::error::Error>>(())
 //! ```
 
+mod beats;
+mod calls;
 mod chapters;
 mod complaints;
 mod config;
 #[cfg(feature = "datagrams")]
 mod datagrams;
 mod fault;
-mod front;
+mod json;
 mod keys;
-mod log;
+mod log_file;
+mod log_text;
 mod lossy;
 mod merge;
 mod message;
 mod node;
 mod options;
 mod parcels;
+mod port;
 mod road;
+mod room;
 mod script;
+mod status;
 mod story;
-mod writer;
 mod zeromq;
 
-pub use config::{Config, ConfigFault, Most, Peer};
+pub use config::{Config, ConfigFault, Peer};
 pub use fault::Fault;
-pub use front::FrontEnd;
 pub use keys::{Key, Keys, write_new_keys};
-pub use log::{Entry, Head, Log, LogFault, Step};
 pub use lossy::Losses;
-pub use merge::{MergeFault, Wait, merge};
+pub use merge::{MergeFault, merge};
 pub use node::Node;
 pub use options::Options;
+pub use port::{Port, ask};
 pub use road::RoadFault;
+pub use room::Most;
 pub use script::{Script, ScriptFault};
+pub use status::{PeerStatus, Status};
+pub use tellwydar::FrontEnd;

@@ -1,123 +1,184 @@
 use super::*;
-use crate::log::Head;
-use std::borrow::Cow;
-use tellwydar::{Answer, Reply};
+use crate::log_text::tests::sealed;
+use std::fs;
+use tellwydar::check;
 
-fn take(from: u8, frame: &[u8], reply: Option<Reply>) -> Entry<'static> {
-    Entry { step: Step::Take { from, frame: Cow::Owned(frame.to_vec()) }, reply }
+/// What is done with these logs, each in a file named by its place.
+fn stored<T>(test: &str, logs: &[Vec<u8>], act: impl FnOnce(&[PathBuf]) -> Result<T, MergeFault>) -> Result<T, String> {
+    let room = std::env::temp_dir().join(format!("tellwydar-{test}-{}", std::process::id()));
+    fs::create_dir_all(&room).expect("a folder");
+    let paths: Vec<PathBuf> = (0..logs.len()).map(|at| room.join(format!("{at}.log"))).collect();
+    for (path, log) in paths.iter().zip(logs) {
+        fs::write(path, log).expect("a log");
+    }
+    let told = act(&paths).map_err(|why| why.to_string().replace(&format!("{}/", room.display()), ""));
+    fs::remove_dir_all(&room).expect("a folder");
+    told
 }
 
-fn call(op: Op) -> Entry<'static> {
-    Entry { step: Step::Call(op), reply: None }
+/// The report of these logs, or why there is none.
+fn merged(test: &str, logs: &[Vec<u8>], cut: bool) -> Result<Vec<u8>, String> {
+    stored(test, logs, |paths| merge(paths, cut))
 }
 
-fn logs_of(front: FrontEnd, lists: &[&[Entry<'static>]]) -> Vec<Log> {
-    let head =
-        |me: u8| Head { front, processes: lists.len() as u8, registers: vec!["x".into()], me, chapter: 0, begun: 0 };
-    let log = |(me, it): (u8, &&[Entry<'static>])| Log {
-        path: format!("{me}.log").into(),
-        head: head(me),
-        entries: it.to_vec(),
-        end: 0,
-        crc: 0,
-        cut: 0,
-    };
-    (0..).zip(lists).map(log).collect()
+/// The record of these logs in the order that the library finds, or why there is none.
+fn ordered(test: &str, logs: &[Vec<u8>]) -> Result<String, String> {
+    stored(test, logs, |paths| {
+        let logs = gathered(paths.iter().map(|it| Log::read(it)).collect::<Result<_, _>>()?)?;
+        let told = tellwydar::merge(&record(&logs));
+        if told.status == 0 { Ok(shown(&told.answer) + "\n") } else { Err(MergeFault(shown(&told.line))) }
+    })
 }
 
-/// A write of the value 5 by the first of two processes: its cast, and what the other one answers, as worked by hand.
-const CAST: [u8; 32] =
-    [0, 0x1e, 1, 1, 0, 0, 0, 0, 0, 0, 0, 0, 1, 0, 0, 0, 0, 0, 0, 0, 1, 2, 0, 0, 0, 0, 0, 0, 0, 0, 0, 5];
-const GOT: [u8; 12] = [0, 0x0a, 1, 2, 0, 0, 0, 0, 0, 0, 0, 1];
-const ACK: [u8; 21] = [0, 0x13, 1, 1, 0, 0, 0, 0, 0, 0, 0, 0, 2, 0, 0, 0, 0, 0, 0, 0, 2];
-const WRITE: Op = Op::Write { register: 0, value: 5 };
-const DONE: Option<Reply> = Some(Reply { answer: Answer::Done, place: 0 });
-
-fn entries() -> [Vec<Entry<'static>>; 2] {
-    [vec![call(WRITE), take(1, &GOT, None), take(1, &ACK, DONE)], vec![take(0, &CAST, None)]]
+/// A log whose lines have another text in place of this one.
+fn relined(log: &[u8], from: &str, to: &str) -> Vec<u8> {
+    let lines: Vec<&[u8]> = log_text::lines(log).collect();
+    sealed(&String::from_utf8_lossy(&lines.concat()).replace(from, to))
 }
 
-fn judged(first: &[Entry<'static>], second: &[Entry<'static>]) -> Result<Vec<u8>, String> {
-    let logs = logs_of(FrontEnd::Linear, &[first, second]);
-    let (order, wait) = arrange(&logs).map_err(|it| it.to_string())?;
-    assert_eq!(wait, None);
-    let told = verify(&record(&logs, &order));
-    if told.status == 0 { Ok(told.answer) } else { Err(faulty(&logs, &order, &told.line).to_string()) }
+/// A log of two processes, with this head of its own.
+fn log(own: &str, entries: &str) -> Vec<u8> {
+    sealed(&format!(
+        "tellwydar log 1\n{own}begun 12\ntellwydar record 1\nfront linear\nprocesses 2\nregisters x\n{entries}"
+    ))
 }
 
-#[test]
-fn the_record_is_one_text() {
-    let [first, second] = entries();
-    let logs = logs_of(FrontEnd::Linear, &[&first, &second]);
-    let (order, wait) = arrange(&logs).expect("an order");
-    assert_eq!((&order[..], wait), (&[0, 1, 0, 0][..], None));
-    let wanted = "tellwydar record 1\nfront linear\nprocesses 2\nregisters x\n0 call write x 5\n\
-        1 take 0 001e010100000000000000000100000000000000010200000000000000000005\n\
-        0 take 1 000a01020000000000000001\n0 take 1 001301010000000000000000020000000000000002 = done 0\n";
-    assert_eq!(String::from_utf8(record(&logs, &order)).expect("a text"), wanted);
+/// A write of the value 5 by the first of two processes, as worked by hand.
+const CALL: &str = "0 call write x 5\n";
+const ANSWERED: &str =
+    "0 take 1 000a01020000000000000001\n0 take 1 001301010000000000000000020000000000000002 = done 0\n";
+const CAST_TAKEN: &str = "1 take 0 001e010100000000000000000100000000000000010200000000000000000005\n";
+const FIRST: &str = "cluster 7\nprocess 0\nchapter 0\n";
+const SECOND: &str = "cluster 7\nprocess 1\nchapter 0\n";
+
+fn logs() -> Vec<Vec<u8>> {
+    vec![log(FIRST, &[CALL, ANSWERED].concat()), log(SECOND, CAST_TAKEN)]
 }
 
 #[test]
 fn a_run_has_its_report() {
-    let [first, second] = entries();
-    let report = judged(&first, &second).expect("a report");
-    assert_eq!(tellwydar::check(&report).answer, b"serial yes\npoints yes\n");
-}
-
-#[test]
-fn what_is_no_run_is_refused_at_its_line() {
-    let [first, second] = entries();
-    let other = Reply { answer: Answer::Value(5), place: 0 };
-    let changed = [&first[..2], &[take(1, &ACK, Some(other))]].concat();
-    assert_eq!(judged(&changed, &second), Err("0.log: line 9: not what process 0 does there (unfaithful)".to_string()));
-    let mut frame = CAST;
-    frame[31] = 6;
-    assert_eq!(
-        judged(&first, &[take(0, &frame, None)]),
-        Err("1.log: line 7: not what process 1 does there (unfaithful)".to_string())
-    );
-}
-
-#[test]
-fn what_was_never_put_finds_no_place() {
-    let [first, second] = entries();
-    let logs = logs_of(FrontEnd::Linear, &[&first[1..], &second]);
-    let (order, wait) = arrange(&logs).expect("an order");
-    let wait = wait.expect("an entry without a place");
-    assert_eq!((order.len(), wait.process, wait.line, wait.sender, wait.is_sender_done), (0, 0, 7, 1, false));
-    // (reads are cast by linear alone)
-    for (front, count) in [(FrontEnd::Linear, 2), (FrontEnd::LocalRead, 1)] {
-        let logs = logs_of(front, &[&[call(Op::Read { register: 0 })], &second]);
-        assert_eq!(arrange(&logs).expect("an order").0.len(), count);
+    assert!(logs()[0].starts_with(b"e009c6ff tellwydar log 1\n69771c8e cluster 7\n"));
+    for logs in [logs(), logs().into_iter().rev().collect()] {
+        let report = merged("report", &logs, false).expect("a report");
+        assert_eq!(check(&report).answer, b"serial yes\npoints yes\n");
     }
 }
 
 #[test]
+fn the_record_is_one_text() {
+    let wanted = "tellwydar record 1\nfront linear\nprocesses 2\nregisters x\n0 call write x 5\n\
+        1 take 0 001e010100000000000000000100000000000000010200000000000000000005\n\
+        0 take 1 000a01020000000000000001\n0 take 1 001301010000000000000000020000000000000002 = done 0\n";
+    assert_eq!(ordered("record", &logs()), Ok(wanted.to_string()));
+}
+
+#[test]
+fn what_was_never_put_finds_no_place() {
+    let told = merged("never", &[log(FIRST, ""), log(SECOND, CAST_TAKEN)], false);
+    assert_eq!(told, Err("1.log: line 10: unfaithful".to_string()));
+    // (what was never queued can't be counted)
+    let told = merged("never", &[log(FIRST, ANSWERED), log(SECOND, CAST_TAKEN)], false);
+    assert_eq!(told, Err("0.log: line 10: no step of its process".to_string()));
+    // (reads are cast by linear alone)
+    let cast = "1 take 0 001601010000000000000000010000000000000001010000\n";
+    let read = |front: &str, call: &str| {
+        let of = |own: &str, entry: &str| relined(&log(own, entry), "front linear", &format!("front {front}"));
+        ordered("reads", &[of(FIRST, call), of(SECOND, cast)])
+    };
+    assert!(read("linear", "0 call read x\n").is_ok());
+    let told = read("local-read", "0 call read x = value 0 0\n");
+    assert_eq!(told, Err("line 6: unfaithful".to_string()));
+}
+
+#[test]
 fn the_count_0_is_put_by_an_early_frame_alone() {
-    let early = [0, 0x0a, 1, 2, 0, 0, 0, 0, 0, 0, 0, 0];
-    let mut later = CAST;
-    later[11] = 1;
-    let first = [call(WRITE), call(WRITE), take(1, &early, None)];
-    let logs = logs_of(FrontEnd::Linear, &[&first, &[take(0, &later, None)]]);
-    assert_eq!(arrange(&logs).expect("an order").0, [0, 0, 1, 0]);
-    let logs = logs_of(FrontEnd::Linear, &[&first, &[take(0, &CAST, None)]]);
-    assert_eq!(arrange(&logs).expect("an order").0.len(), 3);
+    let wrote = [CALL.replace('5', "0 = done 0"), CALL.replace('5', "0 = done 0")].concat();
+    let early = "0 take 1 000a01020000000000000000\n";
+    let cast = |number: u8, time: u8| {
+        format!("1 take 0 001e01010000000000000{number:03}01000000000000{time:04}0200000000000000000000\n")
+    };
+    let ordered = |taken: &str| {
+        let of = |own: &str, entries: &str| relined(&log(own, entries), "front linear", "front local-write");
+        ordered("early", &[of(FIRST, &[&wrote, early].concat()), of(SECOND, taken)])
+    };
+    let order = ordered(&cast(1, 2)).expect("an order");
+    assert!(order.ends_with(&[&wrote, &cast(1, 2), early].concat()), "{order}");
+    assert_eq!(ordered(&cast(0, 1)), Err("line 7: unfaithful".to_string()));
+}
+
+#[test]
+fn what_is_no_run_is_refused_at_its_line() {
+    let first = log(FIRST, &[CALL, &ANSWERED.replace("done 0", "value 5 0")].concat());
+    let told = merged("refused", &[first, log(SECOND, CAST_TAKEN)], false);
+    assert_eq!(told, Err("0.log: line 12: no step of its process".to_string()));
+    let second = log(SECOND, &CAST_TAKEN.replace("05\n", "06\n"));
+    let told = merged("refused", &[logs().remove(0), second], false);
+    // (the frame with the value 6 was never put, and so the answers to it weren't either)
+    let lines = ["1.log: line 10: unfaithful".to_string(), "0.log: line 11: unfaithful".to_string()];
+    assert!(lines.contains(&told.clone().expect_err("no run")), "{told:?}");
+    let told = merged("refused", &[logs().remove(0), log(SECOND, CALL)], false);
+    assert_eq!(told, Err("1.log: line 10: of another process".to_string()));
+}
+
+#[test]
+fn what_is_in_no_run_is_cut_where_one_asks_for_that() {
+    let logs = [log(FIRST, ""), log(SECOND, &[CAST_TAKEN, "1 call read x\n"].concat())];
+    assert_eq!(merged("cut", &logs, false), Err("1.log: line 10: unfaithful".to_string()));
+    let report = String::from_utf8(merged("cut", &logs, true).expect("a report")).expect("a text");
+    assert!(report.contains("\nhistory 0\n"), "{report}");
+    let logs = [log(FIRST, &[CALL, ANSWERED].concat()), log(SECOND, "1 call read x\n")];
+    let report = String::from_utf8(merged("cut", &logs, true).expect("a report")).expect("a text");
+    assert!(report.contains("\nhistory 2\n") && report.contains("write x 5"), "{report}");
+}
+
+#[test]
+fn each_changed_bit_and_dropped_line_is_told_at_its_line() {
+    let (good, second) = (logs().remove(0), logs().remove(1));
+    let line_of = |at: usize| good[..at].iter().filter(|&&it| it == b'\n').count() + 1;
+    let told = |log: Vec<u8>| merged("bits", &[log, second.clone()], false).expect_err("a changed log");
+    for at in 0..good.len() - 1 {
+        for bit in [1, 0x10, 0x80] {
+            let mut changed = good.clone();
+            changed[at] ^= bit;
+            let told = told(changed);
+            assert!(told.starts_with(&format!("0.log: line {}: ", line_of(at))), "{at}: {told}");
+        }
+    }
+    let lines: Vec<&[u8]> = good.split_inclusive(|&it| it == b'\n').collect();
+    for at in 0..lines.len() - 1 {
+        let told = told([&lines[..at], &lines[at + 1..]].concat().concat());
+        assert!(told.starts_with(&format!("0.log: line {}: ", at + 1)), "{at}: {told}");
+    }
+}
+
+#[test]
+fn what_a_crash_left_is_dropped() {
+    let mut torn = logs();
+    let length = torn[0].len();
+    torn[0].truncate(length - 5);
+    let report = merged("torn", &torn, false).expect("a report");
+    assert_eq!(check(&report).answer, b"serial yes\npoints yes\n");
+    torn[1].extend([0; 5000]);
+    assert_eq!(merged("torn", &torn, false), Ok(report));
 }
 
 #[test]
 fn logs_of_other_clusters_are_told() {
-    let [first, second] = entries();
-    let logs = || logs_of(FrontEnd::Linear, &[&first, &second]);
-    let refused = |logs: Vec<Log>| gathered(logs).expect_err("no cluster").to_string();
-    assert_eq!(refused(vec![]), "no log");
-    assert_eq!(refused(logs()[..1].to_vec()), "no log of process 1");
-    assert_eq!(refused([&logs()[..], &logs()[..1]].concat()), "0.log and 0.log are both of process 0");
-    let mut other = logs();
-    other[1].head.chapter = 1;
-    assert_eq!(refused(other), "1.log is of chapter 1, and 0.log of chapter 0");
-    let mut other = logs();
-    other[1].head.front = FrontEnd::LocalRead;
-    assert_eq!(refused(other), "1.log is of another front end or shape than 0.log");
-    let found = gathered(logs().into_iter().rev().collect()).expect("a cluster");
-    assert_eq!(found[0].head.me, 0);
+    let [first, second] = [0, 1].map(|at| logs().remove(at));
+    let told = |logs: &[&Vec<u8>]| {
+        merged("others", &logs.iter().map(|it| it.to_vec()).collect::<Vec<_>>(), false).expect_err("no cluster")
+    };
+    assert_eq!(told(&[]), "no log");
+    assert_eq!(told(&[&first]), "no log of process 1");
+    assert_eq!(told(&[&first, &second, &first]), "2.log and 0.log are both of process 0");
+    for (mine, other_one) in [
+        ("cluster 7", "cluster 8"),
+        ("chapter 0", "chapter 1"),
+        ("front linear", "front local-read"),
+        ("processes 2", "processes 3"),
+        ("registers x", "registers x y"),
+    ] {
+        let wanted = format!("1.log is of {other_one}, and 0.log of {mine}");
+        assert_eq!(told(&[&first, &relined(&second, mine, other_one)]), wanted);
+    }
 }

@@ -1,45 +1,38 @@
-//! A node: one process, its log, and a road to the others.
+//! A node: one process with its log, and a road to the others.
 //!
-//! A step is made, its entry is written, and only then do its frames go out and its answer is told; of what comes in,
-//! some messages at a time with one write for all.
+//! A step is made, its entry is written, and only then does the library hand out its frames and its answer; of what comes
+//! in, some messages are taken with one write for all.
+use crate::beats::Beat;
 use crate::chapters::State;
 use crate::complaints::{Complaint, Complaints, Kind};
 use crate::config::{Config, ConfigFault};
 use crate::fault::Fault;
-use crate::log::{Entry, Head, Step};
 use crate::message::{Brings, Meeting, Met};
 use crate::options::{Options, road_of};
-use crate::parcels::{Parcels, is_data};
+use crate::parcels::Parcels;
 use crate::road::{Arrived, Bell, Road};
+use crate::room::Size;
 use crate::story::Story;
-use std::borrow::Cow;
 use std::io;
+use std::marker::PhantomData;
 use std::os::unix::net::UnixStream;
 use std::time::{Duration, Instant};
-use tellwydar::{Answer, Front, Op, Refused};
+use tellwydar::{Answer, Front, FrontEnd, LogHead, Op, Output, Refused};
 
+mod looks;
+mod meets;
 mod turns;
 
 /// How long counts wait for the disk, where each entry is on it before its frames go out.
 const HOLD: Duration = Duration::from_millis(2);
 /// After so many calls that were answered at once, others are heard, and what was gathered is written.
 const MOST_UNSERVED: u32 = 64;
-/// How many looks a link was silent where a tick is due: after 1, 2, 4, .. looks, and from 64 on after 100.
-const DUE: [u32; 8] = [1, 3, 7, 15, 31, 63, 127, 227];
-const LAST_DUE: u32 = 227;
-const ALSO_DUE: u32 = 127;
-
-/// What was last seen of a link: the first frame that isn't acknowledged, and for how many looks it has been so.
-#[derive(Clone, Copy, Debug, Default)]
-struct Beat {
-    first: Option<u64>,
-    silent: u32,
-}
 
 /// One process of a cluster on a machine of its own. It is for one thread, and works while that is in one of its
 /// functions.
 pub struct Node<F: Front> {
-    story: Story<F>,
+    front: PhantomData<F>,
+    story: Story,
     road: Box<dyn Road>,
     hand: UnixStream,
     complaints: Complaints,
@@ -49,12 +42,10 @@ pub struct Node<F: Front> {
     sync: bool,
     look_every: Duration,
     look_at: Instant,
-    /// Entries aren't written yet; frames with bodies wait for them; counts wait until then.
-    steps_due: bool,
+    /// Bodies wait for an entry to be written; counts wait until then.
     data_due: bool,
     held_till: Option<Instant>,
-    /// An answer that isn't told before its entry is written, and one that waits to be fetched.
-    staged_answer: Option<Answer>,
+    /// One that waits to be fetched.
     answer: Option<Answer>,
     told: Option<State>,
     arrived: Vec<Arrived>,
@@ -82,39 +73,43 @@ impl<F: Front> Node<F> {
         if options.me >= processes {
             return Err(ConfigFault::new(format!("the configuration has no process {}", options.me)).into());
         }
+        let size = Size { processes: processes.into(), registers: config.registers.len() as u32 };
+        let room = size.room(config.most)?;
         let (bell, hand) = Bell::new()?;
         let road = road_of(config, options, bell)?;
-        let head = Head {
-            front: config.front,
-            processes,
-            registers: config.registers.clone(),
-            me: options.me,
+        let head = LogHead {
+            cluster: config.cluster,
             chapter: 0,
             begun: 0,
+            front: config.front,
+            processes,
+            process: options.me,
+            names: config.registers.clone(),
         };
-        let story = Story::open(head, &options.log, config.most, options.resume)?;
-        Ok(Self {
+        let story = Story::open(head, &options.log, room, options.resume)?;
+        let mut node = Self {
+            front: PhantomData,
             meeting: Meeting::new(story.head()),
             parcels: Parcels::new(processes, road.most_bytes()),
             story,
             road,
             hand,
             complaints: Complaints::default(),
-            beats: vec![Beat::default(); processes.into()],
+            beats: Vec::new(),
             sync: config.sync || options.sync,
             look_every: config.look,
             look_at: Instant::now() + config.look,
-            steps_due: false,
             data_due: false,
             held_till: None,
-            staged_answer: None,
             answer: None,
             told: None,
             arrived: Vec::new(),
             unserved: 0,
             rang: false,
             is_stopped: false,
-        })
+        };
+        node.meet_all();
+        Ok(node)
     }
 
     /// What one writes a byte to, from any thread, for the node to end its wait.
@@ -127,7 +122,8 @@ impl<F: Front> Node<F> {
     /// # Errors
     ///
     /// `Busy` where another one goes on. `TimedOut` where the time is up: then it goes on, and [`Node::wait`] gives its
-    /// answer. `Paused` where nothing was called in time, since a chapter ended.
+    /// answer. `Paused` where nothing was called in time: a chapter ended, or not all others were heard, or they were too
+    /// far behind with what this node cast.
     pub fn perform(&mut self, op: Op, timeout: Option<Duration>) -> Result<Answer, Fault> {
         let performed = self.performed(op, timeout.map(|it| Instant::now() + it));
         self.kept(performed)
@@ -152,6 +148,11 @@ impl<F: Front> Node<F> {
         (self.story.called(), self.story.is_running() && self.story.is_own() || self.answer.is_some())
     }
 
+    /// The names of the registers.
+    pub fn registers(&self) -> &[String] {
+        &self.story.head().names
+    }
+
     /// Behind a fault that isn't of a call alone the node has stopped, and puts nothing more.
     fn kept<T>(&mut self, result: Result<T, Fault>) -> Result<T, Fault> {
         if result.as_ref().is_err_and(|it| !it.is_of_a_call()) {
@@ -170,15 +171,29 @@ impl<F: Front> Node<F> {
         if self.unserved >= MOST_UNSERVED {
             self.rang |= self.served(Some(Instant::now()))?;
         }
-        while self.story.is_opening() || self.story.is_ending() && !self.story.is_running() && self.answer.is_none() {
+        while !self.called(op)? {
             self.pass(deadline, Fault::Paused)?;
+        }
+        self.unserved += 1;
+        self.waited(deadline)
+    }
+
+    /// Calls an operation, unless a chapter ends or is opened, or the operation needs others that weren't heard or are
+    /// far behind.
+    fn called(&mut self, op: Op) -> Result<bool, Fault> {
+        if self.story.is_opening() || self.story.is_ending() && !self.story.is_running() && self.answer.is_none() {
+            return Ok(false);
         }
         if self.story.is_running() || self.answer.is_some() {
             return Err(Fault::Busy);
         }
-        self.unserved += 1;
-        self.call(op)?;
-        self.waited(deadline)
+        if !matches!(op, Op::Read { .. }) && self.story.is_far_ahead() {
+            return Ok(false);
+        }
+        match self.call(op) {
+            Err(Fault::Refused(Refused::Unheard)) => Ok(false),
+            called => called.map(|()| true),
+        }
     }
 
     fn waited(&mut self, deadline: Option<Instant>) -> Result<Answer, Fault> {
@@ -217,12 +232,13 @@ impl<F: Front> Node<F> {
 
     /// Makes a call, and all that it brings about at once.
     fn call(&mut self, op: Op) -> Result<(), Fault> {
-        let reply = self.story.process().call(op)?;
-        let is_cast = !matches!(op, Op::Read { .. });
-        self.stage(&Entry { step: Step::Call(op), reply }, is_cast)?;
-        if self.staged_answer.is_some() && !self.data_due && self.parcels.is_empty() {
-            self.answer = self.staged_answer.take();
+        self.story.call(op)?;
+        let is_read = matches!(op, Op::Read { .. });
+        if is_read && !self.story.node().busy() && self.held_till.is_none() {
+            // (it is answered at once and puts no frame, and what it read of is durable: nobody can miss its entry)
+            self.hand_out()?;
         } else {
+            self.data_due = !is_read || self.story.head().front == FrontEnd::Linear;
             self.commit()?;
         }
         self.tell_end()
@@ -237,16 +253,14 @@ impl<F: Front> Node<F> {
         let rang = self.road.receive(wait, &mut arrived)?;
         let now = Instant::now();
         for it in arrived.drain(..) {
-            self.heard(it)?;
+            self.heard(it, now)?;
         }
         self.arrived = arrived;
         if now >= self.look_at {
             self.look()?;
             self.look_at = now + self.look_every;
         }
-        if self.held_till.is_some_and(|it| now >= it) {
-            (self.steps_due, self.data_due) = (true, true);
-        }
+        self.data_due |= self.held_till.is_some_and(|it| now >= it);
         self.commit()?;
         self.tell_end()?;
         self.turn()?;
@@ -255,71 +269,52 @@ impl<F: Front> Node<F> {
     }
 
     /// When something has to be done next, if nothing comes before.
-    fn next_due(&mut self, until: Option<Instant>) -> Option<Instant> {
-        let is_idle = self.story.process().pending() == 0 && !self.story.is_ending() && !self.story.is_opening();
+    fn next_due(&self, until: Option<Instant>) -> Option<Instant> {
+        let node = self.story.node();
+        let is_idle =
+            node.pending() == 0 && node.has_heard_all() && !self.story.is_ending() && !self.story.is_opening();
         let look_at = (!is_idle).then_some(self.look_at);
         [until, look_at, self.held_till, self.road.due()].into_iter().flatten().min()
     }
 
-    /// Of a step that was just made: its entry, its frames, its reply.
-    fn stage(&mut self, entry: &Entry<'_>, is_cast: bool) -> Result<(), Fault> {
-        self.story.add(entry);
-        self.steps_due = true;
-        self.data_due |= is_cast;
-        for (to, frame) in self.story.process().frames().map_err(Fault::Failed)? {
-            self.data_due |= is_data(&frame);
-            self.parcels.add(to, &frame);
-        }
-        if let Some(reply) = entry.reply.filter(|_| self.story.is_own()) {
-            self.staged_answer = Some(reply.answer);
-        }
-        Ok(())
-    }
-
-    /// Writes the entries down; then their frames go out, and then their answer is told. Counts alone are no reason to
-    /// wait for the disk: they are held until there is one, or for a short time.
+    /// Writes the entries down; once they are durable, what they put goes out, and an answer is told. With `sync` that
+    /// is on the disk. Counts alone are no reason to wait for it: they are held until there is one, or for a short time.
     fn commit(&mut self) -> Result<(), Fault> {
-        if !self.steps_due {
+        if self.story.is_done() && !self.data_due {
             return Ok(());
         }
-        let sync = self.sync && self.data_due;
-        self.story.log.write(sync)?;
-        (self.steps_due, self.data_due) = (false, false);
-        if self.sync && !sync && !self.parcels.is_empty() {
-            self.held_till.get_or_insert_with(|| Instant::now() + HOLD);
-        } else {
-            self.held_till = None;
-            if !self.parcels.is_empty() {
-                self.parcels.send(&self.meeting, &mut *self.road);
+        let is_urgent = self.data_due || self.story.is_answered();
+        self.story.write(self.sync && is_urgent)?;
+        if self.sync && !is_urgent {
+            if !self.story.is_handed_out() {
+                self.held_till.get_or_insert_with(|| Instant::now() + HOLD);
             }
+            return Ok(());
         }
-        if let Some(answer) = self.staged_answer.take() {
-            self.answer = Some(answer);
+        self.data_due = false;
+        self.held_till = None;
+        self.hand_out()?;
+        if !self.parcels.is_empty() {
+            self.parcels.send(&self.meeting, &mut *self.road);
         }
         Ok(())
     }
 
-    /// A tick where a link goes without an answer, with growing pauses.
-    fn look(&mut self) -> Result<(), Fault> {
-        let mut is_due = false;
-        for (peer, beat) in (0..).zip(&mut self.beats) {
-            let known = self.story.process().known(peer);
-            let first = (known.first != known.next).then_some(known.first);
-            if first.is_none() || first != beat.first {
-                *beat = Beat { first, silent: 0 };
-                continue;
+    /// Gathers the frames of the steps so far, and tells an answer.
+    fn hand_out(&mut self) -> Result<(), Fault> {
+        self.story.let_out()?;
+        while let Some(Output { frames, reply }) = self.story.hand_out()? {
+            for (to, frame) in frames {
+                self.parcels.add(to, frame);
             }
-            beat.silent = if beat.silent < LAST_DUE { beat.silent + 1 } else { ALSO_DUE + 1 };
-            is_due |= DUE.contains(&beat.silent);
+            if let Some(reply) = reply.filter(|_| self.story.is_own()) {
+                self.answer = Some(reply.answer);
+            }
         }
-        if is_due {
-            self.story.process().tick()?;
-            self.stage(&Entry { step: Step::Tick, reply: None }, false)?;
-        }
-        if self.story.is_ending() { self.tell_state() } else { Ok(()) }
+        Ok(())
     }
 
-    fn heard(&mut self, arrived: Arrived) -> Result<(), Fault> {
+    fn heard(&mut self, arrived: Arrived, now: Instant) -> Result<(), Fault> {
         let (key, bytes) = match arrived {
             Arrived::Message { key, bytes } => (key, bytes),
             Arrived::Odd(odd) => {
@@ -327,15 +322,17 @@ impl<F: Front> Node<F> {
                 return Ok(());
             }
         };
-        match self.meeting.met(key, &bytes) {
+        let met = self.meeting.met(key, &bytes);
+        if let Met::Peer { sender, .. } = &met {
+            self.beats[usize::from(*sender)].came(now);
+        }
+        match met {
             Met::Peer { sender, brings: Brings::Frames, rest } => self.take_all(sender, rest)?,
             Met::Peer { sender, brings: Brings::State, rest } => match State::of(rest, self.beats.len()) {
-                Some(state) => self.story.heard(sender, state),
-                None => self.complaints.say(&Complaint {
-                    kind: Kind::State(sender),
-                    text: format!("process {sender}: no state of a node"),
-                }),
+                Some(state) => self.story.heard_state(sender, state),
+                None => self.complain(Kind::State(sender), format!("process {sender}: no state of a node")),
             },
+            Met::Peer { sender, brings: Brings::Greeting, rest } => self.greeted(sender, rest)?,
             Met::Late(sender) => self.tell_last(sender),
             Met::Elsewhere => {}
             Met::Odd(odd) => self.complaints.say(&odd),
@@ -350,20 +347,20 @@ impl<F: Front> Node<F> {
             // (bytes that end too early are no frame)
             let (frame, rest) = frames.split_at_checked(length.max(1)).unwrap_or((frames, &[]));
             frames = rest;
-            match self.story.process().take(from, frame).map_err(Fault::from) {
-                Ok(reply) => {
-                    self.stage(&Entry { step: Step::Take { from, frame: Cow::Borrowed(frame) }, reply }, false)?
+            let before = self.story.node().pending();
+            match self.story.step(|node| node.take(from, frame)).map_err(Fault::from) {
+                Ok(()) => self.data_due |= self.story.node().pending() > before,
+                Err(Fault::Refused(why)) => {
+                    self.complain(Kind::Frame(from), format!("process {from}: a frame is refused: {why}"));
                 }
-                Err(Fault::Refused(why)) => self.complain_of_frame(from, why),
                 Err(why) => return Err(why),
             }
         }
         Ok(())
     }
 
-    fn complain_of_frame(&mut self, from: u8, why: Refused) {
-        self.complaints
-            .say(&Complaint { kind: Kind::Frame(from), text: format!("process {from}: a frame is refused: {why}") });
+    fn complain(&mut self, kind: Kind, text: String) {
+        self.complaints.say(&Complaint { kind, text });
     }
 }
 

@@ -7,7 +7,7 @@ const COUNT: usize = 12;
 const KIND: usize = 3;
 
 /// Whether a frame carries a body, and no count of accepted ones alone.
-pub fn is_data(frame: &[u8]) -> bool {
+fn is_data(frame: &[u8]) -> bool {
     frame.get(KIND) == Some(&1)
 }
 
@@ -78,10 +78,9 @@ impl Parcels {
 #[cfg(test)]
 mod tests {
     use super::*;
-    use crate::front::FrontEnd;
-    use crate::log::Head;
     use crate::road::{Arrived, RoadFault};
     use std::time::Duration;
+    use tellwydar::{FrontEnd, LogHead};
 
     /// Keeps what is sent.
     #[derive(Default)]
@@ -89,7 +88,7 @@ mod tests {
 
     impl Road for Kept {
         fn most_bytes(&self) -> usize {
-            100
+            108
         }
 
         fn send(&mut self, to: u8, message: &[u8]) {
@@ -103,25 +102,19 @@ mod tests {
 
     #[test]
     fn the_last_count_stands_behind_the_bodies_of_its_receiver() {
-        let head =
-            Head { front: FrontEnd::Linear, processes: 3, registers: vec!["x".into()], me: 0, chapter: 0, begun: 1 };
-        let (mut parcels, mut road) = (Parcels::new(3, 100), Kept::default());
+        let (front, names) = (FrontEnd::Linear, vec!["x".into()]);
+        let head = LogHead { cluster: 7, chapter: 0, begun: 1, front, processes: 3, process: 0, names };
+        let (mut parcels, mut road) = (Parcels::new(3, 108), Kept::default());
         let count = |number: u8| [0, 10, 1, 2, 0, 0, 0, 0, 0, 0, 0, number];
         let body = |number: u8| [&[0, 30, 1, 1, 0, 0, 0, 0, 0, 0, 0, number], [7; 20].as_slice()].concat();
         assert!(parcels.is_empty());
-        for (to, frame) in [
-            (1, count(1).to_vec()),
-            (1, body(0)),
-            (1, count(2).to_vec()),
-            (2, count(5).to_vec()),
-            (1, body(1)),
-            (1, body(2)),
-        ] {
+        parcels.add(1, &count(1));
+        for (to, frame) in [(1, body(0)), (1, count(2).to_vec()), (2, count(5).to_vec()), (1, body(1)), (1, body(2))] {
             parcels.add(to, &frame);
         }
         parcels.send(&Meeting::new(&head), &mut road);
         let first = [body(0)].concat();
-        // (with a start of 26 bytes two bodies of 32 and a count of 12 are more than 100)
+        // (with a start of 34 bytes two bodies of 32 and a count of 12 are more than 108)
         let wanted = [(1, first), (1, body(1)), (1, [body(2), count(2).to_vec()].concat()), (2, count(5).to_vec())];
         assert_eq!(road.0, wanted);
         assert!(parcels.is_empty());

@@ -1,4 +1,5 @@
 //! Scripts: a call a line, or a pause.
+use crate::calls::{Form, answer_line};
 use crate::fault::Fault;
 use crate::node::Node;
 use std::fmt;
@@ -33,20 +34,11 @@ impl fmt::Display for ScriptFault {
 impl std::error::Error for ScriptFault {}
 
 fn line(text: &str, registers: &[String]) -> Option<Line> {
-    let register = |name: &str| registers.iter().position(|it| it == name).map(|it| it as u16);
-    let words: Vec<&str> = text.split_whitespace().collect();
-    Some(match *words {
-        ["read", name] => Line::Call(Op::Read { register: register(name)? }),
-        ["write", name, value] => Line::Call(Op::Write { register: register(name)?, value: value.parse().ok()? }),
-        ["swap", name, value] => Line::Call(Op::Swap { register: register(name)?, value: value.parse().ok()? }),
-        ["cas", name, expected, value] => Line::Call(Op::CompareAndSwap {
-            register: register(name)?,
-            expected: expected.parse().ok()?,
-            value: value.parse().ok()?,
-        }),
-        ["sleep", seconds] => Line::Sleep(Duration::try_from_secs_f64(seconds.parse().ok()?).ok()?),
-        _ => return None,
-    })
+    if let Ok(op) = Form::Words.call(text, registers) {
+        return Some(Line::Call(op));
+    }
+    let seconds = text.trim().strip_prefix("sleep ")?.trim().parse().ok()?;
+    Duration::try_from_secs_f64(seconds).ok().map(Line::Sleep)
 }
 
 impl Script {
@@ -86,11 +78,7 @@ impl Script {
 /// What is told is in the log before.
 fn tell<F: Front>(node: &mut Node<F>, out: &mut impl Write, answer: Answer) -> Result<(), Fault> {
     node.keep()?;
-    match answer {
-        Answer::Done => writeln!(out, "done")?,
-        Answer::Value(value) => writeln!(out, "value {value}")?,
-        Answer::Unequal => writeln!(out, "unequal")?,
-    }
+    writeln!(out, "{}", answer_line(answer))?;
     Ok(out.flush()?)
 }
 
@@ -112,7 +100,10 @@ mod tests {
     #[test]
     fn lines_are_calls_and_pauses() {
         let names = ["x".to_string(), "y".to_string()];
-        let script = Script::parse("write x 5\n# no call\n\n read y\nsleep 0.5\nswap y 18446744073709551615\ncas x 0 7\n", &names);
+        let script = Script::parse(
+            "write x 5\n# no call\n\n read y\nsleep 0.5\nswap y 18446744073709551615\ncas x 0 7\n",
+            &names,
+        );
         let calls = vec![
             Line::Call(Op::Write { register: 0, value: 5 }),
             Line::Call(Op::Read { register: 1 }),

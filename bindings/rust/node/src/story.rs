@@ -1,14 +1,14 @@
-//! Where one node is: its process, its log, and the chapters before. All that a chapter is, is in its log, so a node
-//! that was killed is made again.
+//! Where one node is: its chapter with its log, and the chapters before. All that a chapter is, is in its log, so a node
+//! that was killed is made again. It needs the logs of its last two chapters, and no others.
 use crate::chapters::{State, is_over};
-use crate::config::Most;
 use crate::fault::Fault;
-use crate::log::{Entry, Head, Log, Step};
-use crate::writer::Writer;
-use std::fs::File;
-use std::io::Read;
+use crate::log_file::{LogFile, at_path, folder_of, keep};
+use crate::log_text;
+use crate::room::Room;
+use std::fs::{self, File};
+use std::io::{self, Read};
 use std::path::{Path, PathBuf};
-use tellwydar::{Front, Op, Process, Refused, Reply};
+use tellwydar::{LogHead, LoggedNode, Op, Output, Refused};
 
 /// How a node's last chapter ended, for those who don't know it yet.
 #[derive(Debug)]
@@ -17,28 +17,37 @@ pub struct Ended {
     pub state: State,
 }
 
-/// The chapter that goes on.
-struct Chapter<F: Front> {
-    head: Head,
-    process: Process<F>,
-    is_running: bool,
+/// What a chapter is, up to some entry of its log.
+struct Chapter {
+    head: LogHead,
+    node: LoggedNode,
+    /// How many operations were called, how many entries the log has, and of how many what went out is handed out.
     called: u32,
-    entries: u32,
+    entries: u64,
+    handed: u64,
+    is_running: bool,
     is_ending: bool,
     is_said_quiet: bool,
     states: Vec<Option<State>>,
 }
 
 /// The chapters of a node up to the one that goes on.
-pub struct Story<F: Front> {
+pub struct Story {
     path: PathBuf,
-    /// How many operations and entries of its own end a chapter.
-    most: Most,
-    chapter: Chapter<F>,
-    pub log: Writer,
-    called_before: u64,
+    room: Room,
+    chapter: Chapter,
+    log: LogFile,
+    before: Before,
+}
+
+/// What the chapters before have left.
+#[derive(Default)]
+struct Before {
+    /// How many operations their callers called.
+    called: u64,
+    /// What the last one ended with, but for zeros: what process 0 writes first.
     opening: Vec<(u16, u64)>,
-    pub ended: Option<Ended>,
+    ended: Option<Ended>,
 }
 
 fn beside(path: &Path, end: &str) -> PathBuf {
@@ -48,13 +57,34 @@ fn beside(path: &Path, end: &str) -> PathBuf {
 }
 
 /// The log of a chapter.
-fn log_of(path: &Path, chapter: u32) -> PathBuf {
+fn log_of(path: &Path, chapter: u64) -> PathBuf {
     if chapter == 0 { path.to_path_buf() } else { beside(path, &format!(".{chapter}")) }
 }
 
-/// The file that says that nothing more is called in the chapter of this log.
+/// The file that says that nothing more is called in the chapter of this log: how many operations were called up to its
+/// end.
 fn quiet_of(log: &Path) -> PathBuf {
     beside(log, ".quiet")
+}
+
+/// How many operations its callers called up to the end of the chapter of this log.
+fn called_up_to(log: &Path) -> Result<u64, Fault> {
+    let path = quiet_of(log);
+    let text = fs::read_to_string(&path).map_err(|why| at_path(&path, why))?;
+    let count = text.strip_suffix('\n').and_then(|it| it.parse().ok());
+    count.ok_or_else(|| Fault::OtherLog(format!("{}: no number of calls", path.display())))
+}
+
+/// The last chapter that has a log at this path. Those before the last two may have been put aside.
+fn last_chapter(path: &Path) -> Result<u64, Fault> {
+    let begin = format!("{}.", path.file_name().unwrap_or_default().to_string_lossy());
+    let (folder, mut last) = (folder_of(path), 0);
+    for entry in fs::read_dir(folder).map_err(|why| at_path(folder, why))? {
+        let name = entry?.file_name().to_string_lossy().into_owned();
+        let number = name.strip_prefix(&begin).filter(|it| it.starts_with(|it: char| matches!(it, '1'..='9')));
+        last = number.and_then(|it| it.parse().ok()).map_or(last, |it| last.max(it));
+    }
+    Ok(last)
 }
 
 fn drawn() -> Result<u64, Fault> {
@@ -63,94 +93,70 @@ fn drawn() -> Result<u64, Fault> {
     Ok(u64::from_be_bytes(bytes))
 }
 
-/// Makes the step of an entry.
-fn made<F: Front>(process: &mut Process<F>, step: &Step<'_>) -> Result<Option<Reply>, Refused> {
-    match step {
-        Step::Call(op) => process.call(*op),
-        Step::Take { from, frame } => process.take(*from, frame),
-        Step::Tick => process.tick().map(|()| None),
-    }
-}
-
-impl<F: Front> Chapter<F> {
-    fn new(head: Head) -> Result<Self, Fault> {
-        let process = Process::new(head.processes.into(), head.registers.len() as u32, head.me)?;
-        let states = vec![None; head.processes.into()];
+impl Chapter {
+    /// The chapter of the log at this path, whose text this is. Its head is as this one, but for what was drawn.
+    fn of(head: &LogHead, path: &Path, text: &[u8]) -> Result<Self, Fault> {
+        let node = log_text::open(path, text)?;
+        let log = &text[..node.whole()];
+        if let Some(what) = log_text::differs(log, head)? {
+            return Err(Fault::OtherLog(format!("{} is of {what}", path.display())));
+        }
         Ok(Self {
-            head,
-            process,
-            is_running: false,
-            called: 0,
-            entries: 0,
-            is_ending: false,
+            head: LogHead { begun: log_text::begun(log), ..head.clone() },
+            called: log_text::count_calls(log),
+            entries: node.logged(),
+            handed: node.logged(),
+            is_running: node.busy(),
+            node,
+            is_ending: quiet_of(path).exists(),
             is_said_quiet: false,
-            states,
+            states: vec![None; head.processes.into()],
         })
     }
 
-    /// The process is a function of the steps in its log: makes them again.
-    fn again(head: &Head, old: &Log, most: Most) -> Result<Self, Fault> {
-        if (Head { begun: head.begun, ..old.head.clone() }) != *head {
-            return Err(Fault::OtherLog(format!(
-                "{} is of another process, chapter, front end or shape",
-                old.path.display()
-            )));
-        }
-        let mut chapter = Self::new(old.head.clone())?;
-        for (place, entry) in old.entries.iter().enumerate() {
-            let wrong =
-                |why: String| Fault::OtherLog(format!("{}: line {}: {why}", old.path.display(), Log::line_of(place)));
-            let reply = made(&mut chapter.process, &entry.step).map_err(|why| wrong(why.to_string()))?;
-            if reply != entry.reply {
-                return Err(wrong("another reply".to_string()));
-            }
-            chapter.count(entry, most);
-        }
-        chapter.is_said_quiet = quiet_of(&old.path).exists();
-        chapter.is_ending |= chapter.is_said_quiet;
-        Ok(chapter)
+    /// Whether there is little room left.
+    fn is_full(&self, room: Room) -> bool {
+        self.called >= room.operations || self.entries >= room.entries.into()
     }
 
-    /// An entry more: whether an operation goes on, and whether there is little room left.
-    fn count(&mut self, entry: &Entry<'_>, most: Most) {
-        self.entries += 1;
-        if matches!(entry.step, Step::Call(_)) {
-            self.called += 1;
-            self.is_running = true;
-        }
-        self.is_running &= entry.reply.is_none();
-        self.is_ending |= self.called >= most.operations || self.entries >= most.entries;
+    /// How far this node has come in the chapter.
+    fn state(&self, is_quiet: bool) -> State {
+        let (processes, me) = (self.head.processes, usize::from(self.head.process));
+        let known: Vec<_> = (0..processes).map(|it| self.node.known(it)).collect();
+        // (of itself a process knows nothing: all is 0)
+        let put = known.iter().enumerate().filter(|(it, _)| *it != me).map(|(_, it)| it.next).max().unwrap_or(0);
+        let accepted = known.iter().map(|it| it.expected).collect();
+        State { is_quiet, is_at_rest: self.node.pending() == 0, put, accepted }
     }
 }
 
-impl<F: Front> Story<F> {
+impl Story {
     /// A story that begins, or with `resume` the one whose logs are there.
-    pub fn open(head: Head, path: &Path, most: Most, resume: bool) -> Result<Self, Fault> {
-        let most = Most { entries: most.entries / u32::from(head.processes), ..most };
+    pub fn open(head: LogHead, path: &Path, room: Room, resume: bool) -> Result<Self, Fault> {
         let mut before = Before::default();
-        let (chapter, log) = if resume {
-            let last = (0..).take_while(|&it| it == 0 || log_of(path, it).exists()).last().unwrap_or(0);
-            for earlier in 0..last {
-                let old = Log::read(&log_of(path, earlier))?;
-                before.end(&mut Chapter::<F>::again(&Head { chapter: earlier, ..head.clone() }, &old, most)?);
+        let (mut chapter, log) = if resume {
+            let last = last_chapter(path)?;
+            if last > 0 {
+                before = Before::of(&LogHead { chapter: last - 1, ..head.clone() }, &log_of(path, last - 1))?;
             }
-            resumed(&Head { chapter: last, ..head }, &log_of(path, last), most)?
+            resumed(&LogHead { chapter: last, ..head }, &log_of(path, last))?
         } else {
-            begun(head, path)?
+            begun(head, path, LogFile::create(path)?)?
         };
-        let Before { called, opening, ended } = before;
-        Ok(Self { path: path.to_path_buf(), most, chapter, log, called_before: called, opening, ended })
+        chapter.is_ending |= chapter.is_full(room);
+        Ok(Self { path: path.to_path_buf(), room, chapter, log, before })
     }
 
-    pub fn head(&self) -> &Head {
+    pub fn head(&self) -> &LogHead {
         &self.chapter.head
     }
 
-    pub fn process(&mut self) -> &mut Process<F> {
-        &mut self.chapter.process
+    /// Its node, to look at.
+    pub fn node(&self) -> &LoggedNode {
+        &self.chapter.node
     }
 
-    /// Whether an operation goes on.
+    /// Whether an operation goes on, or its reply isn't handed out yet.
     pub fn is_running(&self) -> bool {
         self.chapter.is_running
     }
@@ -160,46 +166,111 @@ impl<F: Front> Story<F> {
         self.chapter.is_ending
     }
 
-    /// Adds the entry of a step that was made to the log.
-    pub fn add(&mut self, entry: &Entry<'_>) {
-        self.log.add(entry);
-        self.chapter.count(entry, self.most);
+    /// Whether so many casts of this node are on their way that no other is made.
+    pub fn is_far_ahead(&self) -> bool {
+        self.node().unsettled() >= self.room.ahead.into()
+    }
+
+    /// Whether the operation that goes on has a reply, which isn't handed out yet.
+    pub fn is_answered(&self) -> bool {
+        self.is_running() && !self.node().busy()
+    }
+
+    /// Whether what went out of all entries is handed out.
+    pub fn is_handed_out(&self) -> bool {
+        self.chapter.handed == self.chapter.entries
+    }
+
+    /// Whether all entries are written, and what went out of them is handed out.
+    pub fn is_done(&self) -> bool {
+        self.log.is_written() && self.is_handed_out()
+    }
+
+    /// Calls an operation. As of each step, its entry is added to the log, but not written.
+    pub fn call(&mut self, op: Op) -> Result<(), Refused> {
+        self.step(|node| node.call(op))?;
+        self.chapter.called += 1;
+        self.chapter.is_running = true;
+        self.chapter.is_ending |= self.chapter.is_full(self.room);
+        Ok(())
+    }
+
+    /// Makes a step.
+    pub fn step(&mut self, step: impl FnOnce(&mut LoggedNode) -> Result<&[u8], Refused>) -> Result<(), Refused> {
+        self.log.add(step(&mut self.chapter.node)?);
+        self.chapter.entries += 1;
+        self.chapter.is_ending |= self.chapter.is_full(self.room);
+        Ok(())
+    }
+
+    /// Writes the entries down, with `sync` on the disk.
+    pub fn write(&mut self, sync: bool) -> io::Result<()> {
+        self.log.write(sync)
+    }
+
+    /// What goes out of the steps so far may be handed out.
+    pub fn let_out(&mut self) -> Result<(), Refused> {
+        self.chapter.node.mark_durable(self.chapter.entries)
+    }
+
+    /// What goes out of the next step, if there is one.
+    pub fn hand_out(&mut self) -> Result<Option<Output<'_>>, Refused> {
+        if self.is_handed_out() {
+            return Ok(None);
+        }
+        self.chapter.handed += 1;
+        let output = self.chapter.node.hand_out()?;
+        self.chapter.is_running &= output.as_ref().is_none_or(|it| it.reply.is_none());
+        Ok(output)
+    }
+
+    /// Another process accepted so many bodies.
+    pub fn hear(&mut self, process: u8, accepted: u64) -> Result<(), Fault> {
+        self.chapter.node.hear(process, accepted).map_err(|why| match why {
+            Refused::LogLost => {
+                let queued = self.chapter.node.known(process).next;
+                let why = format!("process {process} accepted {accepted} bodies, and it has {queued}");
+                Fault::LogLost(format!("the log was lost: {why}"))
+            }
+            why => why.into(),
+        })
+    }
+
+    /// How the last chapter ended.
+    pub fn ended(&self) -> Option<&Ended> {
+        self.before.ended.as_ref()
     }
 
     /// How far this node has come in its chapter.
-    pub fn state(&mut self) -> State {
-        let is_quiet = self.is_ending() && !self.is_running() && !self.is_opening();
-        state_of(&mut self.chapter, is_quiet)
+    pub fn state(&self) -> State {
+        self.chapter.state(self.is_ending() && !self.is_running() && !self.is_opening())
     }
 
     /// Whether the values that the last chapter ended with aren't all written here: then nothing else is called.
-    pub fn is_opening(&mut self) -> bool {
-        !self.opening.is_empty() && self.chapter.process.delivered() < self.opening.len() as u64
+    pub fn is_opening(&self) -> bool {
+        let opening = &self.before.opening;
+        !opening.is_empty() && self.chapter.node.delivered() < opening.len() as u64
     }
 
     /// What this node writes next of what the last chapter ended with.
     pub fn next_opening(&self) -> Option<Op> {
-        let (register, value) = *self.opening.get(self.chapter.called as usize).filter(|_| self.head().me == 0)?;
+        let next = self.before.opening.get(self.chapter.called as usize);
+        let (register, value) = *next.filter(|_| self.head().process == 0)?;
         Some(Op::Write { register, value })
-    }
-
-    /// How many of this node's calls wrote what the last chapter ended with.
-    pub fn opened(&self) -> u32 {
-        if self.head().me == 0 { self.chapter.called.min(self.opening.len() as u32) } else { 0 }
     }
 
     /// How many operations its caller has called, in earlier runs too.
     pub fn called(&self) -> u64 {
-        self.called_before + u64::from(self.chapter.called - self.opened())
+        self.before.called + self.before.own_calls(&self.chapter)
     }
 
     /// Whether the operation that was called last is its caller's.
     pub fn is_own(&self) -> bool {
-        self.chapter.called > self.opened()
+        self.before.own_calls(&self.chapter) > 0
     }
 
     /// Another node told how far it has come: somebody has little room left.
-    pub fn heard(&mut self, sender: u8, state: State) {
+    pub fn heard_state(&mut self, sender: u8, state: State) {
         self.chapter.is_ending = true;
         let known = &mut self.chapter.states[usize::from(sender)];
         if known.as_ref().is_none_or(|it| !it.is_later_than(&state)) {
@@ -211,7 +282,7 @@ impl<F: Front> Story<F> {
     pub fn say_quiet(&mut self) -> Result<(), Fault> {
         if !self.chapter.is_said_quiet {
             let path = quiet_of(&log_of(&self.path, self.head().chapter));
-            File::options().append(true).create(true).open(path)?.sync_all()?;
+            keep(&path, format!("{}\n", self.called()).as_bytes())?;
             self.chapter.is_said_quiet = true;
         }
         Ok(())
@@ -222,71 +293,65 @@ impl<F: Front> Story<F> {
         if !self.is_ending() {
             return Ok(false);
         }
-        let (me, state) = (usize::from(self.head().me), self.state());
+        let (me, state) = (usize::from(self.head().process), self.state());
         self.chapter.states[me] = Some(state);
         if !is_over(&self.chapter.states) {
             return Ok(false);
         }
-        let mut before = Before { called: self.called_before, ..Before::default() };
-        before.opening = std::mem::take(&mut self.opening);
-        before.end(&mut self.chapter);
-        let head = Head { chapter: self.head().chapter + 1, ..self.head().clone() };
+        self.say_quiet()?;
+        self.before.end(&self.chapter);
+        let head = LogHead { chapter: self.head().chapter + 1, ..self.head().clone() };
         let path = log_of(&self.path, head.chapter);
         eprintln!("chapter {} begins, in {}", head.chapter, path.display());
-        (self.chapter, self.log) = begun(head, &path)?;
-        (self.called_before, self.opening, self.ended) = (before.called, before.opening, before.ended);
+        (self.chapter, self.log) = begun(head, &path, LogFile::create(&path)?)?;
         Ok(true)
     }
 }
 
-fn state_of<F: Front>(chapter: &mut Chapter<F>, is_quiet: bool) -> State {
-    let (processes, me) = (chapter.head.processes, chapter.head.me);
-    let known: Vec<_> = (0..processes).map(|it| chapter.process.known(it)).collect();
-    let put = (0..processes).zip(&known).filter(|(it, _)| *it != me).map(|(_, it)| it.next).max().unwrap_or(0);
-    // (of itself a process knows nothing: all is 0)
-    State {
-        is_quiet,
-        is_at_rest: chapter.process.pending() == 0,
-        put,
-        accepted: known.iter().map(|it| it.expected).collect(),
-    }
-}
-
-/// What the chapters before have left.
-#[derive(Default)]
-struct Before {
-    called: u64,
-    opening: Vec<(u16, u64)>,
-    ended: Option<Ended>,
-}
-
 impl Before {
+    /// What the chapter of the log at this path has left, which was over before the node was killed.
+    fn of(head: &LogHead, log: &Path) -> Result<Self, Fault> {
+        let mut before = Self::default();
+        before.end(&Chapter::of(head, log, &log_text::read(log)?)?);
+        before.called = called_up_to(log)?;
+        Ok(before)
+    }
+
+    /// How many calls of the chapter after these don't write what they ended with.
+    fn own_calls(&self, chapter: &Chapter) -> u64 {
+        let opening = if chapter.head.process == 0 { self.opening.len() as u64 } else { 0 };
+        u64::from(chapter.called).saturating_sub(opening)
+    }
+
     /// A chapter is over: what the next one begins with, and what is told to those who don't know it yet.
-    fn end<F: Front>(&mut self, chapter: &mut Chapter<F>) {
-        let opened = if chapter.head.me == 0 { chapter.called.min(self.opening.len() as u32) } else { 0 };
-        self.called += u64::from(chapter.called - opened);
-        let state = State { is_at_rest: true, ..state_of(chapter, true) };
+    fn end(&mut self, chapter: &Chapter) {
+        self.called += self.own_calls(chapter);
+        let state = State { is_at_rest: true, ..chapter.state(true) };
         self.ended = Some(Ended { begun: chapter.head.begun, state });
-        let values = (0..chapter.head.registers.len() as u16).map(|it| (it, chapter.process.register(it)));
+        let values = (0..chapter.head.names.len() as u16).map(|it| (it, chapter.node.register(it)));
         self.opening = values.filter(|&(_, value)| value != 0).collect();
     }
 }
 
-/// Begins a chapter with a log of its own.
-fn begun<F: Front>(head: Head, path: &Path) -> Result<(Chapter<F>, Writer), Fault> {
-    let chapter = Chapter::new(Head { begun: drawn()?, ..head })?;
-    let log = Writer::create(path, &chapter.head)?;
+/// Begins a chapter in a file of its own.
+fn begun(head: LogHead, path: &Path, mut log: LogFile) -> Result<(Chapter, LogFile), Fault> {
+    let head = LogHead { begun: drawn()?, ..head };
+    let text = LoggedNode::begin(&head)?;
+    let chapter = Chapter::of(&head, path, &text)?;
+    log.begin(&text)?;
     Ok((chapter, log))
 }
 
-/// Goes on with a chapter whose log is there.
-fn resumed<F: Front>(head: &Head, path: &Path, most: Most) -> Result<(Chapter<F>, Writer), Fault> {
-    let mut log = Writer::reopen(path)?;
-    let old = Log::read(path)?;
-    if old.cut > 0 {
-        old.say_cut();
+/// Goes on with a chapter whose log is there; one whose log has no whole head never began.
+fn resumed(head: &LogHead, path: &Path) -> Result<(Chapter, LogFile), Fault> {
+    let (mut log, text) = LogFile::reopen(path)?;
+    let text = log_text::without_room(text);
+    if log_text::is_headless(&text, head)? {
+        return begun(head.clone(), path, log);
     }
-    let chapter = Chapter::again(head, &old, most)?;
-    log.go_on(&old)?;
+    let chapter = Chapter::of(head, path, &text)?;
+    let whole = chapter.node.whole();
+    log_text::say_cut(path, text.len() - whole);
+    log.go_on(whole as u64)?;
     Ok((chapter, log))
 }

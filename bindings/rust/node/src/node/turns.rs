@@ -1,8 +1,8 @@
 //! How a chapter ends, and the next one begins.
-use super::{Beat, Node};
+use super::Node;
 use crate::fault::Fault;
 use crate::message::{Brings, Meeting, begin};
-use tellwydar::Front;
+use tellwydar::{Front, Refused};
 
 impl<F: Front> Node<F> {
     /// Tells the others at once that this chapter ends, and that this node is at rest.
@@ -18,12 +18,11 @@ impl<F: Front> Node<F> {
     /// Tells all others how far this node has come: what it tells, it knows too when it is resumed.
     pub(super) fn tell_state(&mut self) -> Result<(), Fault> {
         let state = self.story.state();
-        self.story.log.write(self.sync)?;
+        self.story.write(self.sync)?;
         if state.is_quiet {
             self.story.say_quiet()?;
         }
-        let me = self.story.head().me;
-        for to in (0..self.story.head().processes).filter(|it| *it != me) {
+        for to in self.others() {
             let message = [begin(&self.meeting.start(to), Brings::State), state.bytes()].concat();
             self.road.send(to, &message);
         }
@@ -33,24 +32,27 @@ impl<F: Front> Node<F> {
 
     /// Tells one that is still in the last chapter how far this node came there.
     pub(super) fn tell_last(&mut self, to: u8) {
-        if let Some(ended) = &self.story.ended {
-            let start = self.meeting.start_of(to, ended.begun, self.story.head().chapter - 1);
+        if let Some(ended) = self.story.ended() {
+            let start = self.meeting.start_of(to, ended.begun, self.story.head().chapter as u32 - 1);
             self.road.send(to, &[begin(&start, Brings::State), ended.state.bytes()].concat());
         }
     }
 
     /// Where the chapter is over, the next one begins, and process 0 writes what this one ended with.
     pub(super) fn turn(&mut self) -> Result<(), Fault> {
-        if !self.steps_due && self.story.turn()? {
+        if self.story.is_done() && self.story.turn()? {
             self.meeting = Meeting::new(self.story.head());
-            self.beats.fill(Beat::default());
             // (a count that was held is of the last chapter)
             self.parcels.clear();
             self.held_till = None;
             self.told = None;
+            self.meet_all();
         }
         while let Some(op) = self.story.next_opening().filter(|_| !self.story.is_running()) {
-            self.call(op)?;
+            match self.call(op) {
+                Err(Fault::Refused(Refused::Unheard)) => break,
+                called => called?,
+            }
         }
         Ok(())
     }

@@ -1,9 +1,10 @@
-//! Front ends by their names, as configurations and logs have them.
+//! Front ends by their names, as texts, logs and configurations have them.
 use std::fmt;
 use std::str::FromStr;
 
-/// How operations start, as a value: [`tellwydar::Linear`], [`tellwydar::LocalRead`] or [`tellwydar::LocalWrite`].
-#[derive(Clone, Copy, Debug, PartialEq, Eq)]
+/// How operations start, as a value: [`Linear`](crate::Linear), [`LocalRead`](crate::LocalRead) or
+/// [`LocalWrite`](crate::LocalWrite).
+#[derive(Clone, Copy, Debug, PartialEq, Eq, Hash)]
 pub enum FrontEnd {
     Linear,
     LocalRead,
@@ -13,17 +14,18 @@ pub enum FrontEnd {
 impl FrontEnd {
     const ALL: [Self; 3] = [Self::Linear, Self::LocalRead, Self::LocalWrite];
 
-    /// Its number in a message.
-    pub(crate) fn number(self) -> u8 {
+    /// The front end of this number.
+    pub fn of_number(number: u8) -> Option<Self> {
+        Self::ALL.get(usize::from(number)).copied()
+    }
+
+    /// Its number in the library, and in messages of nodes.
+    pub fn number(self) -> u8 {
         self as u8
     }
 
-    /// The name of the front end of this number, as it is told.
-    pub(crate) fn name_of(number: u8) -> &'static str {
-        Self::ALL.get(usize::from(number)).map_or("unknown", |it| it.name())
-    }
-
-    fn name(self) -> &'static str {
+    /// Its name in texts.
+    pub fn name(self) -> &'static str {
         match self {
             Self::Linear => "linear",
             Self::LocalRead => "local-read",

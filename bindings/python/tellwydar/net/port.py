@@ -1,0 +1,159 @@
+"""The port of a node: a Unix socket, at which programs on its machine call it.
+
+A program sends lines. Each is a call, as words or as an object of JSON (`calls`), or asks how the node is: `health`,
+`status`, `metrics`. It is answered by one line: how the call ended, or what was asked for. Only metrics are several
+lines, of which the last is `# EOF` (https://prometheus.io/docs/instrumenting/exposition_formats). Programs take turns,
+since a process has one operation at a time.
+"""
+import contextlib
+import os
+import socket
+import socketserver
+import stat
+import threading
+from types import TracebackType
+from typing import Any, BinaryIO, Iterable, Iterator, Optional, Type
+
+from .calls import WORDS, Call, End, form_of, perform
+from .core import Busy, Closed, NodeFailed
+from .node import Node
+from .status import Status
+
+_LONGEST = 4096  # bytes of a line
+_STATUS = {"status": Status.json, "metrics": Status.metrics, "health": Status.health}
+
+
+def _words_of(why: Exception) -> str:
+    """Why a call isn't answered."""
+    known = {Busy: "another operation goes on", Closed: "the node ends"}
+    return known.get(type(why)) or str(why) or repr(why)
+
+
+class _Session(socketserver.StreamRequestHandler):
+    """A program that calls the node."""
+
+    server: "_Server"
+
+    def handle(self) -> None:
+        while line := self.rfile.readline(_LONGEST + 1):
+            text = line.strip(b" \t\r\n").decode("utf-8", "replace")
+            if len(line) > _LONGEST:
+                self._tell(form_of(text).refusal("a line is too long"))
+                return
+            if text:
+                self._tell(self._status(text) if text in _STATUS else self._answer(text))
+
+    def _tell(self, line: str) -> None:
+        self.wfile.write(line.encode() + b"\n")
+
+    def _status(self, word: str) -> str:
+        try:
+            return _STATUS[word](self.server.node.status())
+        except (Closed, NodeFailed) as why:
+            return WORDS.refusal(_words_of(why))
+
+    def _answer(self, text: str) -> str:
+        form = form_of(text)
+        try:
+            call = form.call(text, self.server.node.registers)
+        except ValueError as why:
+            return form.refusal(str(why))
+        return form.answer(call, self.server.end_of(call))
+
+
+class _Server(socketserver.ThreadingUnixStreamServer):
+    daemon_threads = True
+    block_on_close = False
+
+    def __init__(self, node: Node, path: str):
+        self.node, self._turn = node, threading.Lock()
+        self._goes_on = node.so_far()[1]  # an operation whose caller is gone, as where the node was resumed
+        super().__init__(path, _Session, bind_and_activate=False)
+        try:
+            _remove_stale(path)
+            self.server_bind()
+            os.chmod(path, 0o600)  # nobody else calls: it listens only from here on
+            self.server_activate()
+        except BaseException:
+            self.server_close()
+            raise
+
+    def end_of(self, call: Call) -> End:
+        """Makes a call when those before it have ended. Where it isn't answered it surely did nothing if the node counts
+        no operation more: one that it counts is in its log, perhaps on the disk, and goes on where the node is resumed."""
+        with self._turn:
+            called = self.node.so_far()[0]
+            try:
+                self._end_earlier()
+                return End("ok", perform(self.node, call))
+            except Exception as why:  # (what nobody thought of may come behind the call too)
+                is_called = self.node.so_far()[0] > called
+                self._goes_on |= is_called
+                return End("info" if is_called else "fail", error=_words_of(why))
+
+    def _end_earlier(self) -> None:
+        """Waits until the operation that goes on is answered, and drops its answer."""
+        if self._goes_on:
+            with contextlib.suppress(ValueError):  # (somebody else may have fetched it)
+                self.node.wait()
+            self._goes_on = False
+
+    def handle_error(self, request: Any, client_address: Any) -> None:
+        """A program that is gone isn't there to be told."""
+
+
+def _remove_stale(path: str) -> None:
+    """Removes the socket of a node that is gone."""
+    if os.path.exists(path) and stat.S_ISSOCK(os.stat(path).st_mode):
+        with socket.socket(socket.AF_UNIX) as one:
+            try:
+                one.connect(path)
+            except ConnectionRefusedError:
+                os.unlink(path)
+
+
+class Port:
+    """A port that is open until it is closed."""
+
+    def __init__(self, node: Node, path: str):
+        try:
+            self._server = _Server(node, path)
+        except OSError as why:
+            raise OSError(f"{path}: {why.strerror or why}") from None
+        self._path = path
+        threading.Thread(target=self._server.serve_forever, args=(0.05,), name="tellwydar port", daemon=True).start()
+
+    def __enter__(self) -> "Port":
+        return self
+
+    def __exit__(
+        self, kind: Optional[Type[BaseException]], why: Optional[BaseException], trace: Optional[TracebackType]
+    ) -> None:
+        self.close()
+
+    def close(self) -> None:
+        """Ends it. A call that goes on goes on."""
+        self._server.shutdown()
+        self._server.server_close()
+        with contextlib.suppress(FileNotFoundError):
+            os.unlink(self._path)
+
+
+def answers(path: str, lines: Iterable[bytes]) -> Iterator[bytes]:
+    """What the node at this port answers to each of these lines, in the order in which they are sent."""
+    with socket.socket(socket.AF_UNIX) as one:
+        one.connect(path)
+        file: BinaryIO = one.makefile("rb")
+        for line in map(bytes.strip, lines):
+            if not line:
+                continue
+            one.sendall(line + b"\n")
+            answer = file.readline()
+            while line == b"metrics" and answer and not answer.endswith(b"# EOF\n"):
+                more = file.readline()
+                answer += more
+                if not more:
+                    break
+            if not answer.endswith(b"\n"):
+                raise OSError(f"{path}: the node ended")
+            yield answer

@@ -1,0 +1,125 @@
+//! The file of a log, which one node has in its hands. What the log says is the library's: docs/FORMATS.md, "Log".
+use crate::fault::Fault;
+use std::fs::{File, OpenOptions, TryLockError};
+use std::io::{self, Read, Write};
+use std::os::unix::fs::{FileExt, OpenOptionsExt};
+use std::path::{Path, PathBuf};
+
+/// Room that is made ahead of what is forced to the disk: a file that doesn't grow is there a third sooner.
+const ROOM: u64 = 1 << 20;
+
+/// A file that grows by entries. What was added is handed to the system by [`LogFile::write`], in one call.
+#[derive(Debug)]
+pub struct LogFile {
+    path: PathBuf,
+    file: File,
+    lines: Vec<u8>,
+    /// How many bytes are written, and how many the file has, where room was made.
+    end: u64,
+    room: u64,
+}
+
+pub fn at_path(path: &Path, why: io::Error) -> io::Error {
+    io::Error::new(why.kind(), format!("{}: {why}", path.display()))
+}
+
+/// The folder of this file.
+pub fn folder_of(path: &Path) -> &Path {
+    path.parent().filter(|it| !it.as_os_str().is_empty()).unwrap_or(Path::new("."))
+}
+
+/// Has the name of this file on the disk.
+fn sync_folder(path: &Path) -> io::Result<()> {
+    File::open(folder_of(path))?.sync_all()
+}
+
+/// Has a file with these bytes alone, on the disk with its name.
+pub fn keep(path: &Path, bytes: &[u8]) -> io::Result<()> {
+    let mut file = File::create(path).map_err(|why| at_path(path, why))?;
+    file.write_all(bytes)?;
+    file.sync_all()?;
+    sync_folder(path)
+}
+
+impl LogFile {
+    fn of(path: &Path, options: &OpenOptions) -> Result<Self, Fault> {
+        let file = options.open(path).map_err(|why| at_path(path, why))?;
+        match file.try_lock() {
+            Ok(()) => Ok(Self { path: path.to_path_buf(), file, lines: Vec::new(), end: 0, room: 0 }),
+            Err(TryLockError::WouldBlock) => {
+                Err(Fault::OtherLog(format!("{} is the log of a node that runs", path.display())))
+            }
+            Err(TryLockError::Error(why)) => Err(at_path(path, why).into()),
+        }
+    }
+
+    /// A new file.
+    ///
+    /// # Errors
+    ///
+    /// Where there is one at this path already, or none can be made.
+    pub fn create(path: &Path) -> Result<Self, Fault> {
+        Self::of(path, OpenOptions::new().write(true).create_new(true).mode(0o600)).map_err(|why| match why {
+            Fault::Io(it) if it.kind() == io::ErrorKind::AlreadyExists => Fault::OtherLog(format!(
+                "{} is there already: resume it, or take a new one for a new cluster",
+                path.display()
+            )),
+            why => why,
+        })
+    }
+
+    /// A file that is there, with its text. From here on it is in no other program's hands.
+    pub fn reopen(path: &Path) -> Result<(Self, Vec<u8>), Fault> {
+        let mut file = Self::of(path, OpenOptions::new().read(true).write(true))?;
+        let mut text = Vec::new();
+        file.file.read_to_end(&mut text).map_err(|why| at_path(path, why))?;
+        Ok((file, text))
+    }
+
+    /// Begins a log in this file, which is on the disk then.
+    pub fn begin(&mut self, head: &[u8]) -> io::Result<()> {
+        self.go_on(0)?;
+        self.add(head);
+        self.write(false)?;
+        self.file.sync_all()?;
+        sync_folder(&self.path)
+    }
+
+    /// Goes on after the first bytes of the file; what is behind them is gone.
+    pub fn go_on(&mut self, whole: u64) -> io::Result<()> {
+        self.end = whole;
+        self.file.set_len(whole)
+    }
+
+    /// Adds the bytes of an entry, which aren't written yet.
+    pub fn add(&mut self, bytes: &[u8]) {
+        self.lines.extend_from_slice(bytes);
+    }
+
+    /// Whether all that was added is written.
+    pub fn is_written(&self) -> bool {
+        self.lines.is_empty()
+    }
+
+    /// Hands all that was added to the system, and with `sync` to the disk.
+    pub fn write(&mut self, sync: bool) -> io::Result<()> {
+        let end = self.end + self.lines.len() as u64;
+        if sync && end > self.room {
+            self.room = end + ROOM;
+            self.file.set_len(self.room)?;
+        }
+        self.file.write_all_at(&self.lines, self.end)?;
+        self.end = end;
+        self.lines.clear();
+        if sync { self.file.sync_data() } else { Ok(()) }
+    }
+}
+
+impl Drop for LogFile {
+    /// Gives back the room. (Where that fails, it is zeros after the last line, which are no entry.)
+    fn drop(&mut self) {
+        if self.room > self.end {
+            let _ = self.file.set_len(self.end);
+        }
+    }
+}

@@ -1,0 +1,237 @@
+//! The port of a node: a Unix socket, at which programs on its machine call it.
+//!
+//! A program sends lines. Each is a call, as words or as an object of JSON (`calls.rs`), or asks how the node is:
+//! `health`, `status`, `metrics`. It is answered by one line: how the call ended, or what was asked for. Only metrics are
+//! several lines, of which the last is `# EOF` (<https://prometheus.io/docs/instrumenting/exposition_formats>). Programs
+//! take turns, since a process has one operation at a time.
+use crate::calls::{End, Form};
+use crate::fault::Fault;
+use crate::log_file::at_path;
+use crate::node::Node;
+use std::fs::{self, Permissions};
+use std::io::{self, BufRead, BufReader, Read, Write};
+use std::os::unix::fs::{FileTypeExt, PermissionsExt};
+use std::os::unix::net::{UnixListener, UnixStream};
+use std::path::{Path, PathBuf};
+use std::sync::atomic::{AtomicBool, Ordering};
+use std::sync::mpsc::{self, Receiver, Sender};
+use std::thread;
+use tellwydar::{Answer, Front, Op};
+
+/// Bytes of a line.
+const LONGEST: usize = 4096;
+const LOOKS: [&str; 3] = ["health", "status", "metrics"];
+
+/// A line of a program, and where its answer goes.
+struct Request {
+    line: String,
+    told: Sender<String>,
+}
+
+/// Hands requests to the node's thread.
+struct Desk {
+    calls: Sender<Request>,
+    /// What asks how the node is doesn't wait for a call that goes on.
+    looks: Sender<Request>,
+    bell: UnixStream,
+}
+
+impl Desk {
+    fn again(&self) -> io::Result<Self> {
+        Ok(Self { calls: self.calls.clone(), looks: self.looks.clone(), bell: self.bell.try_clone()? })
+    }
+
+    /// The answer to a line, None where the node is gone.
+    fn ask(&self, line: String) -> Option<String> {
+        let (told, answer) = mpsc::channel();
+        let requests = if LOOKS.contains(&line.as_str()) { &self.looks } else { &self.calls };
+        requests.send(Request { line, told }).ok()?;
+        (&self.bell).write_all(&[0]).ok()?;
+        answer.recv().ok()
+    }
+}
+
+/// Answers a program until it ends.
+fn attend(program: &UnixStream, desk: &Desk) -> io::Result<()> {
+    let mut lines = BufReader::new(program);
+    let mut out = program;
+    loop {
+        let mut line = Vec::new();
+        lines.by_ref().take(LONGEST as u64 + 1).read_until(b'\n', &mut line)?;
+        if line.is_empty() {
+            return Ok(());
+        }
+        let is_long = line.len() > LONGEST;
+        let line = String::from_utf8_lossy(&line).trim_matches([' ', '\t', '\r', '\n']).to_string();
+        if is_long {
+            return out.write_all(format!("{}\n", Form::of(&line).refusal("a line is too long")).as_bytes());
+        }
+        if line.is_empty() {
+            continue;
+        }
+        let Some(answer) = desk.ask(line) else {
+            return Ok(());
+        };
+        out.write_all(format!("{answer}\n").as_bytes())?;
+    }
+}
+
+fn listen(listener: &UnixListener, desk: &Desk) -> io::Result<()> {
+    for program in listener.incoming() {
+        let (program, desk) = (program?, desk.again()?);
+        // (a program that is gone isn't there to be told)
+        thread::spawn(move || attend(&program, &desk));
+    }
+    Ok(())
+}
+
+/// Removes the socket of a node that is gone.
+fn remove_stale(path: &Path) -> io::Result<()> {
+    let is_socket = fs::metadata(path).is_ok_and(|it| it.file_type().is_socket());
+    let is_stale = || UnixStream::connect(path).is_err_and(|why| why.kind() == io::ErrorKind::ConnectionRefused);
+    if is_socket && is_stale() { fs::remove_file(path) } else { Ok(()) }
+}
+
+/// A port that is open until it is dropped.
+pub struct Port {
+    path: PathBuf,
+    calls: Receiver<Request>,
+    looks: Receiver<Request>,
+}
+
+impl Port {
+    /// Opens it at this path, for the node of this bell. Nobody but this user may call there.
+    pub fn open(path: &Path, bell: UnixStream) -> Result<Self, Fault> {
+        let open = || {
+            remove_stale(path)?;
+            let listener = UnixListener::bind(path)?;
+            fs::set_permissions(path, Permissions::from_mode(0o600))?;
+            Ok(listener)
+        };
+        let listener = open().map_err(|why| at_path(path, why))?;
+        let ((call, calls), (look, looks)) = (mpsc::channel(), mpsc::channel());
+        let desk = Desk { calls: call, looks: look, bell };
+        thread::spawn(move || {
+            if let Err(why) = listen(&listener, &desk) {
+                eprintln!("no program is answered any more: {why}");
+            }
+        });
+        Ok(Self { path: path.to_path_buf(), calls, looks })
+    }
+
+    /// Answers programs until the end is asked for.
+    ///
+    /// # Errors
+    ///
+    /// Where the node stopped.
+    pub fn serve<F: Front>(&self, node: &mut Node<F>, end: &AtomicBool) -> Result<(), Fault> {
+        while !end.load(Ordering::Relaxed) {
+            node.serve(None)?;
+            self.tell_looks(node);
+            while let Ok(Request { line, told }) = self.calls.try_recv() {
+                let (answer, up) = self.answer(node, &line, end);
+                // (the program may be gone)
+                let _ = told.send(answer);
+                up?;
+                self.tell_looks(node);
+            }
+        }
+        Ok(())
+    }
+
+    /// Tells those who ask how the node is.
+    fn tell_looks<F: Front>(&self, node: &Node<F>) {
+        while let Ok(Request { line, told }) = self.looks.try_recv() {
+            let status = node.status();
+            // (the program may be gone)
+            let _ = told.send(match line.as_str() {
+                "health" => status.health(),
+                "status" => status.json(),
+                _ => status.metrics(),
+            });
+        }
+    }
+
+    /// The answer to a call, and why the node stopped, if it did.
+    fn answer<F: Front>(&self, node: &mut Node<F>, line: &str, end: &AtomicBool) -> (String, Result<(), Fault>) {
+        let form = Form::of(line);
+        match form.call(line, node.registers()) {
+            Ok(op) => {
+                let (ended, up) = self.end_of(node, op, end);
+                (form.answer(op, node.registers(), &ended), up)
+            }
+            Err(why) => (form.refusal(&why), Ok(())),
+        }
+    }
+
+    /// Makes a call, and tells how it ended. Where it isn't answered it surely did nothing if the node counts no
+    /// operation more: one that it counts is in its log, perhaps on the disk, and goes on where the node is resumed.
+    fn end_of<F: Front>(&self, node: &mut Node<F>, op: Op, end: &AtomicBool) -> (End, Result<(), Fault>) {
+        let called = node.so_far().0;
+        // (what is told is in the log before)
+        let answered = self.answered(node, op, end).and_then(|answer| node.keep().map(|()| answer));
+        let why = match answered {
+            Ok(answer) => return (End::Answered(answer), Ok(())),
+            Err(why) => why,
+        };
+        let words = match &why {
+            Fault::Rung => "the node ends".to_string(),
+            Fault::Refused(why) | Fault::Failed(why) => why.to_string(),
+            why => why.to_string(),
+        };
+        let ended = if node.so_far().0 > called { End::Unknown(words) } else { End::Refused(words) };
+        (ended, if why.is_of_a_call() { Ok(()) } else { Err(why) })
+    }
+
+    /// The answer of this operation, unless the end is asked for. One that goes on is answered first, as where the node
+    /// was resumed: who called it is gone. Programs that come meanwhile ring the bell too.
+    fn answered<F: Front>(&self, node: &mut Node<F>, op: Op, end: &AtomicBool) -> Result<Answer, Fault> {
+        let called = node.so_far().0;
+        while !end.load(Ordering::Relaxed) {
+            let answer = if node.so_far().1 { node.wait(None) } else { node.perform(op, None) };
+            match answer {
+                Ok(_) if node.so_far().0 == called => {}
+                Err(Fault::Rung) => self.tell_looks(node),
+                answer => return answer,
+            }
+        }
+        Err(Fault::Rung)
+    }
+}
+
+impl Drop for Port {
+    fn drop(&mut self) {
+        let _ = fs::remove_file(&self.path);
+    }
+}
+
+/// Has the node at this port answer lines, and writes what it answers.
+///
+/// # Errors
+///
+/// Where nobody is there, or a stream fails.
+pub fn ask(path: &Path, lines: impl BufRead, mut out: impl Write) -> io::Result<()> {
+    let ended = || io::Error::new(io::ErrorKind::UnexpectedEof, "the node ended");
+    let node = UnixStream::connect(path)?;
+    let (mut told, mut send) = (BufReader::new(&node), &node);
+    for line in lines.lines() {
+        let line = line?;
+        let line = line.trim();
+        if line.is_empty() {
+            continue;
+        }
+        send.write_all(format!("{line}\n").as_bytes())?;
+        let is_last = |it: &str| line != "metrics" || it == "# EOF\n" || it.starts_with("refused: ");
+        let mut answer = String::new();
+        while answer.is_empty() || !is_last(&answer) {
+            answer.clear();
+            told.read_line(&mut answer)?;
+            if !answer.ends_with('\n') {
+                return Err(ended());
+            }
+            out.write_all(answer.as_bytes())?;
+        }
+        out.flush()?;
+    }
+    Ok(())
+}

@@ -1,0 +1,302 @@
+//! Nodes: one process that outlives crashes by its log, which its owner writes down.
+use crate::foreign::{self, LogRow, Opaque};
+use crate::processes::{Frames, Known, ROOM, reply_of, with_numbers};
+use crate::worlds::refused;
+use crate::{FrontEnd, Op, Refused, Reply};
+use std::fmt;
+use std::ptr::NonNull;
+
+/// An entry's line has at most 151 bytes.
+const LINE: usize = 160;
+/// The lines of a log's head have less than that beside the names.
+const HEAD: usize = 512;
+const NOTHING_DUE: u32 = 71;
+
+/// Which log it is, and what its cluster is like.
+#[derive(Clone, Debug, PartialEq, Eq)]
+pub struct LogHead {
+    /// The same in all logs of a cluster, and in no other's.
+    pub cluster: u64,
+    /// From 0.
+    pub chapter: u64,
+    /// Drawn anew for each log that is begun, so that a process that lost its log isn't taken for the same one.
+    pub begun: u64,
+    pub front: FrontEnd,
+    pub processes: u8,
+    pub process: u8,
+    /// Of the registers: 1 to 4,096 names of 1 to 16 letters a to z, which differ.
+    pub names: Vec<String>,
+}
+
+/// Why a text isn't opened as a log. Lines are counted from 1, entries from 0.
+#[derive(Clone, Copy, Debug, PartialEq, Eq)]
+pub enum LogFault {
+    /// The reader stopped at this line, of those that stand whole behind their seals.
+    NotALog { line: u64 },
+    /// This entry was told durable, and doesn't stand whole.
+    Damaged { entry: u64 },
+    /// This entry is no step of the process.
+    NotAStep { entry: u64 },
+    /// This entry is of another process.
+    Foreign { entry: u64 },
+    /// `NoProcess`, `LogFull` or `OutOfMemory`.
+    Refused(Refused),
+}
+
+impl fmt::Display for LogFault {
+    fn fmt(&self, f: &mut fmt::Formatter<'_>) -> fmt::Result {
+        match self {
+            Self::NotALog { line } => write!(f, "line {line}: not a log"),
+            Self::Damaged { entry } => write!(f, "entry {entry}: damaged"),
+            Self::NotAStep { entry } => write!(f, "entry {entry}: no step"),
+            Self::Foreign { entry } => write!(f, "entry {entry}: of another process"),
+            Self::Refused(why) => why.fmt(f),
+        }
+    }
+}
+
+impl std::error::Error for LogFault {}
+
+/// What goes out of one step.
+#[derive(Clone, Debug)]
+pub struct Output<'a> {
+    pub frames: Frames<'a>,
+    /// To the caller of an operation, if there is one.
+    pub reply: Option<Reply>,
+}
+
+/// A process that outlives crashes by its log. Its owner writes the bytes that each step gives behind the log, in their
+/// order; says how many entries are durable once they are; and carries what is handed out. The frames and the reply of
+/// a step are handed out once its entry is durable, and no sooner. It stays on its thread.
+///
+/// ```
+/// use tellwydar::{FrontEnd, LogHead, LoggedNode, Op};
+///
+/// let (names, front) = (vec!["x".to_string()], FrontEnd::Linear);
+/// let head = LogHead { cluster: 7, chapter: 0, begun: 12, front, processes: 2, process: 0, names };
+/// let mut log = LoggedNode::begin(&head)?;
+/// let mut node = LoggedNode::open(&log, 0)?;
+/// node.hear(1, 0)?; // process 1 says that it accepted nothing from this one: its `known(0).expected`
+/// log.extend_from_slice(node.call(Op::Write { register: 0, value: 5 })?);
+/// node.mark_durable(node.logged())?; // a log is a file: write, then sync
+/// let output = node.hand_out()?.expect("what goes out of the call");
+/// assert_eq!((output.frames.count(), output.reply), (1, None));
+/// # Ok::<(), Box<dyn std::error::Error>>(())
+/// ```
+#[derive(Debug)]
+pub struct LoggedNode {
+    handle: NonNull<Opaque>,
+    line: [u8; LINE],
+    room: Vec<u8>,
+}
+
+impl LoggedNode {
+    /// The log of a process that did nothing yet.
+    ///
+    /// # Errors
+    ///
+    /// `NoShape`, `NoProcess`, `BadNames` and `OutOfMemory`.
+    pub fn begin(head: &LogHead) -> Result<Vec<u8>, Refused> {
+        let LogHead { cluster, chapter, begun, front, processes, process, ref names } = *head;
+        // (the library takes one text, with a space between two names)
+        if names.iter().any(|it| it.contains(' ')) {
+            return Err(Refused::BadNames);
+        }
+        let (names, processes) = (names.join(" "), processes.into());
+        let row = LogRow { cluster, chapter, begun, front: front.number().into(), processes, process };
+        let (mut room, mut length) = (vec![0; HEAD + names.len()], 0);
+        // SAFETY: each pointer and length are those of one value, which are apart.
+        let code = unsafe {
+            foreign::tellwydar_node_begin(&row, names.as_ptr(), names.len(), room.as_mut_ptr(), room.len(), &mut length)
+        };
+        room.truncate(length);
+        if code == 0 { Ok(room) } else { Err(refused(code)) }
+    }
+
+    /// A node that goes on after its log, and hasn't heard from any other process. All entries count as durable, so see
+    /// that they are; `durable` is how many of them were told so before. What a crash left behind the first
+    /// [`whole`](Self::whole) bytes of the text is to be cut off before more is written.
+    ///
+    /// # Errors
+    ///
+    /// Where the text is no log of one process, or has fewer entries than were told durable.
+    pub fn open(text: &[u8], durable: u64) -> Result<Self, LogFault> {
+        let mut handle = std::ptr::null_mut();
+        // SAFETY: the handle is written where the result is 0.
+        let code = unsafe { foreign::tellwydar_node_new(&mut handle) };
+        let handle = NonNull::new(handle).filter(|_| code == 0).ok_or(LogFault::Refused(refused(code)))?;
+        let node = Self { handle, line: [0; LINE], room: vec![0; ROOM] };
+        // SAFETY: the handle is of `tellwydar_node_new`; the pointer and the length are those of one slice.
+        let code = unsafe { foreign::tellwydar_node_open(handle.as_ptr(), text.as_ptr(), text.len(), durable) };
+        let place = node.look(14, 0);
+        match code {
+            0 => Ok(node),
+            72 => Err(LogFault::NotALog { line: place }),
+            73 => Err(LogFault::Damaged { entry: place }),
+            74 => Err(LogFault::NotAStep { entry: place }),
+            75 => Err(LogFault::Foreign { entry: place }),
+            code => Err(LogFault::Refused(refused(code))),
+        }
+    }
+
+    /// Calls an operation, and gives the bytes by which the log grows.
+    ///
+    /// # Errors
+    ///
+    /// `Unheard` where the operation would be cast, and not all others were heard; `LogLost` and `Stopped` where the
+    /// node has stopped; and what a process refuses. As of every step, there is no entry then.
+    pub fn call(&mut self, op: Op) -> Result<&[u8], Refused> {
+        let handle = self.handle.as_ptr();
+        // SAFETY: `&mut self` lends the handle to one call.
+        let call = |kind, register, value| unsafe { foreign::tellwydar_node_call(handle, kind, register, value) };
+        // SAFETY: as above.
+        let compare_and_swap = |register, expected, value| unsafe {
+            foreign::tellwydar_node_compare_and_swap(handle, register, expected, value)
+        };
+        self.stepped(with_numbers(op, call, compare_and_swap))
+    }
+
+    /// Takes a frame that the process `from` put for this one, as often and in whatever order, and gives the bytes by
+    /// which the log grows.
+    ///
+    /// # Errors
+    ///
+    /// `NotAFrame` where the bytes spell none.
+    pub fn take(&mut self, from: u8, frame: &[u8]) -> Result<&[u8], Refused> {
+        // SAFETY: as in `call`; the pointer and the length are those of one slice.
+        let code = unsafe { foreign::tellwydar_node_take(self.handle.as_ptr(), from, frame.as_ptr(), frame.len()) };
+        self.stepped(code)
+    }
+
+    /// Puts the first unacknowledged frames of every link again, and gives the bytes by which the log grows.
+    pub fn tick(&mut self) -> Result<&[u8], Refused> {
+        // SAFETY: as in `call`.
+        let code = unsafe { foreign::tellwydar_node_tick(self.handle.as_ptr()) };
+        self.stepped(code)
+    }
+
+    /// Notes that so many entries of the log are durable, those that it was opened with among them.
+    ///
+    /// # Errors
+    ///
+    /// `NotLogged` where there are fewer.
+    pub fn mark_durable(&mut self, count: u64) -> Result<(), Refused> {
+        // SAFETY: as in `call`.
+        told(unsafe { foreign::tellwydar_node_mark_durable(self.handle.as_ptr(), count) })
+    }
+
+    /// What goes out of the first step for which that was not handed out yet, if its entry is durable.
+    ///
+    /// # Errors
+    ///
+    /// `OutOfMemory`: what was handed out is lost then, as if the node had crashed behind it.
+    pub fn hand_out(&mut self) -> Result<Option<Output<'_>>, Refused> {
+        // SAFETY: as in `call`.
+        let code = unsafe { foreign::tellwydar_node_hand_out(self.handle.as_ptr()) };
+        if code == NOTHING_DUE {
+            return Ok(None);
+        }
+        let reply = reply_of(code, |what| self.look(what, 0))?;
+        let (room, mut length) = (&mut self.room, 0);
+        // SAFETY: as in `call`; the pointer and the length are those of one slice.
+        told(unsafe {
+            foreign::tellwydar_node_frames(self.handle.as_ptr(), room.as_mut_ptr(), room.len(), &mut length)
+        })?;
+        Ok(Some(Output { frames: Frames(&self.room[..length]), reply }))
+    }
+
+    /// Hears that another process accepted so many bodies from this one: its `known(..).expected` of this one, which
+    /// processes tell each other when they meet.
+    ///
+    /// # Errors
+    ///
+    /// `LogLost` where that is more than were ever queued for it: then this node's log was lost, and it stops for good.
+    /// `NoProcess` where there is no other one of this number.
+    pub fn hear(&mut self, other: u8, count: u64) -> Result<(), Refused> {
+        // SAFETY: as in `call`.
+        told(unsafe { foreign::tellwydar_node_hear(self.handle.as_ptr(), other, count) })
+    }
+
+    /// How many entries its log has.
+    pub fn logged(&self) -> u64 {
+        self.look(8, 0)
+    }
+
+    /// How many of them it was told are durable.
+    pub fn durable(&self) -> u64 {
+        self.look(9, 0)
+    }
+
+    /// How many bytes of the text that it was opened with are the log.
+    pub fn whole(&self) -> usize {
+        self.look(13, 0) as usize
+    }
+
+    /// Whether it has stopped for good: its log was lost, or an entry had no text.
+    pub fn is_stopped(&self) -> bool {
+        self.look(10, 0) + self.look(11, 0) > 0
+    }
+
+    /// Whether it has heard from all others, and so may cast.
+    pub fn has_heard_all(&self) -> bool {
+        self.look(12, 0) != 0
+    }
+
+    /// How many casts it has delivered.
+    pub fn delivered(&self) -> u64 {
+        self.look(1, 0)
+    }
+
+    /// How many of its own casts are not delivered here.
+    pub fn unsettled(&self) -> u64 {
+        self.look(2, 0)
+    }
+
+    /// How many data frames are not acknowledged, over all links.
+    pub fn pending(&self) -> u64 {
+        self.look(3, 0)
+    }
+
+    /// Whether an operation runs.
+    pub fn busy(&self) -> bool {
+        self.look(4, 0) != 0
+    }
+
+    /// The value of a register in its copy, 0 where there is none.
+    pub fn register(&self, register: u16) -> u64 {
+        self.look(5, register)
+    }
+
+    /// What its process knows of another one: all 0 where there is no other of this number.
+    pub fn known(&self, peer: u8) -> Known {
+        // SAFETY: as in `look`.
+        let known = |what| unsafe { foreign::tellwydar_node_known(self.handle.as_ptr(), what, peer) };
+        Known { first: known(0), next: known(1), expected: known(2), seen: known(3) }
+    }
+
+    fn stepped(&mut self, code: u32) -> Result<&[u8], Refused> {
+        told(code)?;
+        // SAFETY: as in `call`; the pointer and the length are those of one array.
+        let count = unsafe { foreign::tellwydar_node_bytes(self.handle.as_ptr(), self.line.as_mut_ptr(), LINE) };
+        Ok(&self.line[..count])
+    }
+
+    fn look(&self, what: u32, register: u16) -> u64 {
+        // SAFETY: the type stays on its thread, so no other call goes on.
+        unsafe { foreign::tellwydar_node_look(self.handle.as_ptr(), what, register) }
+    }
+}
+
+fn told(code: u32) -> Result<(), Refused> {
+    if code == 0 { Ok(()) } else { Err(refused(code)) }
+}
+
+impl Drop for LoggedNode {
+    fn drop(&mut self) {
+        // SAFETY: nothing uses the handle later. `close` gives back what it holds, and its own block is of `malloc`.
+        unsafe {
+            foreign::tellwydar_node_close(self.handle.as_ptr());
+            foreign::free(self.handle.as_ptr());
+        }
+    }
+}
