@@ -3,9 +3,14 @@ import { test } from "node:test";
 import assert from "node:assert/strict";
 import { existsSync, readFileSync } from "node:fs";
 import { join } from "node:path";
-import { judgeTable, NAMED, STARTS } from "../playground/js/fronts.js";
+import { Run } from "../page/js/run.js";
+import { storyOf } from "../page/js/sentences.js";
+import { lookUnder } from "../playground/js/api.js";
+import { judgeTable, NAMED, numberOf, STARTS } from "../playground/js/fronts.js";
+import * as server from "../playground/js/server.js";
 import { withFront } from "../playground/js/texts.js";
 import { TOP } from "../tools/programs.mjs";
+import * as module from "../web/js/server.js";
 
 /**
  * `MayStart`, worked by hand: of each kind of operation, how it may start with no own cast on its way, and with some.
@@ -110,4 +115,69 @@ test("a text is put under another front end", () => {
   assert.equal(withFront('front = "linear"\nregisters = ["front"]\n', "local-write"),
     'front = "local-write"\nregisters = ["front"]\n');
   assert.equal(withFront("front=\"local-read\" # as it was\n", "linear"), "front=\"linear\" # as it was\n");
+});
+
+test("each lawful table has a number of its own, and the three have those that the module's clauses mean", () => {
+  const lawful = tables.filter(starts => !judgeTable(tableOf(starts)).faults.length);
+  assert.deepEqual(lawful.map(starts => numberOf(tableOf(starts))).sort((a, b) => a - b), [...Array(16).keys()]);
+  assert.deepEqual(Object.values(NAMED).map(numberOf), [0, 3, 15]);
+  // `table_of` of crates/reg_web/specs/Tables.antt, worked by hand for the seven that no name has
+  const seven = { "cast cast answer cast": 4, "look cast answer cast": 5, "cast hold answer cast": 6,
+    "look hold answer cast": 7, "cast cast answer answer": 12, "look cast answer answer": 13,
+    "cast hold answer answer": 14 };
+  for (const [words, number] of Object.entries(seven)) {
+    const table = tableOf([...words.split(" "), "cast", "cast"]);
+    assert.deepEqual([numberOf(table), judgeTable(table)], [number, { faults: [], name: null, sameAs: null }], words);
+  }
+});
+
+/**
+ * The data of a run under table 4, in which a write is answered at once with no own cast on its way, and waits with one:
+ * process 0 writes twice.
+ */
+const TWO_WRITES = {
+  version: 1, title: "", processes: 2, registers: ["x"], front: "local-read",
+  events: [[1, { answer: "done", place: 0 }], [2, null]].map(([value, reply]) => ({ event: `call 0 write x ${value}`,
+    process: 0, frame: null, clock: value, delivered: [], reply,
+    sent: [[1, value - 1, ["cast", value - 1, value, `write x ${value}`]]], note: "" })),
+  states: [[[[1, 0]], null], [[[1, 0], [2, 0]], ["cast", 2]]].map(([held, running]) =>
+    ({ peers: [null, [0, 0, 0, held.length]], held, copy: [], delivered: 0, running })),
+  arrows: [], order: [], reads: [], witness: [], points: null,
+  operations: [0, 1].map(number => ({ process: 0, number, op: `write x ${number + 1}`, call: number,
+    answer: number ? null : { at: 0, text: "done" } })),
+};
+
+test("what is said of a run under a table is what that table does", () => {
+  const run = new Run(TWO_WRITES, "table 4"), named = new Run(TWO_WRITES);
+  const why = (told, at) => storyOf(told, at).lines.find(({ word }) => word === "why").body.join("");
+  assert.equal(why(run, 0), "Under table 4 a write is answered at once; its cast is still to be delivered.");
+  assert.equal(why(run, 1), "Under table 4 a write is cast, and answered when its own process delivers it.");
+  for (const at of [0, 1]) { // a process that is alone delivers its cast at the call
+    assert.equal(why(named, at), "Under local-read a write is cast, and answered when its own process delivers it.");
+  }
+  assert.ok(run.scheduleAt(1).includes("\nfront local-read\n"));
+  assert.deepEqual([run.sharedWith(run), run.sharedWith(named)], [2, -1]);
+});
+
+test("a text is run under a table where it is a schedule, and else looked at as ever", async () => {
+  const asked = [], told = (output, error = "") => ({ status: error ? 1 : 0, output, error });
+  const look = (text, answers) => {
+    globalThis.fetch = async path => (asked.push(path), { ok: true, json: async () => answers[path.slice(5)] });
+    return lookUnder(text, 4);
+  };
+  const data = told(JSON.stringify(TWO_WRITES)), schedule = told("a schedule: 2 events\n");
+  const seen = { kind: "schedule", why: "a schedule, run under table 4", told: TWO_WRITES, refusal: "", table: 4 };
+  assert.deepEqual(await look("both take it", { why: schedule, "data-under/4": data }), seen);
+  assert.deepEqual(await look("the named one refuses it", { why: told("event 1: busy\n"), "data-under/4": data }), seen);
+  assert.deepEqual(await look("the table refuses it", { why: schedule, "data-under/4": told("", "event 1: busy\n") }),
+    { ...seen, told: null, refusal: "event 1: busy" });
+  assert.deepEqual(asked, Array(3).fill(["/run/why", "/run/data-under/4"]).flat());
+  const report = told("a report: 1 operation\n"), none = told("", "line 1: processes\n");
+  assert.deepEqual(await look("a report", { why: report, "data-under/4": none, data: none }),
+    { kind: "report", why: report.output, told: null, refusal: "", table: null });
+});
+
+test("tables are run by the module, and not by the server's programs", () => {
+  assert.deepEqual(Object.keys(server).sort(), Object.keys(module).sort());
+  assert.deepEqual([server.RUNS_TABLES, module.RUNS_TABLES], [false, true]);
 });

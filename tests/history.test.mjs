@@ -1,5 +1,5 @@
-// Lines of JSON, and the reports that the playground makes of them: `awshow judge` says of both the same, at the same
-// place. Run by `node --test tests`.
+// Lines of JSON and EDN, and the reports that the playground makes of them: `awshow judge` says of both the same, at
+// the same place. Run by `node --test tests`.
 import { test } from "node:test";
 import assert from "node:assert/strict";
 import { execFileSync } from "node:child_process";
@@ -60,9 +60,15 @@ sys.path.insert(0, "${TOP}/tools")
 loader = importlib.machinery.SourceFileLoader("tries", "${TOP}/tools/judge-tries")
 tries = importlib.util.module_from_spec(importlib.util.spec_from_loader("tries", loader))
 loader.exec_module(tries)
-print(json.dumps(["\\n".join(tries.history(random.Random(seed))[0]) + "\\n" for seed in range(150)]))
+made = [tries.history(random.Random(seed))[0] for seed in range(150)]
+print(json.dumps([["\\n".join(it) + "\\n", tries.in_edn(random.Random(seed), it)] for seed, it in enumerate(made)]))
 `], { encoding: "utf8" }));
-  const words = histories.map(text => agree(text).output.split("\n")[0]);
+  const words = histories.map(([lines]) => agree(lines).output.split("\n")[0]);
+  for (const [lines, edn] of histories) {
+    assert.ok(isHistory(edn), edn);
+    assert.equal(reportOf(edn).report?.text, reportOf(lines).report?.text, edn);
+  }
+  for (const [, edn] of histories.slice(0, 50)) agree(edn);
   assert.ok(words.filter(word => word === "yes").length > 25 && words.filter(word => word === "no").length > 25);
 });
 
@@ -74,7 +80,13 @@ test("what is refused is refused at the same line for the same reason", () => {
     line(0, "invoke", "read", null, { key: [] }), line(0, "ok", "read", 1), call + call,
     call + line(0, "ok", "read", 1), call + line(0, "ok", "write", 1, { key: "y" }), call + "\n \n",
     "{\"process\": 18446744073709551616}\n", "{\"process\": -0}\n", "{\"process\": \"\\ud800\"}\n",
-    Array.from({ length: 65 }, (_, process) => line(process, "invoke", "write", 1)).join("")]) {
+    Array.from({ length: 65 }, (_, process) => line(process, "invoke", "write", 1)).join(""),
+    "{:process 0", "{:process 0}\n", "[{:process 0 :type :invoke :f :read}", "{:a #_ 1}", "{:a #\"b\"}", "{:a [)}",
+    "{:a a\\b}", "[{:process :nemesis}] {", "{:process :nemesis}\n[", "{:a 1}\n  x ", "{:a \"b\n\\ud800\"}",
+    "{:a 1 2 3}",
+    "{:a " + "[".repeat(61), "{:process 0 :type :invoke :f :read :x " + "#{".repeat(60) + "}".repeat(61) + "{",
+    "{:process 0 :type :invoke :f :write :value [:x 1.5]}", "{:process 0 :type :invoke :f :cas :value [1 2 3]}",
+    "{:process 0 :type :info :f :read}", "{:process 0 :type :invoke :f :write :value #{1}}"]) {
     assert.notEqual(agree(text).error, "", text);
   }
 });
@@ -103,6 +115,11 @@ test("a process that goes on after a call of unknown end takes another place", (
 test("a text is meant as lines of JSON by its first line", () => {
   assert.deepEqual(["{}", "\n{", "awreg report 2\n", "processes 1\n", "front = \"linear\"\n", ""].map(isHistory),
     [true, true, false, false, false, false]);
+});
+
+test("a text is meant as EDN by how it begins", () => {
+  assert.ok(["{:a 1}", " ; c\n[ #a/b {:a 1}]", "#a.B{ :a 1}"].every(isHistory));
+  assert.ok(!["# {:a\nprocesses 1\n", "[front]\n"].some(isHistory));
 });
 
 test("the operations of a report are drawn with their answers and points", () => {

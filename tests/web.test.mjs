@@ -10,6 +10,7 @@ import { setFlagsFromString } from "node:v8";
 import { TOP } from "../tools/programs.mjs";
 import { Engine } from "../web/js/engine.js";
 
+setFlagsFromString("--experimental-wasm-memory64");
 const folder = mkdtempSync(join(tmpdir(), "web-"));
 after(() => rmSync(folder, { recursive: true }));
 execFileSync(join(TOP, "tools", "web"), [folder, "--page"]);
@@ -114,11 +115,23 @@ function trapping() {
 }
 
 test("after a trap the next run has a new instance", () => {
-  setFlagsFromString("--experimental-wasm-memory64");
   const engine = new Engine(new WebAssembly.Module(trapping()));
   assert.equal(engine.run("check", new Uint8Array(4)).status, 0);
   const before = engine.instance;
   assert.throws(() => engine.run("replay", new Uint8Array(4)), WebAssembly.RuntimeError);
   assert.equal(engine.run("check", new Uint8Array(4)).status, 0);
   assert.notEqual(engine.instance, before);
+});
+
+test("a command gets the number behind it, and else its own", () => {
+  const nine = [0x60, 9, 0x7e, 0x7e, 0x7e, 0x7f, ...Array(5).fill(0x7e), 1, 0x7f]; // the fourth has 32 bits
+  const answering = called => new Uint8Array([0, 0x61, 0x73, 0x6d, 1, 0, 0, 0, ...part(1, 1, ...nine), ...part(3, 1, 0),
+    ...part(5, 1, 4, 1), ...part(6, 1, 0x7e, 0, 0x42, 16, 0x0b),
+    ...part(7, 3, ...name("memory"), 2, 0, ...name("__heap_base"), 3, 0, ...name(called), 0, 0),
+    ...part(10, 1, 4, 0, 0x20, 3, 0x0b)]); // it answers the fourth
+  for (const [command, own] of [["outcome", 1], ["data-under", 0], ["replay-under", 0]]) {
+    const bytes = answering("tellwydar_" + command.replace("-", "_"));
+    const engine = new Engine(new WebAssembly.Module(bytes)), text = new Uint8Array(4);
+    assert.deepEqual([engine.call(command, text).status, engine.call(command + " 13", text).status], [own, 13]);
+  }
 });

@@ -1,19 +1,19 @@
 // Compares what the module and the programs tell of texts, byte for byte: of each example, exercise and litmus test by
 // each command that the module has, and of each text cut short; and of random texts from a seed, each by a command of
-// its kind. Of what `awshow why` prints the first line is compared. `tools/web --compare` runs it.
+// its kind. `tools/web --compare` runs it.
 import { readFileSync, readdirSync } from "node:fs";
 import { spawnSync } from "node:child_process";
 import { join } from "node:path";
 import { TOP, program } from "../tools/programs.mjs";
 import { Engine } from "./js/engine.js";
-import { why } from "./js/why.js";
 import { Random, decoded, randomText } from "./random_texts.mjs";
 
 const WORDS = {
   "replay": ["awreg", "replay"], "check": ["awreg", "check"], "play": ["awreg", "play"],
   "play-fair": ["awreg", "play", "--fair"], "trace": ["awshow", "trace", "--whole"],
-  "draw": ["awshow", "draw", "--whole"], "data": ["awshow", "data"], "page": ["awshow", "page", "--whole"],
-  "rest": ["awshow", "rest"], "verify": ["awshow", "verify"],
+  "draw": ["awshow", "draw", "--whole"], "draw-large": ["awshow", "draw", "--large", "--whole"],
+  "data": ["awshow", "data"], "page": ["awshow", "page", "--whole"],
+  "rest": ["awshow", "rest"], "verify": ["awshow", "verify"], "merge": ["awshow", "merge"],
   "find-serial": ["awshow", "find", "serial"], "find-points": ["awshow", "find", "points"],
   "judge": ["awshow", "judge"], "judge-report": ["awshow", "judge", "--report"],
   "schedule": ["awshow", "schedule"], "schedule-fair": ["awshow", "schedule", "--fair"],
@@ -28,15 +28,19 @@ const FOLDERS = ["examples", "examples/litmus", "examples/exercises", "examples/
 const ASKED = {
   workload: ["play", "play-fair", "schedule", "schedule-fair", "short", "short-fair", "outcomes-all", "outcome 1",
     "outcomes 10", "data", "trace", "why"],
-  schedule: ["replay", "trace", "draw", "data", "page", "rest", "why"],
+  schedule: ["replay", "trace", "draw", "draw-large", "data", "page", "rest", "why"],
   report: ["check", "find-serial", "find-points", "judge", "judge-report", "why"],
-  record: ["verify"],
+  record: ["verify", "merge", "why"],
 };
 
 const [path, count, seed] = process.argv.slice(2);
 const engine = new Engine(new WebAssembly.Module(readFileSync(path)));
-const commands = Object.keys(WORDS).filter(command => command === "why" || engine.has(command));
+const commands = Object.keys(WORDS).filter(command => engine.has(command));
 const tally = { same: 0, refused: 0, other: 0 };
+
+// The numbers of the tables of the named front ends, and what commands tell of points, with what they tell of none.
+const TABLES = { "linear": 0, "local-read": 3, "local-write": 15 };
+const POINTS = [["data", /,\n"points":[^]*$/, ',\n"points":null}\n'], ["replay", /^points [^]*?(?=^end$)/m, ""]];
 
 /** The files of the examples, each with its text, and with its text up to the middle. */
 function* texts() {
@@ -51,14 +55,8 @@ function* texts() {
   }
 }
 
-const firstLine = text => Buffer.from(String(text).split("\n")[0]);
-
 /** What the module tells, as the programs tell it. */
 function told(command, text) {
-  if (command === "why") {
-    const { status, output, error } = why(engine, new Uint8Array(text));
-    return { status, stdout: firstLine(output), stderr: Buffer.from(error) };
-  }
   const { status, output, error } = engine.run(command, new Uint8Array(text));
   return { status, stdout: Buffer.from(output), stderr: Buffer.from(error) };
 }
@@ -68,7 +66,7 @@ const isSame = (one, other) => one.status === other.status && one.stdout.equals(
 
 /**
  * Both refuse a workload, each by a line of its own: the module's reader of workloads has no clause. `why` alone writes
- * that line as its answer.
+ * that line, and what explains it, as its answer.
  */
 const areRefused = (command, text, one, other) => engine.kindOf(new Uint8Array(text)) === "workload" &&
   [one, other].every(({ status, stdout }) => status === 1 && (command === "why" || !stdout.length));
@@ -81,15 +79,27 @@ function compare(command, name, text) {
   const [program_name, ...words] = WORDS[command];
   const native = spawnSync(program(program_name), words, { input: text, maxBuffer: 1 << 30 });
   if (native.error) throw native.error;
-  if (command === "why") native.stdout = firstLine(native.stdout);
   if (command.startsWith("judge")) native.stderr = Buffer.from(String(native.stderr).replace(/^refused: /, ""));
   const own = told(command, text);
-  if (isSame(own, native)) tally.same++;
-  else if (areRefused(command, text, own, native)) tally.refused++;
-  else {
-    tally.other++;
-    console.log(`${command} ${name}: not the same\n  module  ${firstOf(own)}\n  program ${firstOf(native)}`);
-    if (name.startsWith("random")) console.log(JSON.stringify(Buffer.from(text).toString("latin1")));
+  if (!isSame(own, native) && areRefused(command, text, own, native)) tally.refused++;
+  else compareTold(`${command} ${name}`, text, own, native);
+}
+
+function compareTold(what, text, own, other) {
+  if (isSame(own, other)) return tally.same++;
+  tally.other++;
+  console.log(`${what}: not the same\n  module  ${firstOf(own)}\n  program ${firstOf(other)}`);
+  if (what.includes(" random ")) console.log(JSON.stringify(Buffer.from(text).toString("latin1")));
+}
+
+/** Under the table of the front end that it names a schedule has the run that it has under that, but for points. */
+function compareTable(name, text) {
+  const number = TABLES[/^front (.*)$/m.exec(text)?.[1]];
+  if (number === undefined || engine.kindOf(new Uint8Array(text)) !== "schedule") return;
+  for (const [command, points, none] of POINTS) {
+    const other = told(command, text);
+    other.stdout = Buffer.from(String(other.stdout).replace(points, none));
+    compareTold(`${command}-under ${number} ${name}`, text, told(`${command}-under ${number}`, text), other);
   }
 }
 
@@ -120,7 +130,7 @@ function refusedRooms(command, text) {
   for (let room = 0; ; room += step) {
     const answer = engine.within(instance => {
       const { end } = instance, bytes = new Uint8Array(text);
-      instance.end = instance.free + Math.ceil(bytes.length / 16) * 16 + room;
+      instance.end = instance.begin + Math.ceil(bytes.length / 16) * 16 + room;
       try {
         return instance.run(instance.exports["tellwydar_" + command], bytes);
       } finally {
@@ -141,11 +151,14 @@ function refusedRooms(command, text) {
 let rooms = 0;
 for (const [command, name] of [["replay", "stale-read.sched"], ["trace", "swap-lock.sched"],
   ["page", "one-process.sched"], ["rest", "lost-frame.sched"], ["check", "stale-linear.report"],
-  ["judge", "stale-linear.report"]]) {
+  ["judge", "stale-linear.report"], ["why", "stale-linear.report"]]) {
   rooms += refusedRooms(command, readFileSync(join(TOP, "examples", name)));
 }
 console.log(`memory is refused in each of ${rooms} rooms that are too small`);
-for (const { name, text } of texts()) for (const command of commands) compare(command, name, text);
+for (const { name, text } of texts()) {
+  for (const command of commands) compare(command, name, text);
+  compareTable(name, text);
+}
 const say = what => console.log(`${what}: ${tally.same} answers the same, ${tally.refused} refused by another line, ` +
   `${tally.other} not`);
 say(`${commands.length} commands over the examples`);

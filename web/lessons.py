@@ -11,6 +11,7 @@ COMMANDS = {
     "awshow trace": "trace", "awshow rest": "rest", "awshow data": "data", "awshow schedule": "schedule",
     "awshow schedule --fair": "schedule-fair", "awshow outcomes --all": "outcomes-all",
     "awshow find serial": "find-serial", "awshow find points": "find-points", "awshow verify": "verify",
+    "awshow why": "why",
 }
 # Both programs have these.
 COMMANDS |= {words.replace("awreg", "awshow"): name for words, name in COMMANDS.items() if words.startswith("awreg")}

@@ -62,10 +62,11 @@ export class Actions {
 
   /** The report of what the text is, or of its play. */
   async report() {
-    const { kind } = this.playground.seen;
+    const { kind, table } = this.playground.seen;
     if (kind === "report") return { status: 0, output: this.text, error: "" };
     if (kind === "history") return { status: 0, output: reportOf(this.text).report.text, error: "" };
-    return ask(kind === "workload" ? "play" : "replay", this.text);
+    const replay = table === null ? "replay" : `replay-under ${table}`;
+    return ask(kind === "workload" ? "play" : replay, this.text);
   }
 
   async check() {
@@ -80,7 +81,7 @@ export class Actions {
     showOutput("awshow judge", judged(answer, report.output));
   }
 
-  /** Makes the report of lines of JSON the text. */
+  /** Makes the report of lines of JSON or EDN the text. */
   async asReport() {
     await this.playground.setText((await this.report()).output);
   }

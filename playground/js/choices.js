@@ -80,7 +80,7 @@ export class Choices {
     byId("output").hidden = true;
     playground.lost.clear();
     playground.run = null; // the last good run is one of another text
-    await playground.setText(text, { at });
+    await playground.setText(text, { at, table: null });
   }
 
   /** Whether the address has a text or an exercise, with which the playground then begins. */

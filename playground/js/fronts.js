@@ -69,6 +69,19 @@ const spelled = (/** @type {Table} */ table) => ROWS.map(kind => table[kind].joi
  */
 const leavesCasts = table => ROWS.some(kind => table[kind][0] === "answer");
 
+/** What a lawful table may choose in the place of a cast, in the order of the digits of its number. */
+const CHOICES = /** @type {[Kind, number, Start][]} */ (
+  [["read", 0, "look"], ["read", 1, "hold"], ["write", 0, "answer"], ["write", 1, "answer"]]);
+
+/**
+ * The number of a lawful table, by which the module of a page runs a schedule under it: the sum of 1 where a read with
+ * no own cast on its way looks, 2 where one with own casts on their way is held, 4 and 8 where such writes are answered
+ * at once. So 0 is linear, 3 local-read and 15 local-write.
+ * @param {Table} table
+ */
+export const numberOf = table =>
+  CHOICES.reduce((sum, [kind, place, start], digit) => sum + (table[kind][place] === start ? 2 ** digit : 0), 0);
+
 /**
  * Which laws a table breaks, and where; which of the three it is, or null; and as which of them it starts each call
  * that comes, or null.

@@ -1,6 +1,7 @@
 // @ts-check
-// A history as clients of any system write it down in lines of JSON (docs/JUDGE.md), and the report of registers that
-// stands for it. No proof speaks of this script: `awshow judge` reads such lines by code that has one.
+// A history as clients of any system write it down in lines of JSON or EDN (docs/JUDGE.md), and the report of registers
+// that stands for it. No proof speaks of this script: `awshow judge` reads such texts by code that has one.
+import { EdnRefusal, entriesOf, isEdn } from "./edn.js";
 
 const MOST_LINES = 1048576, MOST_KEYS = 4096, MOST_PLACES = 64, MOST_OPERATIONS = 65535;
 const MOMENTS = new Set(["invoke", "ok", "fail", "info"]), ACTS = new Set(["read", "write", "swap", "cas"]);
@@ -81,11 +82,54 @@ function pairOf(tokens, line) {
 const stringOf = (/** @type {string[] | undefined} */ tokens) =>
   tokens?.length === 1 && tokens[0].startsWith("\"") ? JSON.parse(tokens[0]) : null;
 
-/** What a line tells, null where it is of no call. @param {string} text @param {number} line */
-function tellingOf(text, line) {
-  const members = text === "" ? new Map([["process", ["\"nemesis\""]]]) : membersOf(text);
+const isNemesis = (/** @type {Map<string, string[]>} */ members) => stringOf(members.get("process")) === "nemesis";
+
+/** What a line of JSON tells, null where it is of no call. @param {string} text @param {number} line */
+function toldByLine(text, line) {
+  if (text === "") return null;
+  const members = membersOf(text);
   if (members === null) throw at(line, "wanted a JSON object");
-  if (stringOf(members.get("process")) === "nemesis") return null;
+  return isNemesis(members) ? null : tellingOf(members, line);
+}
+
+/** The elements of an array, each with its tokens, or null where these are no array. @param {string[]} tokens */
+function elementsOf(tokens) {
+  if (tokens[0] !== "[") return null;
+  const elements = [/** @type {string[]} */ ([])];
+  let depth = 0;
+  for (const token of tokens.slice(1, -1)) {
+    if (token === "," && !depth) {
+      elements.push([]);
+      continue;
+    }
+    if (token === "[" || token === "{") depth++;
+    if (token === "]" || token === "}") depth--;
+    elements[elements.length - 1].push(token);
+  }
+  return elements;
+}
+
+/**
+ * The members of an entry of EDN. Where it has no key, and its value is a pair of a key and a value, each is a member.
+ * @param {Map<string, string[]>} members
+ */
+function partedKey(members) {
+  const pair = members.has("key") ? null : elementsOf(members.get("value") || []);
+  const isKeyed = pair?.length === 2 && (stringOf(members.get("f")) !== "cas" || pair[1][0] === "[");
+  return isKeyed ? new Map([...members, ["key", pair[0]], ["value", pair[1]]]) : members;
+}
+
+/** What an entry of EDN tells, null where it is of no call. @param {string} json @param {number} line */
+function toldByEntry(json, line) {
+  const members = membersOf(json);
+  if (members === null) throw at(line, "wanted an entry, a map of EDN whose keys are keywords");
+  const isNote = stringOf(members.get("process")) !== null && stringOf(members.get("type")) === "info" &&
+    !ACTS.has(stringOf(members.get("f")));
+  return isNemesis(members) || isNote ? null : tellingOf(partedKey(members), line);
+}
+
+/** What these members tell. @param {Map<string, string[]>} members @param {number} line */
+function tellingOf(members, line) {
   /** @type {(word: string | null, why: string) => string} */
   const wanted = (word, why) => {
     if (word === null) throw at(line, "wanted " + why);
@@ -137,19 +181,33 @@ function checkTurns(events) {
 
 const isAnswered = (/** @type {string} */ moment) => moment === "ok" || moment === "unequal";
 
+/**
+ * What the lines of a text tell, or its entries of EDN, with their lines.
+ * @param {string} text
+ */
+function* tellings(text) {
+  if (isEdn(text)) {
+    for (const { line, json } of entriesOf(text)) yield { line, told: toldByEntry(json, line) };
+    return;
+  }
+  const lines = text.split("\n");
+  if (lines.at(-1) === "") lines.pop();
+  for (const [place, one] of lines.entries()) yield { line: place + 1, told: toldByLine(one, place + 1) };
+}
+
 /** @param {string} text @returns {History} */
 function hear(text) {
   const processes = new Numbers(), keys = new Numbers(), values = new Numbers();
-  const lines = text.split("\n");
-  if (lines.at(-1) === "") lines.pop();
-  const events = lines.flatMap((one, place) => {
-    if (place === MOST_LINES) throw new Refusal(`more than ${MOST_LINES} lines`);
-    const told = tellingOf(one, place + 1);
-    if (told === null) return [];
+  /** @type {Event[]} */
+  const events = [];
+  let count = 0;
+  for (const { line, told } of tellings(text)) {
+    if (count++ === MOST_LINES) throw new Refusal(`more than ${MOST_LINES} lines or entries`);
+    if (told === null) continue;
     const { process, moment, act, key, expected, value } = told;
-    return [{ line: place + 1, process: processes.of(process), moment, act, key: keys.of(key),
-      expected: values.of(expected), value: values.of(value) }];
-  });
+    events.push({ line, process: processes.of(process), moment, act, key: keys.of(key), expected: values.of(expected),
+      value: values.of(value) });
+  }
   const none = values.of("null"), zero = values.of("0");
   const isNullTold = events.some(({ moment, act, expected, value }) => act === "cas" ?
     moment === "invoke" && expected === none : moment === "ok" && act !== "write" && value === none);
@@ -259,11 +317,11 @@ function made(history, asNative) {
   return { text, isOwn: own !== null, registers, values };
 }
 
-/** Whether a text is meant as lines of JSON: its first line that isn't empty begins as an object. */
-export const isHistory = (/** @type {string} */ text) => /^\n*\{/.test(text);
+/** Whether a text is meant as lines of JSON, whose first line that isn't empty begins as an object, or as EDN. */
+export const isHistory = (/** @type {string} */ text) => /^\n*\{/.test(text) || isEdn(text);
 
 /**
- * The history that lines of JSON tell, and its report; or why there is none.
+ * The history that lines of JSON or EDN tell, and its report; or why there is none.
  * @param {string} text
  * @returns {{refusal: string, history: History | null, report: Made | null}}
  */
@@ -272,7 +330,7 @@ export function reportOf(text, asNative = false) {
     const history = hear(text);
     return { refusal: "", history, report: made(history, asNative) };
   } catch (error) {
-    if (!(error instanceof Refusal)) throw error;
+    if (!(error instanceof Refusal || error instanceof EdnRefusal)) throw error;
     return { refusal: error.message, history: null, report: null };
   }
 }
@@ -280,11 +338,11 @@ export function reportOf(text, asNative = false) {
 const count = (/** @type {number} */ number, /** @type {string} */ one, many = one + "s") =>
   `${number} ${number === 1 ? one : many}`;
 
-/** What is said of lines of JSON, or which of them is refused. @param {string} text */
+/** What is said of lines of JSON or EDN, or which of them is refused. @param {string} text */
 export function whatHistory(text) {
   const { refusal, history } = reportOf(text);
   if (!history) return { kind: "refused", why: refusal };
   const { events, words: { processes, keys } } = history;
-  return { kind: "history", why: `lines of JSON: ${count(events.length, "event")} of ` +
+  return { kind: "history", why: `${isEdn(text) ? "EDN" : "lines of JSON"}: ${count(events.length, "event")} of ` +
     `${count(processes.length, "process", "processes")} at ${count(keys.length, "key")}` };
 }

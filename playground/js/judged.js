@@ -1,4 +1,4 @@
-// What the judge says of the history of a report, and of one in lines of JSON, for which a report is made first.
+// What the judge says of the history of a report, and of one in lines of JSON or EDN, for which a report is made first.
 import { byId, html } from "../../page/js/elements.js";
 import { ask } from "./api.js";
 import { bars } from "./bars.js";
@@ -33,18 +33,18 @@ function legend({ registers, values }, { words }) {
       html("tr", {}, html("th", {}, own), html("td", {}, word)))))) : "";
 }
 
-/** A history in lines of JSON has no run: what is judged of its report stands in the place of one. */
+/** A history in lines of JSON or EDN has no run: what is judged of its report stands in the place of one. */
 export async function showHistory(text) {
   const { history, report } = reportOf(text), answer = await ask("judge", report.text);
   const told = line => line.startsWith("serial order: ") && !report.isOwn ? [] : [line.replace(/^( {2}.*)event (\d+): /,
     (_, word, at) => `${word}line ${history.events[at].line}: `)];
-  byId("no-run").replaceChildren(html("h2", {}, "A history in lines of JSON"),
+  byId("no-run").replaceChildren(html("h2", {}, "A history of calls"),
     html("p", { class: "lead" }, "It stands for this report, which ", html("code", {}, "awshow judge"), " judges:"),
     ...judged(answer, report.text, told),
     legend(report, history),
     html("details", {}, html("summary", {}, "The report"), html("pre", {}, report.text)),
     html("p", { class: "fine" }, "A script of this page makes the report, and no proof speaks of it. ",
-      html("code", {}, "awshow judge"), " reads the lines themselves.",
+      html("code", {}, "awshow judge"), " reads the text itself.",
       report.isOwn ? "" : " A process goes on after a call of unknown end, so calls stand under other processes, " +
         "and a serial order isn't judged."));
 }

@@ -6,13 +6,14 @@ import { Theme } from "../../page/js/theme.js";
 import { View } from "../../page/js/view.js";
 import { Actions } from "./actions.js";
 import { Ahead, endsOf, roomAhead } from "./ahead.js";
-import { EMPTY, look, UNANSWERED } from "./api.js";
+import { EMPTY, look, lookUnder, UNANSWERED } from "./api.js";
 import { Choices } from "./choices.js";
 import { Compared } from "./compared.js";
 import { Editor } from "./editor.js";
 import { Exercise } from "./exercise.js";
 import { focusOf, refocus } from "./focus.js";
 import { FrontTable } from "./front_table.js";
+import { numberOf } from "./fronts.js";
 import { Input } from "./input.js";
 import { showHistory } from "./judged.js";
 import { Offers } from "./offers.js";
@@ -28,6 +29,7 @@ export class Playground {
     this.asked = 0; // the looks that were asked for: of several that are under way the last one counts
     this.seen = EMPTY;
     this.run = null;
+    this.table = null; // where a front end with no name runs the text, in place of the one that it names: its table
     this.lines = [];
     this.canClick = false;
     this.theme = new Theme();
@@ -56,8 +58,9 @@ export class Playground {
 
   /* ---------- the text and its run ---------- */
 
-  /** Takes a text that was clicked, chosen or undone, and shows its run up to an event. */
-  setText(text, { at = Infinity, isNew = true } = {}) {
+  /** Takes a text that was clicked, chosen or undone, and shows its run up to an event, under a table or none. */
+  setText(text, { at = Infinity, isNew = true, table = this.table } = {}) {
+    this.table = table;
     if (isNew) this.changes.add(text);
     this.editor.set(text);
     return this.refresh(at);
@@ -78,16 +81,21 @@ export class Playground {
     clearTimeout(this.resting);
     const { text } = this.editor, asked = ++this.asked;
     document.body.dataset.state = "asking";
-    const seen = text.trim() === "" ? EMPTY : await look(text).catch(() => UNANSWERED);
+    const seen = text.trim() === "" ? EMPTY : await this.look(text).catch(() => UNANSWERED);
     if (asked !== this.asked) return;
     this.seen = seen;
     const isShown = seen.told !== null || seen.kind === "empty";
-    if (isShown) this.takeRun(seen.told ? new Run(seen.told) : null, at);
+    if (isShown) this.takeRun(seen.told ? runOf(seen) : null, at);
     showVerdict(seen, this.editor);
     this.showButtons();
     if (!isShown) await this.keepRun(text);
-    await this.exercise.judge(text, seen.kind, seen.told ? this.run : null);
+    await this.exercise.judge(text, seen.kind, seen.told && seen.table === null ? this.run : null);
     if (asked === this.asked) document.body.dataset.state = "shown";
+  }
+
+  /** What a text is, and its run, under the table that is chosen or the front end that it names. */
+  look(text) {
+    return this.table ? lookUnder(text, numberOf(this.table)) : look(text);
   }
 
   takeRun(run, at) {
@@ -116,9 +124,9 @@ export class Playground {
     byId("no-run").replaceChildren(html("p", { class: "lead" },
       refusal || "The text is refused, so there is no run yet. Why it is stands below it."));
     const place = placeOf(why), above = place ? text.split("\n").slice(0, place.line).join("\n") : "";
-    const { told } = above ? await look(above) : EMPTY;
+    const seen = above ? await this.look(above) : EMPTY;
     this.lines = eventLines(above);
-    if (told) this.showRun(Infinity, this.run = new Run(told));
+    if (seen.told) this.showRun(Infinity, this.run = runOf(seen));
     else document.body.classList.add("no-run");
   }
 
@@ -157,11 +165,11 @@ export class Playground {
   }
 
   showButtons() {
-    const { kind } = this.seen, isSchedule = kind === "schedule";
+    const { kind, table } = this.seen, isSchedule = kind === "schedule";
     byId("undo").disabled = !this.changes.canUndo;
     byId("redo").disabled = !this.changes.canRedo;
     byId("cut").disabled = !isSchedule || !this.run || this.view.at >= this.run.last;
-    byId("rest").disabled = !isSchedule;
+    byId("rest").disabled = !isSchedule || table !== null;
     byId("keep").disabled = !this.seen.told;
     byId("check").disabled = !["schedule", "workload", "report"].includes(kind);
     byId("judge").disabled = !["schedule", "workload", "report", "history"].includes(kind);
@@ -183,6 +191,9 @@ export class Playground {
     return this.setText(this.changes.move(by), { isNew: false });
   }
 }
+
+/** @param {import("./api.js").Seen} seen */
+const runOf = ({ told, table }) => new Run(told, table === null ? told.front : `table ${table}`);
 
 function showNothingYet() {
   byId("story").replaceChildren(html("h2", {}, "Nothing has happened yet"), html("p", { class: "lead" },

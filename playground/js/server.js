@@ -32,4 +32,7 @@ export function stopRuns() {
 /** A list: the examples, the exercises, or the text that the page begins with. */
 export const list = async name => (await fetch("/" + name)).json();
 
+/** Whether a schedule can be run under the table of a front end that has no name. */
+export const RUNS_TABLES = false;
+
 export const NO_ANSWER = "The playground's server doesn't answer: is tools/playground still running?";

@@ -50,7 +50,7 @@ const { address, stop } = await (asked.site ? serveFolder(asked.site) : startSer
 });
 const browser = await (asked.firefox ? Firefox : Browser).start();
 const session = new Session(browser, asked.site ? address + "playground.html" : address);
-const context = { browser, session, shots: asked.shots, rounds: +asked.rounds, explains: !asked.site };
+const context = { browser, session, shots: asked.shots, rounds: +asked.rounds };
 if (asked.shots) mkdirSync(asked.shots, { recursive: true });
 await browser.size(1440, 940);
 const makers = [triesOfPages, triesOfBuilding, triesOfComparing, triesOfTexts, triesOfExercises, triesOfJudging,

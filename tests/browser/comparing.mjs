@@ -4,7 +4,6 @@ import { spawnSync } from "node:child_process";
 import { mkdtempSync, rmSync, writeFileSync } from "node:fs";
 import { tmpdir } from "node:os";
 import { join } from "node:path";
-import { pause } from "./driver.mjs";
 import { example, fragment, schedule } from "./session.mjs";
 import { TOP } from "../../tools/programs.mjs";
 
@@ -79,18 +78,7 @@ function triesOfPairs({ session, browser, shots }) {
 }
 
 function triesOfTables({ session, browser, shots }) {
-  async function choose(...starts) {
-    for (const [cell, start] of starts) {
-      await browser.value(`(() => {
-        const list = document.querySelector('[data-start="${cell}"]');
-        list.value = "${start}";
-        list.dispatchEvent(new Event("change"));
-      })()`);
-      await pause(50);
-      await session.shown();
-    }
-    return session.inside("#front-verdict");
-  }
+  const choose = (...starts) => session.chooseStarts(...starts);
   return {
     async "a front end from a table: a law that is broken, one that has a name, one that has none"() {
       await session.open(fragment(schedule(2, "local-read", "call 0 read x")));
@@ -99,7 +87,8 @@ function triesOfTables({ session, browser, shots }) {
       assert.match(await choose(["read 1", "look"]), new RegExp("it would miss the own write\\. No run comes to " +
         "this: [^]*Break it, section 9: [^]*Each of its runs is one of local-read"));
       if (shots) await browser.picture(join(shots, "table.png"));
-      assert.match(await choose(["read 1", "hold"], ["write 0", "answer"]), /lawful, and starts some call otherwise/);
+      assert.match(await choose(["read 1", "hold"], ["write 0", "answer"]),
+        /lawful, and starts some call otherwise[^]*No program here runs it/);
       assert.match(await session.text(), /^front local-read$/m);
       assert.match(await choose(["write 1", "answer"]), /It is local-write/);
       assert.match(await session.text(), /^front local-write$/m);

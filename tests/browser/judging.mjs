@@ -49,6 +49,16 @@ export const triesOfJudging = ({ session, browser }) => ({
     await browser.until("document.getElementById('toast').textContent === 'Its history has no point order.'");
   },
 
+  async "EDN is judged by a report too"() {
+    const edn = "{:process 0, :type :invoke, :f :write, :value 1}\n{:process 0, :type :ok, :f :write, :value 1}\n" +
+      "#jepsen.history.Op{:process 1, :type :invoke, :f :read}\n{:process 1, :type :ok, :f :read, :value 0}\n";
+    await session.open(fragment(edn));
+    assert.match(await session.inside("#verdict"), /^EDN: 4 events of 2 processes at 1 key$/);
+    assert.match(await session.inside("#no-run"), /register a: not linearizable\s+by line 4: p1 #0 read a: value 0/);
+    await session.open(fragment("{:process 0, :type :invoke"));
+    assert.match(await session.inside("#verdict"), /^line 1: wanted the end of what is begun$/);
+  },
+
   async "a line of JSON that is refused is marked"() {
     await session.open(fragment(line("a", "ok", "read", 1)));
     assert.match(await session.inside("#verdict"), /^line 1: the process has no call under way$/);

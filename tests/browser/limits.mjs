@@ -82,9 +82,7 @@ export function triesOfLimits({ browser, session, folder }) {
         assert.equal(await browser.value(MANY_RUNS), 1);
         held.push(heldBy(browser.process.pid));
       }
-      // A run of these takes some 40 KB that aren't lent again: an instance has 256 MB for that, and an old one may
-      // stay for a while.
-      assert.ok(Math.max(...held) - before < 700, `${before} MB, then ${held.join(", ")} MB`);
+      assert.ok(Math.max(...held) - before < 250, `${before} MB, then ${held.join(", ")} MB`);
     },
 
     async "a browser without 64-bit memories is told so in a sentence"() {

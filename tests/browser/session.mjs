@@ -97,6 +97,20 @@ export class Session {
     await this.shown();
   }
 
+  /** Chooses in the table of a front end, as ["read 1", "look"]; gives what is said of the table then. */
+  async chooseStarts(...starts) {
+    for (const [cell, start] of starts) {
+      await this.browser.value(`(() => {
+        const list = document.querySelector('[data-start="${cell}"]');
+        list.value = "${start}";
+        list.dispatchEvent(new Event("change"));
+      })()`);
+      await pause(50);
+      await this.shown();
+    }
+    return this.inside("#front-verdict");
+  }
+
   /** Types a text at the caret, or in the place of what is selected. */
   async type(text) {
     await this.browser.insert(text);

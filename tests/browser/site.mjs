@@ -64,6 +64,28 @@ const TRIES = {
     if (shots) await browser.picture(join(shots, "play.png"));
   },
 
+  async "a schedule is run under a table that no name has, and judged so, until another table or text is chosen"() {
+    await session.open(fragment(schedule(2, "local-write", "call 0 write x 1", "call 0 write x 2")));
+    await session.clickForOutput("#front");
+    assert.match(await session.chooseStarts(["write 1", "cast"]), /It is lawful[^]*run under it, as table 7, whatever/);
+    assert.match(await session.inside("#facts"), /front end table 7: not the one of the text, and lawful/);
+    assert.equal(await session.inside("#verdict"), "a schedule, run under table 7");
+    assert.match(await session.inside("#story"), /Under table 7 a write is cast, and answered when/);
+    if (shots) await browser.picture(join(shots, "table.png"));
+    await session.click("#check");
+    await browser.until("document.getElementById('output').innerText.includes('serial yes')");
+    // the second call is open in the report that is judged
+    assert.match(await browser.value("document.querySelector('#output pre').textContent"), /^history 3$/m);
+    await session.retype(schedule(2, "local-write", "call 0 write x 1", "call 0 write x 2", "call 0 write x 3"));
+    assert.match(await session.inside("#verdict"), /^a schedule, run under table 7\s+event 2: /);
+    await session.clickForOutput("#front");
+    assert.match(await session.chooseStarts(["write 1", "answer"]), /It is local-write/);
+    assert.match(await session.inside("#facts"), /front end local-write: writes are answered at once/);
+    assert.match(await session.chooseStarts(["read 1", "cast"]), /as table 13, whatever/);
+    await session.choose("examples", (await session.valuesOf("examples"))[1]);
+    assert.match(await session.inside("#facts"), /front end (linear|local-read|local-write): /);
+  },
+
   async "a schedule that is refused is told so, by the line"() {
     await session.open(fragment(schedule(2, "linear", "take 0 1 0")));
     assert.match(await session.inside("#verdict"), /^event 0: /);

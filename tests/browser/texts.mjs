@@ -22,7 +22,7 @@ function answersIn(report) {
 export const triesOfTexts = context =>
   ({ ...triesOfRefusals(context), ...triesOfHostility(context), ...triesOfKinds(context), ...triesOfSaving(context) });
 
-function triesOfRefusals({ session, explains }) {
+function triesOfRefusals({ session }) {
   const { browser } = session;
   return {
     async "a refused text: its line is marked, and the last good run stays; undo and redo"() {
@@ -31,7 +31,7 @@ function triesOfRefusals({ session, explains }) {
       await browser.value("document.getElementById('source').setSelectionRange(1e6, 1e6)");
       await session.type("cal 1 read x\n");
       assert.match(await session.inside("#verdict"), /^line 5: form/);
-      assert.match(await session.inside("#verdict pre"), explains ? /"cal": did you mean call\?/ : /5 \| cal 1 read x/);
+      assert.match(await session.inside("#verdict pre"), /"cal": did you mean call\?/);
       assert.equal(await browser.value(MARKED), "88px");
       assert.equal(await session.inside("#where"), "event 0 / 0");
       await session.press("z", 2);

@@ -2,10 +2,10 @@
 // asks its host for nothing: all that it works in is memory of its own that is lent to it with the call. Nothing here
 // looks at a text: it goes in as bytes, and what the module told comes out as bytes.
 
-// What an instance has for all its runs, and how much of it they may have taken when one more begins. What a run took
-// isn't lent again: for that a new instance is made.
+// What an instance lends to each of its runs, and how much of it a run may take before a new instance is made, so that
+// the memory is given back. What a run took is lent again to the next one: nothing in the module outlives a call.
 const MEMORY_BYTES = 1 << 30;
-const SPENT_BYTES = 256 << 20;
+const MOST_KEPT_BYTES = 256 << 20;
 const OUTPUT_BYTES = 32 << 20;
 const ERROR_BYTES = 4096;
 const PAGE_BYTES = 65536;
@@ -14,11 +14,12 @@ const PAGE_BYTES = 65536;
 const PLAYS = new Set(["play", "play-fair", "schedule", "schedule-fair", "short", "short-fair", "outcomes",
   "outcomes-all", "outcome"]);
 
-// The commands that take a number, and the number where none is given: how many plays, and which outcome.
-const NUMBERS = { outcomes: 1000, outcome: 1 };
+// The commands that take a number, and the number where none is given: how many plays, which outcome, and which table of
+// a front end (numberOf in playground/js/fronts.js).
+const NUMBERS = { outcomes: 1000, outcome: 1, "data-under": 0, "replay-under": 0 };
 
 // The commands that show the run of a schedule, and of a workload that of its play.
-const SHOWS = new Set(["data", "trace", "draw", "page", "rest"]);
+const SHOWS = new Set(["data", "trace", "draw", "draw-large", "page", "rest"]);
 
 // What the module answers of a text's kind.
 const KINDS = ["schedule", "workload", "report"];
@@ -47,13 +48,9 @@ class Instance {
     this.room = this.lengths + 16;
     this.errors = this.room + 16;
     this.output = this.errors + ERROR_BYTES;
-    // All from here on was not lent yet.
-    this.begin = this.free = this.output + OUTPUT_BYTES;
+    this.begin = this.output + OUTPUT_BYTES;
+    this.isLarge = false; // whether a run took much
     this.view = new DataView(memory.buffer);
-  }
-
-  get isSpent() {
-    return this.free - this.begin > SPENT_BYTES;
   }
 
   bytes(at, count) {
@@ -64,29 +61,28 @@ class Instance {
     return Number(this.view.getBigUint64(at, true));
   }
 
-  /** Puts a text into memory that was not lent yet. */
+  /** Puts a text where the memory that is lent begins. */
   place(text) {
-    const at = this.free;
-    if (at + text.length > this.end) throw new RangeError("out of memory");
-    this.bytes(at, text.length).set(text);
-    this.free = rounded(at + text.length);
-    return at;
+    if (this.begin + text.length > this.end) throw new RangeError("out of memory");
+    this.bytes(this.begin, text.length).set(text);
+    return this.begin;
   }
 
-  /** Lends all that was not lent yet: where it begins, and how many bytes it has. */
-  lend() {
-    this.view.setBigUint64(this.room, BigInt(this.free), true);
-    this.view.setBigUint64(this.room + 8, BigInt(this.end - this.free), true);
+  /** Lends all memory behind a text: where it begins, and how many bytes it has. */
+  lend(text) {
+    const free = rounded(this.begin + text.length);
+    this.view.setBigUint64(this.room, BigInt(free), true);
+    this.view.setBigUint64(this.room + 8, BigInt(this.end - free), true);
   }
 
   /** Calls a function with a text, and with a number where it takes one. */
   run(call, text, ...numbers) {
     const at = this.place(text);
-    this.lend();
+    this.lend(text);
     const given = [this.room, at, text.length].map(BigInt);
     const taken = [this.output, OUTPUT_BYTES, this.errors, ERROR_BYTES, this.lengths].map(BigInt);
     const status = call(...given, ...numbers, ...taken);
-    this.free = this.number(this.room);
+    this.isLarge = this.number(this.room) - this.begin > MOST_KEPT_BYTES;
     const many = this.number(this.lengths), few = this.number(this.lengths + 8);
     if (many > OUTPUT_BYTES) throw new RangeError("too much output");
     const error = this.bytes(this.errors, Math.min(few, ERROR_BYTES)).slice();
@@ -108,8 +104,8 @@ export class Engine {
   }
 
   /**
-   * What a command makes of a text. A workload that is played is put into its layout first, and one whose run is
-   * shown is played first. A number may stand behind a command that takes one, as in "outcome 3".
+   * What a command makes of a text. A workload that is played or told about is put into its layout first, and one whose
+   * run is shown is played first. A number may stand behind a command that takes one, as in "outcome 3".
    * @param {string} command @param {Uint8Array} text
    * @returns {{status: number, output: Uint8Array, error: Uint8Array}}
    */
@@ -117,13 +113,17 @@ export class Engine {
     const before = this.before(command, text);
     if (!before) return this.call(command, text);
     const made = this.run(before, text);
-    return made.status === 0 ? this.call(command, made.output) : made;
+    if (made.status === 0) return this.call(command, made.output);
+    // Of a text that says no workload `why` tells why; what shows runs reads it as a schedule, and tells why it is none.
+    const isRead = command === "why" || SHOWS.has(command) && this.call("layout", text).status !== 0;
+    return isRead ? this.call(command, text) : made;
   }
 
   /** The command that makes of a text what this command reads, where it doesn't read the text itself. */
   before(command, text) {
     if (PLAYS.has(command.split(" ")[0])) return "layout";
-    return SHOWS.has(command) && this.kindOf(text) === "workload" ? "schedule" : null;
+    const made = command === "why" ? "layout" : SHOWS.has(command) ? "schedule" : null;
+    return made && this.kindOf(text) === "workload" ? made : null;
   }
 
   call(command, text) {
@@ -140,7 +140,7 @@ export class Engine {
 
   /** Calls into an instance. One in which a call failed is used no more: after a trap it refuses all further calls. */
   within(call) {
-    if (!this.instance || this.instance.isSpent) this.instance = new Instance(this.module);
+    if (!this.instance || this.instance.isLarge) this.instance = new Instance(this.module);
     try {
       return call(this.instance);
     } catch (error) {

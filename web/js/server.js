@@ -70,4 +70,7 @@ export function ask(/** @type {string} */ command, /** @type {string} */ text) {
 export const list = async name =>
   name === "given" ? "" : (await fetch(new URL(`../../lists/${name}.json`, import.meta.url))).json();
 
+/** Whether a schedule can be run under the table of a front end that has no name. */
+export const RUNS_TABLES = true;
+
 export const NO_ANSWER = "The page's own files don't answer.";

@@ -1,6 +1,5 @@
 // Runs one command after another, off the page's own thread.
 import { Engine } from "./engine.js";
-import { why } from "./why.js";
 import { NARROW, isWide } from "./wide.js";
 
 async function load() {
@@ -21,7 +20,6 @@ const NONE = { status: 1, output: "" };
 async function answerOf(command, text) {
   const bytes = new TextEncoder().encode(text), decoded = told => new TextDecoder().decode(told);
   const ready = await engine;
-  if (command === "why") return why(ready, bytes);
   if (!ready.has(command)) return { ...NONE, error: "not in this page: the programs themselves have it\n" };
   const { status, output, error } = ready.run(command, bytes);
   return { status, output: decoded(output), error: decoded(error) };
