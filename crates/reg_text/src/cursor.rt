@@ -4,7 +4,7 @@ ghost use Rattle.reg_text.specs.Lines.{lines_of, kept, is_kept as is_kept_of, Is
 ghost use Rattle.reg_text.specs.Reading.{IsFound};
 
 use crate::faults::{TextFault, Why};
-use memchr::memchr;
+use crate::feeds::line_feed;
 use std::marker::Model;
 
 /// The first line of a text, with no line feed, and the rest.
@@ -17,9 +17,11 @@ fn cut_line(text: &[u8]) -> Option<(&[u8], &[u8])>
     if text.is_empty() {
         return None;
     }
-    match memchr(b'\n', text) {
-        Some(place) => Some((&text[..place], &text[place + 1..])),
-        None => Some((text, b"".as_slice())),
+    let place = line_feed(text);
+    if place < text.len() {
+        Some((&text[..place], &text[place + 1..]))
+    } else {
+        Some((text, b"".as_slice()))
     }
 }
 

@@ -6,6 +6,7 @@
 
 mod cursor;
 mod faults;
+mod feeds;
 mod fields;
 mod forms;
 mod heads;
