@@ -1,5 +1,5 @@
 -- The report of a run, by what the world answers.
-use Rattle.std.proofs.Common.{◌≡◌, ℕ, List, Option, Result, Ok, Err, refl, sym, ap, ◌∙◌, subst}
+use Rattle.std.proofs.Common.{◌≡◌, ℕ, List, Option, Result, Ok, Err, refl, sym, ◌∙◌, subst}
 use Rattle.std.specs.Prelude.{IfOk, IfErr}
 use Rattle.reg_base.specs.declared.memory.Op.{Op}
 use Rattle.reg_base.specs.declared.memory.OpId.{OpId}
@@ -59,16 +59,10 @@ one_shows start front names w history ids points told ordered keeps = record {
   real_time = keeps;
 }
 
-pub shows : {E : Type 0} (start : Op → ℕ → Start) (front : Front) (names : List (List ℕ)) (w : Made) (history : Log) (ids : List OpId) (points : Option (List Point)) (report : Result Contents E) → Told start w history ids → IsOrdered (parts_of front names history ids points) → KeepsUpdates start history.entries ids
-    → IfOk report (λ r. r ≡ parts_of front names history ids points) → IfOk report (λ r. Shows start (plan_in front names w) r)
-shows start front names w history ids points (Ok r) told ordered keeps made =
+pub shows : (start : Op → ℕ → Start) (front : Front) (names : List (List ℕ)) (w : Made) (history : Log) (ids : List OpId) (points : Option (List Point)) (report : Contents) → Told start w history ids → IsOrdered (parts_of front names history ids points) → KeepsUpdates start history.entries ids
+    → report ≡ parts_of front names history ids points → Shows start (plan_in front names w) report
+shows start front names w history ids points report told ordered keeps made =
     subst (λ (x : Contents). Shows start (plan_in front names w) x) (sym made) (one_shows start front names w history ids points told ordered keeps)
-shows start front names w history ids points (Err e) told ordered keeps made = tt
-
--- its points are those of the parts
-pub same_points : {E : Type 0} (parts : Contents) (report : Result Contents E) → IfOk report (λ r. r ≡ parts) → IfOk report (λ r. r.points ≡ parts.points)
-same_points parts (Ok r) made = ap (λ (q : Contents). q.points) made
-same_points parts (Err e) made = tt
 
 pub shows_points : {E : Type 0} (start : Op → ℕ → Start) (p : Plan) (points : Option (List Point)) (report : Result Contents E) → ShowsPoints start p points → IfOk report (λ r. r.points ≡ points) → IfOk report (λ r. ShowsPoints start p r.points)
 shows_points start p points (Ok r) are same = subst (λ (x : Option (List Point)). ShowsPoints start p x) (sym same) are

@@ -1,7 +1,8 @@
 //! The report of a run.
-ghost use Rattle.std.specs.Prelude.{◌≡◌, ◌≤◌, ℕ, IfOk, IfErr, MatchResult, length, option_map};
+ghost use Rattle.std.specs.Prelude.{◌≡◌, ◌≤◌, ℕ, IfOk, IfErr, MatchResult, length, option_map, string_bytes};
 ghost use Rattle.std.specs.Io.KnownBytes.{Appends};
 ghost use Rattle.reg_base.specs.declared.limits.TheConstants.{LAST_EVENT, MOST_PROCESSES};
+ghost use Rattle.reg_front.specs.declared.named.Front.{Front as AnyFront};
 ghost use Rattle.reg_front.specs.Table.{front_name};
 ghost use Rattle.reg_checkers.specs.History.{IsAt};
 ghost use Rattle.reg_checkers.specs.Log.{IsLog};
@@ -28,30 +29,26 @@ fn in_place<A: Allocator + Copy>(history: &History<A>)
     history.entries();
 }
 
-/// The report of these parts, under this front end and these names. Serial orders and point orders are within the
-/// limits of a report, so it is refused only where memory is.
+/// The report of these parts, under the front end of this title and these names. Serial orders and point orders are
+/// within the limits of a report, so it is not refused.
 fn report<A: Allocator + Copy>(
-    alloc: A,
-    front: Front,
+    title: String<A>,
     names: Names<A>,
     history: History<A>,
     order: Vec<OpId, A>,
     points: Option<Vec<Point, A>>,
-) -> Result<Report<A>, Fault>
+) -> Report<A>
+    requires title { (front : AnyFront) × (string_bytes title ≡ front_name front) }
     requires few { history.shape.processes ≤ MOST_PROCESSES }
     requires names { history.shape.registers ≡ length names }
     requires order { IsSerial history.shape.registers history.entries order.items }
     requires points { PointsStand history.shape.registers history.entries (option_map (λ v. v.items) points) }
-    ensures made { let parts : Contents = record { front = front_name front; shape = history.shape; names = names; entries = history.entries; order = order.items; points = option_map (λ v. v.items) points } in
-        IfOk result (λ r. r ≡ parts) }
-    ensures why { IfErr result (λ f. f ≡ Fault.OutOfMemory) }
+    ensures { let parts : Contents = record { front = string_bytes title; shape = history.shape; names = names; entries = history.entries; order = order.items; points = option_map (λ v. v.items) points } in
+        result ≡ parts }
 {
-    let Ok(front) = String::from_str(alloc, front.name()) else {
-        return Err(Fault::OutOfMemory);
-    };
     in_place(&history);
-    match Report::new(front, names, history, order, points) {
-        Ok(report) => Ok(report),
+    match Report::new(title, names, history, order, points) {
+        Ok(report) => report,
         Err(_) => unreachable!(),
     }
 }
@@ -70,10 +67,13 @@ fn report_world<F: FrontEnd, A: Allocator + Copy, W: WireStore<A>>(
     ensures points { IfOk result (λ r. r.points ≡ option_map (λ v. v.items) points) }
     ensures why { IfErr result (λ f. f ≡ Fault.OutOfMemory) }
 {
+    let Ok(title) = String::from_str(alloc, front.name()) else {
+        return Err(Fault::OutOfMemory);
+    };
     let Ok((_, order)) = world.serial_order() else {
         return Err(Fault::OutOfMemory);
     };
-    report(alloc, front, names, world.into_history(), order, points)
+    Ok(report(title, names, world.into_history(), order, points))
 }
 
 // Each first delivery is at an event that a run may have. It does nothing: its contract says so.

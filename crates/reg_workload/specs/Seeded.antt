@@ -1,5 +1,5 @@
 -- Seeded plays: each turn a word says what happens of all that can.
-use Rattle.std.specs.Prelude.{ℕ, ◌%◌, nat_lt, Bool, cond, List, [], ◌∷◌, ◌++◌, length, Option, Some, None, slice_index_or}
+use Rattle.std.specs.Prelude.{ℕ, ◌%◌, nat_lt, cond, List, [], ◌∷◌, ◌++◌, length, Option, Some, None, slice_index_or}
 use Rattle.std.specs.List.{flat_map, range_with_len}
 use Rattle.reg_base.specs.declared.memory.Op.{Op}
 use Rattle.reg_base.specs.Shape.{Extent}

@@ -5,9 +5,8 @@ ghost use Rattle.reg_workload.specs.Plays.{IsPlay};
 ghost use Rattle.reg_workload.specs.Rounds.{fair_play};
 ghost use Rattle.reg_workload.specs.Seeded.{seeded_play};
 
-use crate::fair;
 use crate::playing::Play;
-use crate::seeded::{self, Odds};
+use crate::{fair, seeded};
 use reg_base::Words;
 use reg_front::FrontEnd;
 use reg_inputs::Workload;
@@ -95,16 +94,5 @@ pub fn play_seeded_in<F: FrontEnd, R: Words + Drop, A: Allocator + Copy, W: Wire
     ensures finished { IfOk result (λ p. work.now.loss ≡ 0 → length p.world.accepted < work.now.budget → p.finished ≡ true) }
 {
     let mut words = words;
-    let odds = Odds {
-        loss: work.loss,
-        repeat: work.repeat,
-    };
-    seeded::play_seeded(
-        alloc,
-        work.shape,
-        &work.scripts,
-        &mut words,
-        odds,
-        work.budget,
-    )
+    seeded::play_seeded(alloc, work, &mut words)
 }
