@@ -412,6 +412,20 @@ class Datagrams(unittest.TestCase):
         self.assertEqual(other.receive(5)[-1:] or other.receive(5), [(0, b"another")])
         self.assertTrue(any("no known key opens" in line for line in self.said))
 
+    def test_strangers_take_no_peers_room(self):
+        one, other = (self.road(p, Keys(self.pairs[p][1], self.known)) for p in range(2))
+        stranger = socket.socket(type=socket.SOCK_DGRAM)
+        self.addCleanup(stranger.close)
+        for _ in range(2000):  # more than the system keeps for a socket
+            stranger.sendto(bytes(1000), ("127.0.0.1", int(self.addresses[1].rpartition(":")[2])))
+        one.send(1, b"a message")
+        self.assertEqual(other.receive(5), [(0, b"a message")])
+
+    def test_a_port_in_use_is_refused(self):
+        self.road(0, Keys(self.pairs[0][1], self.known))
+        with self.assertRaises(road.RoadFault):
+            self.road(0, Keys(self.pairs[0][1], self.known))
+
     def test_keys_are_needed_between_machines(self):
         self.addresses = ["udp://0.0.0.0:7101", "udp://127.0.0.1:7102"]
         with self.assertRaises(road.RoadFault):

@@ -13,6 +13,7 @@ from .road import BATCH, Complaints, Keys, RoadFault, check_addresses, check_key
 
 MOST_BYTES = 1200  # of a message, so that a datagram fits into one packet of most networks
 _MOST_READ = 2048
+FEW = 16  # datagrams of strangers that are opened at once
 
 # (type checkers know it not whole)
 _os: Any = os
@@ -23,8 +24,17 @@ def _place_of(address: str) -> Tuple[str, int]:
     return host.strip("[]"), int(port)
 
 
+def _share(bound: socket.socket, other: socket.socket) -> None:
+    """Lets another socket have the address of one that is bound. Before it was bound, one that somebody else has was refused."""
+    for one in (bound, other):
+        one.setsockopt(socket.SOL_SOCKET, socket.SO_REUSEADDR, 1)
+
+
 class DatagramRoad:
-    """`send` is called under the node's lock, and `receive` by its receiver alone."""
+    """`send` is called under the node's lock, and `receive` by its receiver alone.
+
+    Each peer has a socket of its own, to which the system brings what comes from the peer's address. All else comes to the socket for strangers,
+    of which few datagrams are opened before the peers are heard again: a flood from elsewhere takes no peer's room, and little of its time."""
 
     most_bytes = MOST_BYTES
 
@@ -40,24 +50,29 @@ class DatagramRoad:
             self.boxes = {p: Box(secret, PublicKey(of_z85(key))) for p, key in enumerate(keys.known) if p != me}
         places = [_place_of(it) for it in addresses]
         family = socket.AF_INET6 if any(":" in host for host, _ in places) else socket.AF_INET
-        self.to = {p: socket.getaddrinfo(*place, family, socket.SOCK_DGRAM)[0][4] for p, place in enumerate(places) if p != me}
-        self.socket = socket.socket(family, socket.SOCK_DGRAM)
-        self.socket.setblocking(False)
+        self.strangers = socket.socket(family, socket.SOCK_DGRAM)
+        self.peers = {p: socket.socket(family, socket.SOCK_DGRAM) for p in range(len(places)) if p != me}
         try:
-            self.socket.bind(places[me])
+            self.strangers.bind(places[me])
+            for p, peer in self.peers.items():
+                _share(self.strangers, peer)
+                peer.bind(places[me])
+                peer.connect(socket.getaddrinfo(*places[p], family, socket.SOCK_DGRAM)[0][4])
         except OSError as why:
-            self.socket.close()
+            self._shut()
             raise RoadFault(f"{addresses[me]}: {why}") from None
         self.bell = _os.eventfd(0, _os.EFD_NONBLOCK | _os.EFD_CLOEXEC)
         self.poller = select.poll()
-        for what in (self.socket.fileno(), self.bell):
-            self.poller.register(what, select.POLLIN)
+        for one in [*self.peers.values(), self.strangers]:
+            one.setblocking(False)
+            self.poller.register(one.fileno(), select.POLLIN)
+        self.poller.register(self.bell, select.POLLIN)
 
     def send(self, to: int, message: bytes) -> None:
         if self.boxes is not None:
             message = bytes([self.me]) + bytes(self.boxes[to].encrypt(message))
         try:
-            self.socket.sendto(message, self.to[to])
+            self.peers[to].send(message)
         except OSError:  # no room, or nobody there: a tick puts it again
             self.dropped += 1
 
@@ -74,11 +89,20 @@ class DatagramRoad:
         if self.bell in ready:
             _os.eventfd_read(self.bell)
         found: List[Tuple[Optional[int], bytes]] = []
-        while self.socket.fileno() in ready and len(found) < BATCH:
+        for peer in self.peers.values():
+            if peer.fileno() in ready:
+                self._take(peer, BATCH, found)
+        if self.strangers.fileno() in ready:
+            self._take(self.strangers, FEW, found)
+        return found
+
+    def _take(self, source: socket.socket, most: int, found: List[Tuple[Optional[int], bytes]]) -> None:
+        """Opens some of what has come to a socket."""
+        for _ in range(most):
             try:
-                data, place = self.socket.recvfrom(_MOST_READ)
+                data, place = source.recvfrom(_MOST_READ)
             except BlockingIOError:
-                break
+                return
             except OSError:  # what a datagram of ours met at a port where nobody is
                 continue
             opened = self._opened(data)
@@ -86,7 +110,6 @@ class DatagramRoad:
                 self.complain("key", f"{place[0]}: a datagram that no known key opens; dropped")
             else:
                 found.append(opened)
-        return found
 
     def _opened(self, data: bytes) -> Optional[Tuple[Optional[int], bytes]]:
         if self.boxes is None:
@@ -102,5 +125,9 @@ class DatagramRoad:
             return None
 
     def close(self) -> None:
-        self.socket.close()
+        self._shut()
         os.close(self.bell)
+
+    def _shut(self) -> None:
+        for one in [*self.peers.values(), self.strangers]:
+            one.close()
