@@ -101,6 +101,9 @@ pub(crate) fn put_before_source<A: Allocator + Copy>(
     if !before.has(other, reader.id) {
         return false;
     }
+    if before.has(other, source) {
+        return false;
+    }
     if !overwrites(finder, other, reader.value) {
         return false;
     }
@@ -143,6 +146,9 @@ pub(crate) fn put_behind_reader<A: Allocator + Copy>(
     ensures { AreForced finder.now before.new.counts.items }
 {
     if other == reader.id {
+        return false;
+    }
+    if before.has(reader.id, other) {
         return false;
     }
     if !is_behind_source(before, reader, other) {

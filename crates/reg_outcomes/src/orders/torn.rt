@@ -8,7 +8,7 @@ ghost use Rattle.reg_outcomes.specs.Forced.{AreForced, AreMakers, IsReader};
 ghost use Rattle.reg_outcomes.specs.Guiding.{IsOutlook};
 
 use crate::orders::before::Before;
-use crate::orders::changes::{Change, change_after, changes_of, first_change, last_change};
+use crate::orders::changes::{Changes, change_after, changes_of, first_change, last_change};
 use crate::orders::finder::Finder;
 use crate::orders::forcing::{
     is_finished, put_before_source, put_behind_reader, put_known, put_source,
@@ -23,12 +23,12 @@ use std::alloc::{AllocError, Allocator, Global};
 const MOST_PASSES: u32 = 4;
 
 /// The most entries of a history that is gone over, times its processes: in a larger one a pass takes too long.
-const MOST_WORK: usize = 2_097_152;
+const MOST_WORK: usize = 8_388_608;
 
-/// Goes by the last change of the reader's register, among those of a process that come before the reader.
+/// Goes by the last of these changes of the reader's register by a process that come before the reader.
 fn put_last_change<A: Allocator + Copy>(
     finder: &Finder<'_, A>,
-    changes: &[Change],
+    numbers: &[u32],
     before: &mut Before<A>,
     reader: Reader,
     process: u8,
@@ -39,31 +39,31 @@ fn put_last_change<A: Allocator + Copy>(
     ensures { AreForced finder.now before.new.counts.items }
 {
     let known = before.known(reader.id, process);
-    match last_change(changes, process, reader.value.0, known) {
+    match last_change(numbers, process, known) {
         Some(other) => put_before_source(finder, before, reader, other),
         None => false,
     }
 }
 
-/// The first change of the reader's register by a process that comes after all that may leave what the reader finds.
+/// The first of these changes of the reader's register by a process that comes after all that may leave what the reader
+/// finds.
 fn next_change<A: Allocator + Copy>(
-    changes: &[Change],
+    numbers: &[u32],
     before: &Before<A>,
     reader: Reader,
     process: u8,
 ) -> Option<OpId> {
-    let register = reader.value.0;
     match reader.source {
-        Some(Maker::Only(source)) => change_after(changes, before, process, register, source),
+        Some(Maker::Only(source)) => change_after(numbers, before, process, source),
         Some(Maker::Several) => None,
-        None => first_change(changes, process, register),
+        None => first_change(numbers, process),
     }
 }
 
-/// Goes by the first change of the reader's register, among those of a process that come after the source.
+/// Goes by the first of these changes of the reader's register by a process that come after the source.
 fn put_next_change<A: Allocator + Copy>(
     finder: &Finder<'_, A>,
-    changes: &[Change],
+    numbers: &[u32],
     before: &mut Before<A>,
     reader: Reader,
     process: u8,
@@ -73,7 +73,7 @@ fn put_next_change<A: Allocator + Copy>(
     requires forced { AreForced finder.now before.old.counts.items }
     ensures { AreForced finder.now before.new.counts.items }
 {
-    match next_change(changes, before, reader, process) {
+    match next_change(numbers, before, reader, process) {
         Some(other) => put_behind_reader(finder, before, reader, other),
         None => false,
     }
@@ -83,7 +83,7 @@ fn put_next_change<A: Allocator + Copy>(
 fn put_reader<A: Allocator + Copy>(
     finder: &Finder<'_, A>,
     makers: &Makers<A>,
-    changes: &[Change],
+    changes: &Changes<A>,
     before: &mut Before<A>,
     id: OpId,
 ) -> bool
@@ -98,13 +98,24 @@ fn put_reader<A: Allocator + Copy>(
     let mut news = put_source(finder, before, reader);
     let processes = finder.shape().processes() as u8;
     for process in 0..processes {
-        news = put_last_change(finder, changes, before, reader, process) || news;
-        news = put_next_change(finder, changes, before, reader, process) || news;
+        let numbers = changes.of(process, reader.value.0);
+        news = put_last_change(finder, numbers, before, reader, process) || news;
+        news = put_next_change(finder, numbers, before, reader, process) || news;
     }
     news
 }
 
-/// Goes by its own process, and by what is known to come before an operation. Whether that is news.
+/// Whether more of a process is known to come before an operation than before the one before it of its own process.
+fn knows_more<A: Allocator + Copy>(before: &Before<A>, id: OpId, process: u8) -> bool {
+    let known = before.known(id, process);
+    match id.number.checked_sub(1) {
+        Some(number) => before.known(OpId { number, ..id }, process) < known,
+        None => known > 0,
+    }
+}
+
+/// Goes by its own process, and by what is known to come before an operation. Whether that is news. What comes before
+/// the one before it, too, has come with that one.
 fn put_all_known<A: Allocator + Copy>(
     finder: &Finder<'_, A>,
     before: &mut Before<A>,
@@ -116,7 +127,9 @@ fn put_all_known<A: Allocator + Copy>(
     let mut news = before.raise(id, id.process, id.number);
     let processes = finder.shape().processes() as u8;
     for process in 0..processes {
-        news = put_known(finder, before, id, process) || news;
+        if knows_more(before, id, process) {
+            news = put_known(finder, before, id, process) || news;
+        }
     }
     news
 }
@@ -125,7 +138,7 @@ fn put_all_known<A: Allocator + Copy>(
 fn put_entry<A: Allocator + Copy>(
     finder: &Finder<'_, A>,
     makers: &Makers<A>,
-    changes: &[Change],
+    changes: &Changes<A>,
     before: &mut Before<A>,
     entry: Entry,
 ) -> bool
@@ -145,7 +158,7 @@ fn put_entry<A: Allocator + Copy>(
 fn go_over<A: Allocator + Copy>(
     finder: &Finder<'_, A>,
     makers: &Makers<A>,
-    changes: &[Change],
+    changes: &Changes<A>,
     before: &mut Before<A>,
 ) -> bool
     requires history { IsHistory finder.now.shape.processes finder.now.shape.registers finder.now.entries }
