@@ -20,9 +20,10 @@ use std::alloc::{AllocError, Allocator, Global};
 
 /// The most passes over a history. What is not found by then is left to the search. A sketch of these rules, which went
 /// on until nothing was news, found all that it found of 600 made-up histories in three passes, most in the first.
-const MOST_PASSES: u32 = 4;
+const MOST_PASSES: usize = 4;
 
-/// The most entries of a history that is gone over, times its processes: in a larger one a pass takes too long.
+/// The most entries that are gone over in all passes, times the processes: more take too long. So a large history is
+/// gone over in fewer passes, and a very large one in none.
 const MOST_WORK: usize = 8_388_608;
 
 /// Goes by the last of these changes of the reader's register by a process that come before the reader.
@@ -209,6 +210,13 @@ pub(crate) enum Outlook<A: Allocator + Copy = Global> {
     Open(Option<Before<A>>),
 }
 
+/// How many passes over a history are not too many.
+fn most_passes<A: Allocator + Copy>(finder: &Finder<'_, A>) -> usize {
+    let processes = finder.shape().processes() as usize;
+    let work = finder.entries().len().saturating_mul(processes);
+    MOST_PASSES.min(MOST_WORK / work.max(1))
+}
+
 /// What comes before each operation in each serial order of the history, as far as the own order of each process tells
 /// it, and what reads, swaps and compare-and-swaps found. It is no search: the time grows with the operations, times
 /// the processes. That a history is not torn says nothing; it is all that is said of a very large one.
@@ -219,14 +227,14 @@ pub(crate) fn outlook_of<A: Allocator + Copy>(
     requires { IsHistory finder.now.shape.processes finder.now.shape.registers finder.now.entries }
     ensures { IfOk result (IsOutlook finder.now) }
 {
-    let processes = finder.shape().processes() as usize;
-    if finder.entries().len().saturating_mul(processes) > MOST_WORK {
+    let passes = most_passes(finder);
+    if passes == 0 {
         return Ok(Outlook::Open(None));
     }
     let makers = makers_of(alloc, finder)?;
     let changes = changes_of(alloc, finder)?;
     let mut before = Before::new(alloc, finder)?;
-    for _pass in 0..MOST_PASSES {
+    for _pass in 0..passes {
         let news = go_over(finder, &makers, &changes, &mut before);
         if has_circle(finder, &before) {
             return Ok(Outlook::Torn);
