@@ -83,7 +83,8 @@ pub(crate) fn put_source<A: Allocator + Copy>(
     join(finder, before, source, reader.id)
 }
 
-/// What overwrites the register before the reader comes before the source.
+/// What overwrites the register before the reader comes before the source. Where that is noted, the rest is left to
+/// `put_known`.
 pub(crate) fn put_before_source<A: Allocator + Copy>(
     finder: &Finder<'_, A>,
     before: &mut Before<A>,
@@ -133,7 +134,8 @@ fn is_behind_source<A: Allocator + Copy>(before: &Before<A>, reader: Reader, oth
     }
 }
 
-/// What overwrites the register after the source comes after the reader.
+/// What overwrites the register after the source comes after the reader. Where that is noted, the rest is left to
+/// `put_known`.
 pub(crate) fn put_behind_reader<A: Allocator + Copy>(
     finder: &Finder<'_, A>,
     before: &mut Before<A>,

@@ -115,8 +115,8 @@ fn knows_more<A: Allocator + Copy>(before: &Before<A>, id: OpId, process: u8) ->
     }
 }
 
-/// Goes by its own process, and by what is known to come before an operation. Whether that is news. What comes before
-/// the one before it, too, has come with that one.
+/// Goes by its own process, and by what is known to come before an operation. Whether that is news. A process is passed
+/// over where no more of it is known than at the one before: that came with that one.
 fn put_all_known<A: Allocator + Copy>(
     finder: &Finder<'_, A>,
     before: &mut Before<A>,
