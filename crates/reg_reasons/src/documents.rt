@@ -2,22 +2,23 @@
 use crate::forms::{FRONTS, KEYS, OP, kind_of_key, range_of};
 use crate::saying::Notes;
 use crate::scanning::{after, is_register, misfit_of, place_of};
-use crate::stops::Documents;
-use crate::toml_places::{Item, item_place};
-use crate::toml_values::{Entry, entries_of, integer_of, items_of, kind_of, starts_text, text_of};
+use crate::stops::explain_stop;
+use crate::toml_steps::starts_text;
+use crate::toml_values::{Entry, items_of, kind_of, read_entries, text_of};
+use crate::toml_words::{integer_of, word_of};
 use crate::wanting::{NAME_FORM, NAME_TAKEN, Rules};
 use reg_base::limits::{MOST_OPERATIONS, MOST_PROCESSES, MOST_REGISTERS};
 use reg_inputs::{Key, WorkloadFault};
-use std::alloc::{AllocError, Allocator};
+use std::alloc::{AllocError, Allocator, Global};
 
 /// Puts that a key is missing.
 fn put_missing<A: Allocator + Copy>(notes: &mut Notes<'_, A>, key: Key) {
-    notes.put(&[key.name(), " is ", kind_of_key(key), ", and no line has it"]);
+    notes.put_all(&[key.name(), " is ", kind_of_key(key), ", and no line has it"]);
     if key == Key::Front {
-        notes.put(&[": "]);
+        notes.put(": ");
         notes.put_words(FRONTS);
     }
-    notes.put(&["\n"]);
+    notes.put("\n");
 }
 
 /// Whether a name is the text of one of these.
@@ -36,7 +37,7 @@ fn is_plain(value: &[u8]) -> bool {
 }
 
 fn put_kind<A: Allocator + Copy>(notes: &mut Notes<'_, A>, value: &[u8]) {
-    notes.put(&[" is of the kind ", kind_of(value)]);
+    notes.put_all(&[" is of the kind ", kind_of(value)]);
 }
 
 /// The first item that is no text, and its place.
@@ -49,33 +50,48 @@ fn odd_item<'a>(values: &[&'a [u8]]) -> Option<(usize, &'a [u8])> {
     None
 }
 
-/// Puts which register is no text.
-fn put_odd_item<A: Allocator + Copy>(notes: &mut Notes<'_, A>, values: &[&[u8]]) {
-    if let Some((item, value)) = odd_item(values) {
-        notes.put_with(": item {}", &[item as u64]);
-        put_kind(notes, value);
+/// Puts the first item of an array that is no text, be it that of a script. False where all are texts.
+fn put_odd_item<A: Allocator + Copy>(
+    notes: &mut Notes<'_, A>,
+    array: &[u8],
+    script: Option<u64>,
+) -> Result<bool, AllocError> {
+    let items = items_of(notes.alloc, array)?;
+    let Some((item, value)) = odd_item(items.as_slice()) else {
+        return Ok(false);
+    };
+    if let Some(script) = script {
+        notes.put_with(": of script {}", &[script]);
     }
+    notes.put_with(": item {}", &[item as u64]);
+    put_kind(notes, value);
+    Ok(true)
 }
 
-/// Puts which script is no array of texts.
+/// Puts which script of an array is no array of texts.
 fn put_odd_script<A: Allocator + Copy>(
     notes: &mut Notes<'_, A>,
-    values: &[&[u8]],
+    array: &[u8],
 ) -> Result<(), AllocError> {
-    for (script, value) in values.iter().enumerate() {
+    let scripts = items_of(notes.alloc, array)?;
+    for (script, value) in scripts.as_slice().iter().enumerate() {
+        let script = script as u64;
         if !value.starts_with(b"[") {
-            notes.put_with(": script {}", &[script as u64]);
+            notes.put_with(": script {}", &[script]);
             put_kind(notes, value);
             break;
         }
-        let items = items_of(notes.alloc, value)?;
-        if let Some((item, value)) = odd_item(items.as_slice()) {
-            notes.put_with(": of script {}: item {}", &[script as u64, item as u64]);
-            put_kind(notes, value);
+        if put_odd_item(notes, value, Some(script))? {
             break;
         }
     }
     Ok(())
+}
+
+/// What stands from the item at a place of an array on, and nothing where it isn't there.
+fn item_at<A: Allocator + Copy>(alloc: A, array: &[u8], place: usize) -> Result<&[u8], AllocError> {
+    let items = items_of(alloc, array)?;
+    Ok(items.get(place).copied().unwrap_or(b""))
 }
 
 /// Puts how many registers or scripts a workload has, or operations a script, where a key has `count` of them.
@@ -105,48 +121,34 @@ struct Document<'a> {
 
 impl<'a> Document<'a> {
     /// A key with its value.
-    fn entry(&self, key: Key) -> Option<Entry<'a>> {
+    fn entry(&self, key: Key) -> Option<&'a Entry<'a>> {
+        let name = key.name().as_bytes();
         for entry in self.entries {
-            if entry.name == key.name().as_bytes() {
-                return Some(*entry);
+            if entry.name == name {
+                return Some(entry);
             }
         }
         None
     }
 
-    /// The items of a key's array.
-    fn items<A: Allocator + Copy>(
-        &self,
-        alloc: A,
-        key: Key,
-    ) -> Result<Vec<&'a [u8], A>, AllocError> {
+    /// What stands from the value of a key on, and nothing where no line has it.
+    fn value(&self, key: Key) -> &'a [u8] {
         match self.entry(key) {
-            Some(entry) => items_of(alloc, entry.value),
-            None => Ok(Vec::new(alloc)),
+            Some(entry) => entry.value,
+            None => b"",
         }
     }
 
-    /// The place of an item of a key's array.
-    fn item_place(&self, key: Key, item: Item) -> Option<usize> {
-        let value = self.entry(key)?.value;
-        item_place(self.text, self.text.len().saturating_sub(value.len()), item)
+    /// Puts the line of a key.
+    fn put_key_place<A: Allocator + Copy>(&self, notes: &mut Notes<'_, A>, key: Key) {
+        if let Some(entry) = self.entry(key) {
+            notes.put_text_place(self.text, entry.place);
+        }
     }
 
-    /// Puts the line of a place where it is known, and else that of a key.
-    fn put_place<A: Allocator + Copy>(
-        &self,
-        notes: &mut Notes<'_, A>,
-        place: Option<usize>,
-        key: Key,
-    ) {
-        let known = match (place, self.entry(key)) {
-            (Some(place), _) => Some(place),
-            (None, Some(entry)) => Some(entry.place),
-            (None, None) => None,
-        };
-        if let Some(place) = known {
-            notes.put_text_place(self.text, place);
-        }
+    /// Puts the line of what stands from a place on.
+    fn put_place<A: Allocator + Copy>(&self, notes: &mut Notes<'_, A>, from: &[u8]) {
+        notes.put_text_place(self.text, self.text.len().saturating_sub(from.len()));
     }
 
     /// Puts the first key that no workload has.
@@ -155,7 +157,7 @@ impl<'a> Document<'a> {
             if place_of(KEYS, entry.name).is_none() {
                 notes.put_text_place(self.text, entry.place);
                 notes.put_wanted_words(KEYS, entry.name);
-                return notes.put(&["\n"]);
+                return notes.put("\n");
             }
         }
     }
@@ -165,22 +167,20 @@ impl<'a> Document<'a> {
         notes: &mut Notes<'_, A>,
         key: Key,
     ) -> Result<(), AllocError> {
-        let Some(entry) = self.entry(key) else {
-            return Ok(());
-        };
-        let items = items_of(notes.alloc, entry.value)?;
-        let is_array = entry.value.starts_with(b"[");
-        self.put_place(notes, None, key);
-        notes.put(&[key.name(), " is ", kind_of_key(key)]);
+        let value = self.value(key);
+        self.put_key_place(notes, key);
+        notes.put_all(&[key.name(), " is ", kind_of_key(key)]);
         match key {
-            Key::Registers if is_array => put_odd_item(notes, items.as_slice()),
-            Key::Scripts if is_array => put_odd_script(notes, items.as_slice())?,
+            Key::Registers if value.starts_with(b"[") => {
+                put_odd_item(notes, value, None)?;
+            }
+            Key::Scripts if value.starts_with(b"[") => put_odd_script(notes, value)?,
             _ => {
-                notes.put(&[", and this"]);
-                put_kind(notes, entry.value);
+                notes.put(", and this");
+                put_kind(notes, value);
             }
         }
-        notes.put(&["\n"]);
+        notes.put("\n");
         Ok(())
     }
 
@@ -199,10 +199,10 @@ impl<'a> Document<'a> {
         if !is_double && is_register(name) {
             return false;
         }
-        let place = self.item_place(Key::Registers, Item { outer, inner: None });
-        self.put_place(notes, place, Key::Registers);
+        self.put_place(notes, value);
         let fault = if is_double { NAME_TAKEN } else { NAME_FORM };
-        notes.put_quoted(name, &[fault, "\n"]);
+        notes.put_quoted(name, fault);
+        notes.put("\n");
         true
     }
 
@@ -223,86 +223,59 @@ impl<'a> Document<'a> {
         notes: &mut Notes<'_, A>,
         key: Key,
     ) -> Result<(), AllocError> {
-        let values = self.items(notes.alloc, key)?;
+        let values = items_of(notes.alloc, self.value(key))?;
         let count = values.len() as u64;
         if key == Key::Registers && count > 0 && count <= MOST_REGISTERS as u64 {
             self.explain_names(notes, values.as_slice());
             return Ok(());
         }
-        self.put_place(notes, None, key);
+        self.put_key_place(notes, key);
         put_count(notes, key, count);
-        notes.put(&["\n"]);
+        notes.put("\n");
         Ok(())
     }
 
     /// Puts why a key's value isn't one of those that it may be.
     fn explain_value<A: Allocator + Copy>(&self, notes: &mut Notes<'_, A>, key: Key) {
-        let Some(entry) = self.entry(key) else {
-            return;
-        };
-        self.put_place(notes, None, key);
+        let value = self.value(key);
+        self.put_key_place(notes, key);
         if key == Key::Front {
-            notes.put_wanted_words(FRONTS, text_of(entry.value));
+            notes.put_wanted_words(FRONTS, text_of(value));
         } else {
-            let (is_negative, number) = integer_of(entry.value);
+            let (is_negative, number) = integer_of(word_of(value)).unwrap_or((false, 0));
             let words = if is_negative { "-{}" } else { "{}" };
             notes.put_with(words, &[number]);
             notes.put_out_of_range(range_of(key));
         }
-        notes.put(&["\n"]);
+        notes.put("\n");
     }
 
     /// The names of the registers.
     fn names<A: Allocator + Copy>(&self, alloc: A) -> Result<Vec<&'a [u8], A>, AllocError> {
-        let mut names = self.items(alloc, Key::Registers)?;
+        let mut names = items_of(alloc, self.value(Key::Registers))?;
         for name in names.as_mut_slice() {
             *name = text_of(name);
         }
         Ok(names)
     }
 
-    /// The text of an operation.
-    fn op<A: Allocator + Copy>(
-        &self,
-        alloc: A,
-        process: usize,
-        place: usize,
-    ) -> Result<&'a [u8], AllocError> {
-        let scripts = self.items(alloc, Key::Scripts)?;
-        let Some(script) = scripts.get(process) else {
-            return Ok(b"");
-        };
-        let ops = items_of(alloc, script)?;
-        match ops.get(place) {
-            Some(op) => Ok(text_of(op)),
-            None => Ok(b""),
+    /// Puts the place at which an operation doesn't fit: `at` bytes behind the quote before it, where none is escaped.
+    fn put_op_place<A: Allocator + Copy>(&self, notes: &mut Notes<'_, A>, value: &[u8], at: usize) {
+        let inner = after(value, 1);
+        if value.is_empty() {
+            self.put_key_place(notes, Key::Scripts);
+        } else if inner.starts_with(text_of(value)) {
+            self.put_place(notes, after(inner, at));
+        } else {
+            self.put_place(notes, value);
         }
-    }
-
-    /// Puts the place at which an operation doesn't fit: `at` bytes after its first one.
-    fn put_op_place<A: Allocator + Copy>(
-        &self,
-        notes: &mut Notes<'_, A>,
-        item: Item,
-        op: &[u8],
-        at: usize,
-    ) {
-        let mut place = self.item_place(Key::Scripts, item);
-        if let Some(quote) = place {
-            let first = quote.saturating_add(1);
-            if after(self.text, first).starts_with(op) {
-                place = Some(first.saturating_add(at));
-            }
-        }
-        self.put_place(notes, place, Key::Scripts);
     }
 
     /// Puts where an operation doesn't fit, and why: its form goes before its number and its register.
     fn put_op_misfit<'x, A: Allocator + Copy>(
         &self,
         notes: &mut Notes<'_, A>,
-        item: Item,
-        op: &'x [u8],
+        value: &'x [u8],
         names: &'x [&'x [u8]],
     ) {
         for is_strict in [false, true] {
@@ -311,8 +284,8 @@ impl<'a> Document<'a> {
                 is_older: false,
                 is_strict,
             };
-            if let Some(misfit) = misfit_of(op, OP, rules) {
-                self.put_op_place(notes, item, op, misfit.at);
+            if let Some(misfit) = misfit_of(text_of(value), OP, rules) {
+                self.put_op_place(notes, value, misfit.at);
                 return notes.put_misfit(names, misfit);
             }
         }
@@ -324,13 +297,10 @@ impl<'a> Document<'a> {
         process: usize,
         place: usize,
     ) -> Result<(), AllocError> {
+        let script = item_at(notes.alloc, self.value(Key::Scripts), process)?;
+        let value = item_at(notes.alloc, script, place)?;
         let names = self.names(notes.alloc)?;
-        let op = self.op(notes.alloc, process, place)?;
-        let item = Item {
-            outer: process,
-            inner: Some(place),
-        };
-        self.put_op_misfit(notes, item, op, names.as_slice());
+        self.put_op_misfit(notes, value, names.as_slice());
         Ok(())
     }
 
@@ -357,17 +327,18 @@ impl<'a> Document<'a> {
     }
 }
 
-/// Puts why a text is no workload.
-pub fn explain_workload<D: Documents, A: Allocator + Copy>(
+/// Puts why a text is no workload. Where there is no global heap, no table of it is kept.
+pub fn explain_workload<A: Allocator + Copy>(
     notes: &mut Notes<'_, A>,
-    documents: D,
+    global: Option<Global>,
     text: &str,
     fault: WorkloadFault,
 ) -> Result<(), AllocError> {
     if fault == WorkloadFault::Toml {
-        return documents.explain(notes, text);
+        return explain_stop(notes, global, text);
     }
-    let entries = entries_of(notes.alloc, text.as_bytes())?;
+    let mut entries = Vec::new(notes.alloc);
+    read_entries(&mut entries, text.as_bytes())?;
     let document = Document {
         text: text.as_bytes(),
         entries: entries.as_slice(),

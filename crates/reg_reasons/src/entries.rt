@@ -2,116 +2,92 @@
 use crate::lines_at::Line;
 use crate::report_lines::{Part, ReportLines, number_on};
 use crate::saying::Notes;
-use reg_text::{left_field, right_field, skip};
+use crate::scanning::{after, place_of, token_of};
+use reg_text::{left_field, right_field};
 use std::alloc::Allocator;
 
-/// What an operation is answered by, or what an answer is.
-#[derive(Clone, Copy, PartialEq, Eq)]
-enum Sort {
-    Done,
-    Value,
-    Unequal,
-    DoneOrUnequal,
-}
+/// How long the word for a call or an answer is, with the spaces after it.
+const COLUMN: usize = 8;
 
-impl Sort {
-    /// What the operation of a call is answered by.
-    fn to(op: &[u8]) -> Sort {
-        if op.starts_with(b"write ") {
-            Sort::Done
-        } else if op.starts_with(b"cas ") {
-            Sort::DoneOrUnequal
-        } else {
-            Sort::Value
+/// How an operation begins, what it is answered by, and what is said of one that has another answer. The first row of
+/// which the begin fits is that of an operation.
+const RULES: &[(&str, &[&str], &str)] = &[
+    ("write ", &["done"], "a write is answered by done\n"),
+    (
+        "cas ",
+        &["done", "unequal"],
+        "a compare-and-swap is answered by done or unequal\n",
+    ),
+    (
+        "",
+        &["value"],
+        "a read and a swap are answered by a value\n",
+    ),
+];
+
+/// What is said of an operation that has this answer, where it may not.
+fn broken_rule(op: &[u8], answer: &[u8]) -> Option<&'static str> {
+    for (begin, answers, rule) in RULES {
+        if op.starts_with(begin.as_bytes()) {
+            let is_kept = place_of(answers, token_of(answer)).is_some();
+            return (!is_kept).then_some(*rule);
         }
     }
-
-    /// What the answer at the end of a line is.
-    fn at_end(tail: &[u8]) -> Sort {
-        if tail.ends_with(b"done") {
-            Sort::Done
-        } else if tail.ends_with(b"unequal") {
-            Sort::Unequal
-        } else {
-            Sort::Value
-        }
-    }
-
-    /// Whether the answer is one of these.
-    fn allows(self, answer: Sort) -> bool {
-        self == answer || self == Sort::DoneOrUnequal && answer != Sort::Value
-    }
-
-    /// What is said of an operation that has another answer.
-    fn rule(self) -> &'static str {
-        match self {
-            Sort::Done => "a write is answered by done\n",
-            Sort::Value => "a read and a swap are answered by a value\n",
-            Sort::Unequal | Sort::DoneOrUnequal => {
-                "a compare-and-swap is answered by done or unequal\n"
-            }
-        }
-    }
+    None
 }
 
 /// The columns of an entry.
 #[derive(Clone, Copy)]
-struct Columns {
+struct Columns<'a> {
     at: u64,
     process: u64,
     number: u64,
     is_call: bool,
-    /// What the answer is: of a call, the one that it is to have.
-    sort: Sort,
+    /// The operation of a call, or the answer.
+    tail: &'a [u8],
 }
 
 /// The columns of a line that has them.
-fn columns_of(line: &[u8]) -> Option<Columns> {
+fn columns_of(line: &[u8]) -> Option<Columns<'_>> {
     let (at, later) = right_field(line, 8, b"  p")?;
     let (process, others) = left_field(later, 3, b"  #")?;
-    let (number, tail) = left_field(others, 6, b"  ")?;
-    let (is_call, sort) = match skip(tail, b"call    ") {
-        Some(op) => (true, Sort::to(op)),
-        None => (false, Sort::at_end(tail)),
-    };
+    let (number, kind) = left_field(others, 6, b"  ")?;
     Some(Columns {
         at,
         process,
         number,
-        is_call,
-        sort,
+        is_call: kind.starts_with(b"call"),
+        tail: after(kind, COLUMN),
     })
 }
 
-/// What the entries before one say: the last of all, and the last of its process.
+/// What the entries before one say: the first event that may come behind the last of all, and the last of its process.
 #[derive(Clone, Copy)]
-struct Before {
-    last: Option<Columns>,
-    own: Option<Columns>,
+struct Before<'a> {
+    least: u64,
+    own: Option<Columns<'a>>,
     /// How many processes the report says it has.
     processes: u64,
 }
 
 /// What stands before the line of this number, whose entry is of this process.
-fn stands_before(text: &[u8], number: u64, process: u64) -> Before {
+fn stands_before(text: &[u8], number: u64, process: u64) -> Before<'_> {
     let mut before = Before {
-        last: None,
+        least: 0,
         own: None,
         processes: 0,
     };
     let count = number.saturating_sub(1) as usize;
     for (walk, line) in ReportLines::new(text).take(count) {
-        match walk.part {
-            Part::Processes => before.processes = number_on(line),
-            Part::Entry => {
-                before.last = columns_of(line);
-                if let Some(last) = before.last
-                    && last.process == process
-                {
-                    before.own = before.last;
-                }
+        if walk.part == Part::Processes {
+            before.processes = number_on(line);
+        } else if walk.part == Part::Entry
+            && let Some(columns) = columns_of(line)
+        {
+            before.least = columns.at.saturating_add(1);
+            if columns.process == process {
+                before.own = Some(columns);
             }
-            _ => {}
         }
     }
     before
@@ -122,14 +98,10 @@ const FALLS: &str = "event {} doesn't come after event {}, of the line before\n"
 const NEXT: &str = "the next operation of process {} is #{}\n";
 
 /// Why a call may not come here: a text, and the numbers in it.
-fn why_no_call(entry: Columns, before: Before) -> (&'static str, [u64; 3]) {
+fn why_no_call(entry: Columns<'_>, before: Before<'_>) -> (&'static str, [u64; 3]) {
     let process = entry.process;
-    if let Some(last) = before.last
-        && entry.at <= last.at
-    {
-        return (FALLS, [entry.at, last.at, 0]);
-    }
     match before.own {
+        _ if entry.at < before.least => (FALLS, [entry.at, before.least.saturating_sub(1), 0]),
         Some(own) if own.is_call => {
             let text = "p{} #{}, called at event {}, is not answered yet\n";
             (text, [process, own.number, own.at])
@@ -140,18 +112,16 @@ fn why_no_call(entry: Columns, before: Before) -> (&'static str, [u64; 3]) {
 }
 
 /// Why an answer may not come here: a text, and the numbers in it.
-fn why_no_answer(entry: Columns, before: Before) -> (&'static str, [u64; 3]) {
+fn why_no_answer(entry: Columns<'_>, before: Before<'_>) -> (&'static str, [u64; 3]) {
     let process = entry.process;
-    let last = match before.last {
-        Some(last) => last.at,
-        None => 0,
-    };
     match before.own {
         Some(own) if own.is_call && own.number != entry.number => {
             ("process {} runs p{} #{}\n", [process, process, own.number])
         }
-        Some(own) if own.is_call && own.sort.allows(entry.sort) => (FALLS, [entry.at, last, 0]),
-        Some(own) if own.is_call => (own.sort.rule(), [0; 3]),
+        Some(own) if own.is_call => match broken_rule(own.tail, entry.tail) {
+            Some(rule) => (rule, [0; 3]),
+            None => (FALLS, [entry.at, before.least.saturating_sub(1), 0]),
+        },
         _ => ("process {} runs no operation\n", [process, 0, 0]),
     }
 }

@@ -1,9 +1,9 @@
 //! Why an event is refused: what the world is like just before it.
 use crate::forms::HEAD_LINES;
-use crate::lines_at::{Line, kept_at};
+use crate::lines_at::{Line, behind_parts, kept_at};
 use crate::saying::Notes;
-use reg_base::Shape;
 use reg_base::limits::{MOST_EVENTS, MOST_OPERATIONS};
+use reg_base::{OpId, Shape};
 use reg_front::{FrontEnd, by_front};
 use reg_history::Entry;
 use reg_inputs::{Schedule, parse_schedule};
@@ -12,11 +12,8 @@ use std::alloc::{AllocError, Allocator};
 
 /// Where the word at a place, from 0, begins on a line with one space between each two.
 fn word_at(line: &[u8], place: usize) -> usize {
-    let mut at = 0usize;
-    for word in line.split(|b| *b == b' ').take(place) {
-        at = at.saturating_add(word.len()).saturating_add(1);
-    }
-    at
+    let rest = behind_parts(line, b' ', place);
+    line.len().saturating_sub(rest.len())
 }
 
 /// Puts that a process is not there.
@@ -33,29 +30,53 @@ pub(crate) fn put_processes<A: Allocator + Copy>(
     notes.put_with(text, &[process as u64, last as u64]);
 }
 
-/// Puts how many frames a wire has.
-fn put_frames<A: Allocator + Copy>(notes: &mut Notes<'_, A>, from: u8, to: u8, count: usize) {
-    let text = match count {
-        0 => "the wire from {} to {} has no frame yet\n",
-        1 => "the wire from {} to {} has 1 frame, 0\n",
-        2 => "the wire from {} to {} has 2 frames, 0 and 1\n",
-        _ => "the wire from {} to {} has {} frames, 0 to {}\n",
+/// Puts how many frames a wire has, where there is one.
+fn put_frames<A: Allocator + Copy>(
+    notes: &mut Notes<'_, A>,
+    from: u8,
+    to: u8,
+    frames: Option<usize>,
+) {
+    let text = match frames {
+        None => "no wire goes from a process to itself\n",
+        Some(0) => "the wire from {} to {} has no frame yet\n",
+        Some(1) => "the wire from {} to {} has 1 frame, 0\n",
+        Some(2) => "the wire from {} to {} has 2 frames, 0 and 1\n",
+        Some(_) => "the wire from {} to {} has {} frames, 0 to {}\n",
     };
+    let count = frames.unwrap_or(0);
     let last = count.saturating_sub(1);
     notes.put_with(text, &[from as u64, to as u64, count as u64, last as u64]);
 }
 
-/// Puts the last call of a process, which is not answered.
-fn put_running<A: Allocator + Copy>(notes: &mut Notes<'_, A>, entries: &[Entry], process: u8) {
+/// The last call of a process, and the number of its event.
+pub(crate) fn last_call(entries: &[Entry], process: u8) -> Option<(OpId, u64)> {
     for entry in entries.iter().rev() {
         if let Entry::Called { at, id, .. } = *entry
             && id.process == process
         {
-            let process = process as u64;
-            let text = "process {} runs p{} #{}, called at event {}\n";
-            return notes.put_with(text, &[process, process, id.number as u64, at as u64]);
+            return Some((id, at as u64));
         }
     }
+    None
+}
+
+/// Puts why a world of so many processes refuses an event of a process, where that is told by the fault alone.
+pub(crate) fn put_refusal<A: Allocator + Copy>(
+    notes: &mut Notes<'_, A>,
+    fault: WorldFault,
+    process: u8,
+    processes: u32,
+) {
+    let (text, most) = match fault {
+        WorldFault::NoProcess => return put_processes(notes, process, processes),
+        WorldFault::TooManyOperations => {
+            ("a process calls at most {} operations\n", MOST_OPERATIONS)
+        }
+        WorldFault::TooManyEvents => ("a run has at most {} events\n", MOST_EVENTS),
+        _ => return,
+    };
+    notes.put_with(text, &[most as u64]);
 }
 
 /// An event that is refused, after others of a run of this shape.
@@ -70,12 +91,11 @@ struct RefusedEvent<'a> {
 impl RefusedEvent<'_> {
     /// The place of the word for which it is refused, and a process: where that is not there, the one that is missing.
     fn word(&self) -> (usize, u8) {
-        let is_missing = self.fault == WorldFault::NoProcess;
         match self.event {
-            Event::Take { from, to, .. }
-                if is_missing && u32::from(from) < self.shape.processes() => { (2, to) }
-            Event::Take { from, .. } => (if is_missing { 1 } else { 3 }, from),
             Event::Call { process, .. } | Event::Tick { process } => (1, process),
+            Event::Take { from, .. } if self.fault != WorldFault::NoProcess => (3, from),
+            Event::Take { from, to, .. } if u32::from(from) < self.shape.processes() => (2, to),
+            Event::Take { from, .. } => (1, from),
         }
     }
 
@@ -88,20 +108,17 @@ impl RefusedEvent<'_> {
     ) {
         let (_, process) = self.word();
         match (self.fault, self.event) {
-            (WorldFault::NoProcess, _) => put_processes(notes, process, self.shape.processes()),
-            (WorldFault::NoFrame, Event::Take { from, to, .. }) => match frames {
-                Some(count) => put_frames(notes, from, to, count),
-                None => notes.put(&["no wire goes from a process to itself\n"]),
-            },
-            (WorldFault::Busy, _) => put_running(notes, entries, process),
-            (WorldFault::TooManyOperations, _) => {
-                let text = "a process calls at most {} operations\n";
-                notes.put_with(text, &[MOST_OPERATIONS as u64]);
+            (WorldFault::NoFrame, Event::Take { from, to, .. }) => {
+                put_frames(notes, from, to, frames);
             }
-            (WorldFault::TooManyEvents, _) => {
-                notes.put_with("a run has at most {} events\n", &[MOST_EVENTS as u64]);
+            (WorldFault::Busy, _) => {
+                if let Some((id, at)) = last_call(entries, process) {
+                    let number = process as u64;
+                    let text = "process {} runs p{} #{}, called at event {}\n";
+                    notes.put_with(text, &[number, number, id.number as u64, at]);
+                }
             }
-            _ => {}
+            _ => put_refusal(notes, self.fault, process, self.shape.processes()),
         }
     }
 

@@ -4,17 +4,16 @@ use crate::documents::explain_workload;
 use crate::entries::explain_entry;
 use crate::events::explain_event;
 use crate::forms::{EVENT_LINE, HEAD, RECORD_HEAD, RECORD_STEP};
-use crate::lines_at::{Line, bytes_of, kept_at, kept_before, line_at, parts_between};
+use crate::lines_at::{Line, behind_parts, bytes_of, kept_at, kept_before, line_at, parts_between};
 use crate::orders::explain_list;
 use crate::report_lines::{Part, Walk, number_on, walk_to};
 use crate::saying::Notes;
 use crate::scanning::misfit_of;
-use crate::stops::Documents;
 use crate::wanting::{Form, Rules};
 use reg_base::limits::MOST_EVENTS;
 use reg_commands::{Command, Fault, Verdict, Verdicts};
 use reg_history::{ReadWhy, Report};
-use std::alloc::{AllocError, Allocator};
+use std::alloc::{AllocError, Allocator, Global};
 
 /// The line of a report that tells its registers, or how many they are.
 const LINE_OF_REGISTERS: u64 = 4;
@@ -22,8 +21,6 @@ const LINE_OF_REGISTERS: u64 = 4;
 /// What a step of a record is.
 const RECORDED: &str =
     "a step, as in 0 call write x 5, 1 take 0 and a frame, or 0 tick, with = and a reply if it has one";
-
-const TOO_EARLY: &str = "the text ends before a line that it needs: ";
 
 /// Where a text is refused: the number of a line of it, which it may end before, and why.
 #[derive(Clone, Copy)]
@@ -33,7 +30,21 @@ pub(crate) struct RefusedLine<'a> {
     pub(crate) why: ReadWhy,
 }
 
-impl RefusedLine<'_> {
+impl<'a> RefusedLine<'a> {
+    /// The line. Where the text ends before, that is put, and what it needs.
+    fn line<A: Allocator + Copy>(
+        &self,
+        notes: &mut Notes<'_, A>,
+        wanted: &str,
+    ) -> Option<Line<'a>> {
+        let line = line_at(self.text, self.number);
+        if line.is_none() {
+            let early = "the text ends before a line that it needs: ";
+            notes.put_all(&[early, wanted, "\n"]);
+        }
+        line
+    }
+
     /// Puts the line, and where it has one, the first place that doesn't fit a form, and why. False where all fits.
     fn put_misfit<A: Allocator + Copy>(
         &self,
@@ -56,7 +67,7 @@ impl RefusedLine<'_> {
     }
 
     /// The rules of a text with these names, of this version.
-    fn rules<'a>(&self, names: &'a [&'a [u8]], is_older: bool) -> Rules<'a> {
+    fn rules<'x>(&self, names: &'x [&'x [u8]], is_older: bool) -> Rules<'x> {
         Rules {
             names,
             is_older,
@@ -71,8 +82,8 @@ impl RefusedLine<'_> {
         line: Line<'_>,
         form: Form,
     ) -> Result<(), AllocError> {
-        let named = bytes_of(kept_at(self.text, 1));
-        let names = parts_between(notes.alloc, named, b' ', 1, named.len())?;
+        let named = behind_parts(bytes_of(kept_at(self.text, 1)), b' ', 1);
+        let names = parts_between(notes.alloc, named, b' ', named.len())?;
         if !self.put_misfit(notes, line, form, self.rules(names.as_slice(), false)) {
             let words = "a schedule has at most {} events\n";
             notes.put_with(words, &[MOST_EVENTS as u64]);
@@ -86,12 +97,9 @@ impl RefusedLine<'_> {
     ) -> Result<(), AllocError> {
         let place = kept_before(self.text, self.number);
         let (wanted, form) = HEAD.get(place).copied().unwrap_or(("an event", EVENT_LINE));
-        match line_at(self.text, self.number) {
+        match self.line(notes, wanted) {
             Some(line) => self.put_of_schedule(notes, line, form),
-            None => {
-                notes.put(&[TOO_EARLY, wanted, "\n"]);
-                Ok(())
-            }
+            None => Ok(()),
         }
     }
 
@@ -102,11 +110,10 @@ impl RefusedLine<'_> {
             .get(place)
             .copied()
             .unwrap_or((RECORDED, RECORD_STEP));
-        let Some(line) = line_at(self.text, self.number) else {
-            return notes.put(&[TOO_EARLY, wanted, "\n"]);
-        };
-        if !self.put_misfit(notes, line, form, self.rules(&[], false)) {
-            notes.put(&["expected ", wanted, "\n"]);
+        if let Some(line) = self.line(notes, wanted)
+            && !self.put_misfit(notes, line, form, self.rules(&[], false))
+        {
+            notes.put_all(&["expected ", wanted, "\n"]);
         }
     }
 
@@ -118,17 +125,12 @@ impl RefusedLine<'_> {
     ) -> Result<Vec<&[u8], A>, AllocError> {
         let line = bytes_of(line_at(self.text, LINE_OF_REGISTERS));
         if is_older {
-            parts_between(alloc, line, b' ', 1, line.len())
-        } else {
-            let count = number_on(line).min(self.number);
-            parts_between(
-                alloc,
-                self.text,
-                b'\n',
-                LINE_OF_REGISTERS as usize,
-                count as usize,
-            )
+            let named = behind_parts(line, b' ', 1);
+            return parts_between(alloc, named, b' ', named.len());
         }
+        let named = behind_parts(self.text, b'\n', LINE_OF_REGISTERS as usize);
+        let count = number_on(line).min(self.number);
+        parts_between(alloc, named, b'\n', count as usize)
     }
 
     /// Puts why this line of a report is refused.
@@ -142,7 +144,7 @@ impl RefusedLine<'_> {
         let names = self.names_of_report(notes.alloc, walk.is_older)?;
         let rules = self.rules(names.as_slice(), walk.is_older);
         if self.put_misfit(notes, line, form, rules) {
-            notes.put(&[walk.miscounted(line.bytes)]);
+            notes.put(walk.miscounted(line.bytes));
         }
         Ok(())
     }
@@ -153,26 +155,28 @@ impl RefusedLine<'_> {
     ) -> Result<(), AllocError> {
         let walk = walk_to(self.text, self.number);
         let (wanted, form) = walk.layout();
-        match (self.why, line_at(self.text, self.number)) {
-            (ReadWhy::End, Some(line)) => {
+        let Some(line) = self.line(notes, wanted) else {
+            return Ok(());
+        };
+        match self.why {
+            ReadWhy::End => {
                 notes.put_place(line, 0);
-                notes.put(&["a report ends with the line end: no line stands after it\n"]);
+                notes.put("a report ends with the line end: no line stands after it\n");
             }
-            (ReadWhy::Place, Some(line)) => {
+            ReadWhy::Place => {
                 notes.put_place(line, 0);
                 explain_entry(notes, self.text, line);
             }
-            (_, Some(line)) => return self.put_of_report(notes, line, walk, form),
-            (_, None) => notes.put(&[TOO_EARLY, wanted, "\n"]),
+            _ => return self.put_of_report(notes, line, walk, form),
         }
         Ok(())
     }
 }
 
 /// Puts what explains the fault that a command tells of a text.
-fn explain<D: Documents, A: Allocator + Copy>(
+fn explain<A: Allocator + Copy>(
     notes: &mut Notes<'_, A>,
-    documents: D,
+    global: Option<Global>,
     command: Command,
     text: &str,
     fault: Fault,
@@ -190,22 +194,22 @@ fn explain<D: Documents, A: Allocator + Copy>(
             }
         }
         Fault::Event { at, fault } => explain_event(notes, text, at, fault),
-        Fault::Workload { fault } => explain_workload(notes, documents, text, fault),
+        Fault::Workload { fault } => explain_workload(notes, global, text, fault),
         _ => Ok(()),
     }
 }
 
 /// What explains the fault that a command tells of a text.
-pub(crate) fn explain_fault<D: Documents, A: Allocator + Copy>(
+pub(crate) fn explain_fault<A: Allocator + Copy>(
     alloc: A,
-    documents: D,
+    global: Option<Global>,
     command: Command,
     text: &str,
     fault: Fault,
 ) -> Result<Vec<u8, A>, AllocError> {
     let mut bytes = Vec::new(alloc);
     let mut notes = Notes::new(alloc, &mut bytes);
-    explain(&mut notes, documents, command, text, fault).and(notes.finish())?;
+    explain(&mut notes, global, command, text, fault).and(notes.finish())?;
     Ok(bytes)
 }
 

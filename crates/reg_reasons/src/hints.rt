@@ -12,16 +12,16 @@ const OF_A_REPORT: &[&str] = &["awreg"];
 /// Puts what a text is, if it begins like one of another command, or its first word begins a line of a schedule or of a
 /// report, or is written like one.
 pub(crate) fn put_hint<A: Allocator + Copy>(notes: &mut Notes<'_, A>, text: &[u8]) {
-    if text.starts_with(b"{") {
-        notes.put(&["a history in lines of JSON is judged by awshow judge\n"]);
-        return;
-    }
     let line = bytes_of(kept_at(text, 0));
     let word = token_of(line);
-    let is_key = line.contains(&b'=');
-    if !is_key && notes.near(word, OF_A_SCHEDULE).is_some() {
-        notes.put(&["a schedule begins with processes and a number, as in processes 2\n"]);
+    let hint = if text.starts_with(b"{") {
+        "a history in lines of JSON is judged by awshow judge\n"
+    } else if !line.contains(&b'=') && notes.near(word, OF_A_SCHEDULE).is_some() {
+        "a schedule begins with processes and a number, as in processes 2\n"
     } else if notes.near(word, OF_A_REPORT).is_some() {
-        notes.put(&["a report begins with awreg report 2\n"]);
-    }
+        "a report begins with awreg report 2\n"
+    } else {
+        ""
+    };
+    notes.put(hint);
 }

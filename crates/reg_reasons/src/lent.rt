@@ -7,7 +7,7 @@ ghost use Rattle.reg_reasons.specs.Tellings.{Halts};
 
 use crate::records::tell_record;
 use crate::refusals::{Explanation, refused, tell_load, tell_report, tell_schedule};
-use crate::toml_steps::{Steps, is_document};
+use crate::toml_values::stop_of;
 use reg_commands::{Fault, Kind, kind_of};
 use reg_inputs::WorkloadFault;
 use reg_layout::read_layout;
@@ -22,18 +22,12 @@ fn doubted<A: Allocator + Copy>(
 ) -> Result<Explanation<A>, AllocError>
     ensures { IfOk result (λ t. Doubts t.answer.items × (t.is_accepted ≡ false)) }
 {
-    let fault = if is_document(alloc, text.as_bytes())? {
+    let fault = if stop_of(alloc, text.as_bytes())?.is_none() {
         fault
     } else {
         WorkloadFault::Toml
     };
-    refused(
-        alloc,
-        Steps,
-        Kind::Workload,
-        text,
-        Fault::Workload { fault },
-    )
+    refused(alloc, None, Kind::Workload, text, Fault::Workload { fault })
 }
 
 /// The answer for a text that is meant as a workload.

@@ -23,7 +23,6 @@ mod saying;
 mod scanning;
 mod steps;
 mod stops;
-mod toml_places;
 mod toml_steps;
 mod toml_values;
 mod toml_words;

@@ -1,5 +1,5 @@
 //! Single lines of a text.
-use reg_text::Lines;
+use reg_text::{Lines, cut_at};
 use std::alloc::{AllocError, Allocator};
 
 /// A line of a text, with no line feed, and its number, the first being 1.
@@ -50,31 +50,57 @@ pub fn kept_before(text: &[u8], number: u64) -> usize {
     text.len()
 }
 
+/// What stands behind so many parts, each with a byte of this kind after it.
+pub fn behind_parts(bytes: &[u8], joint: u8, count: usize) -> &[u8] {
+    let mut rest = bytes;
+    for _ in 0..count {
+        rest = match cut_at(rest, joint) {
+            Some((_, later)) => later,
+            None => b"",
+        };
+    }
+    rest
+}
+
 /// The line in which a place of a text stands, and the place there.
 pub fn line_of_place(text: &[u8], place: usize) -> (Line<'_>, usize) {
     let mut column = place.min(text.len());
     let mut number = 1u64;
-    for bytes in text.split(|b| *b == b'\n') {
+    let mut rest = text;
+    for _ in 0..text.len() {
+        let (bytes, later) = cut_at(rest, b'\n').unwrap_or((rest, b""));
         if column <= bytes.len() {
             return (Line { number, bytes }, column);
         }
         column = column.saturating_sub(bytes.len()).saturating_sub(1);
         number = number.saturating_add(1);
+        rest = later;
     }
-    (Line { number, bytes: b"" }, 0)
+    (
+        Line {
+            number,
+            bytes: rest,
+        },
+        column,
+    )
 }
 
-/// What stands between bytes of this kind, after the first `skipped` parts, and of these no more than `most`.
+/// What stands between bytes of this kind, and of these parts no more than `most`.
 pub fn parts_between<A: Allocator + Copy>(
     alloc: A,
     bytes: &[u8],
     joint: u8,
-    skipped: usize,
     most: usize,
 ) -> Result<Vec<&[u8], A>, AllocError> {
-    bytes
-        .split(|b| *b == joint)
-        .skip(skipped)
-        .take(most)
-        .collect(alloc)
+    let mut parts = Vec::new(alloc);
+    let mut rest = bytes;
+    for _ in 0..most {
+        if rest.is_empty() {
+            break;
+        }
+        let (part, later) = cut_at(rest, joint).unwrap_or((rest, b""));
+        parts.push(part)?;
+        rest = later;
+    }
+    Ok(parts)
 }

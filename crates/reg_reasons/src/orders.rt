@@ -3,7 +3,7 @@ use crate::lines_at::line_at;
 use crate::report_lines::{Part, first_line};
 use crate::saying::Notes;
 use reg_base::{Answer, OpId, Registers};
-use reg_checkers::{Fact, fact_of, table_of};
+use reg_checkers::{Fact, Point, fact_of, table_of};
 use reg_commands::Reason;
 use reg_history::{Entry, Report};
 use reg_text::{put_answer, put_op};
@@ -74,19 +74,26 @@ impl<A: Allocator + Copy> RefusedList<'_, A> {
         None
     }
 
-    /// The first operation that stands there before.
-    fn twice(&mut self) -> Option<Told> {
-        let mut repeated = None;
+    /// The place of the first operation that stands there before, and that operation.
+    fn repeated(&mut self) -> Option<(usize, OpId)> {
         for (place, id) in self.ids.iter().enumerate() {
             if !mark(&mut self.facts, *id) {
-                repeated = Some((place, *id));
-                break;
+                return Some((place, *id));
             }
         }
-        let (place, id) = repeated?;
-        let first = self.ids.iter().position(|it| *it == id)?;
-        let text = "p{} #{} stands on line {} too\n";
-        Some((self.line(place), text, numbers_of(id, self.line(first), 0)))
+        None
+    }
+
+    /// The first operation that stands there before.
+    fn twice(&mut self) -> Option<Told> {
+        let (place, id) = self.repeated()?;
+        for (first, it) in self.ids.iter().enumerate() {
+            if *it == id {
+                let text = "p{} #{} stands on line {} too\n";
+                return Some((self.line(place), text, numbers_of(id, self.line(first), 0)));
+            }
+        }
+        None
     }
 
     /// The first answered operation that doesn't stand there.
@@ -156,16 +163,21 @@ impl<A: Allocator + Copy> RefusedList<'_, A> {
         notes.put_with(text, &numbers);
     }
 
-    /// What memory answers at a place.
-    fn answer_at(&self, alloc: A, place: usize) -> Result<Option<Answer>, AllocError> {
-        let mut memory = Registers::new(alloc, self.report.names().count() as u16)?;
+    /// What memory answers at a place, after what it holds now.
+    fn answer_in(&self, memory: &mut Registers<A>, place: usize) -> Option<Answer> {
         let mut answer = None;
         for id in self.ids.iter().take(place.saturating_add(1)) {
             if let Some(fact) = fact_of(&self.facts, *id) {
                 answer = memory.apply(&fact.op);
             }
         }
-        Ok(answer)
+        answer
+    }
+
+    /// What memory answers at a place.
+    fn answer_at(&self, alloc: A, place: usize) -> Result<Option<Answer>, AllocError> {
+        let mut memory = Registers::new(alloc, self.report.names().count() as u16)?;
+        Ok(self.answer_in(&mut memory, place))
     }
 
     /// Puts what memory answers, and what the report says of this operation.
@@ -178,9 +190,9 @@ impl<A: Allocator + Copy> RefusedList<'_, A> {
             } = *entry
                 && answered == id
             {
-                notes.put(&[": memory answers "]);
+                notes.put(": memory answers ");
                 put_answer(&mut notes.sink, answer);
-                notes.put(&[" there, and the report says "]);
+                notes.put(" there, and the report says ");
                 put_answer(&mut notes.sink, given);
                 notes.put_with(" on line {}", &[self.entry_line(place)]);
             }
@@ -198,7 +210,7 @@ impl<A: Allocator + Copy> RefusedList<'_, A> {
         if let Some(answer) = self.answer_at(notes.alloc, place)? {
             self.put_answers(notes, id, answer);
         }
-        notes.put(&["\n"]);
+        notes.put("\n");
         Ok(())
     }
 
@@ -220,6 +232,18 @@ impl<A: Allocator + Copy> RefusedList<'_, A> {
     }
 }
 
+/// The operations of points.
+fn ids_of_points<A: Allocator + Copy>(
+    alloc: A,
+    points: &[Point],
+) -> Result<Vec<OpId, A>, AllocError> {
+    let mut ids = Vec::new(alloc);
+    for point in points {
+        ids.push(point.id)?;
+    }
+    Ok(ids)
+}
+
 /// The operations of a report's order, or where the part is that of points, of its points.
 fn ids_of<A: Allocator + Copy>(
     alloc: A,
@@ -227,7 +251,7 @@ fn ids_of<A: Allocator + Copy>(
     part: Part,
 ) -> Result<Vec<OpId, A>, AllocError> {
     match (part, report.points()) {
-        (Part::Point, Some(points)) => points.iter().map(|point| point.id).collect(alloc),
+        (Part::Point, Some(points)) => ids_of_points(alloc, points),
         _ => report.order().to_vec(alloc),
     }
 }

@@ -1,6 +1,6 @@
 //! What doesn't fit, in plain words: the line with its number, a mark below the place, and what was wanted there.
 use crate::lines_at::{Line, line_of_place};
-use crate::scanning::{after, front_of, token_of};
+use crate::scanning::{Signs, after, front_of, run_of, token_of};
 use crate::wanting::{Misfit, Range, Wanted};
 use reg_text::{Sink, cut_at, is_numeral, put_number, skip, spaces_before};
 use std::alloc::{AllocError, Allocator};
@@ -11,6 +11,9 @@ pub const MARK: &[u8] = &[0xEF, 0xBB, 0xBF];
 
 /// No word that is wanted is longer.
 const LONGEST_WORD: usize = 16;
+
+/// As many spaces as the greatest number has digits.
+const MARGIN: &[u8] = &[b' '; 20];
 
 /// Lines of more bytes are shown in part.
 const LONGEST_SHOWN: usize = 96;
@@ -35,11 +38,6 @@ fn shown_token(found: &[u8]) -> &[u8] {
     front_of(token_of(found), LONGEST_SHOWN)
 }
 
-/// Whether a byte goes on a character of more than one.
-fn goes_on(byte: u8) -> bool {
-    byte & 0xC0 == 0x80
-}
-
 /// The part of a line that is shown, and how many bytes stand before it.
 fn shown_part(line: &[u8], at: usize) -> (&[u8], usize) {
     if line.len() <= LONGEST_SHOWN {
@@ -47,7 +45,7 @@ fn shown_part(line: &[u8], at: usize) -> (&[u8], usize) {
     }
     let start = at.saturating_sub(SHOWN_BEFORE);
     let rest = after(line, start);
-    let cut = rest.iter().take_while(|b| goes_on(**b)).count();
+    let cut = run_of(rest, Signs::Later);
     let part = front_of(after(rest, cut), LONGEST_SHOWN);
     (part, start.saturating_add(cut))
 }
@@ -57,8 +55,7 @@ fn shown_sign(found: &[u8]) -> &[u8] {
     match found {
         [0xC2, 0xA0, ..] => b"",
         [0x80..=0xFF, more @ ..] => {
-            let count = more.iter().take_while(|b| goes_on(**b)).count();
-            front_of(found, count.saturating_add(1))
+            front_of(found, run_of(more, Signs::Later).saturating_add(1))
         }
         _ => shown_token(found),
     }
@@ -106,10 +103,14 @@ impl<'a, A: Allocator + Copy> Notes<'a, A> {
         }
     }
 
+    pub fn put(&mut self, text: &str) {
+        self.sink.put(text.as_bytes());
+    }
+
     /// Puts texts, one after the other.
-    pub fn put(&mut self, texts: &[&str]) {
+    pub fn put_all(&mut self, texts: &[&str]) {
         for text in texts {
-            self.sink.put(text.as_bytes());
+            self.put(text);
         }
     }
 
@@ -126,12 +127,12 @@ impl<'a, A: Allocator + Copy> Notes<'a, A> {
         self.sink.put(rest);
     }
 
-    /// Puts what was found in marks of quotation, and texts after it.
-    pub fn put_quoted(&mut self, found: &[u8], texts: &[&str]) {
-        self.put(&["\""]);
+    /// Puts what was found in marks of quotation, and what is told of it.
+    pub fn put_quoted(&mut self, found: &[u8], told: &str) {
+        self.put("\"");
         self.sink.put(found);
-        self.put(&["\""]);
-        self.put(texts);
+        self.put("\"");
+        self.put(told);
     }
 
     /// Puts a line with its number, and a mark below one of its places. For a control character but a tab a question
@@ -146,25 +147,21 @@ impl<'a, A: Allocator + Copy> Notes<'a, A> {
             let is_hidden = byte.is_ascii_control() && *byte != b'\t';
             self.sink.put(&[if is_hidden { b'?' } else { *byte }]);
         }
-        self.put(&["\n"]);
+        self.put("\n");
         self.put_mark(line.number, front_of(part, place.saturating_sub(from)));
     }
 
     /// Puts a mark below a line of this number, after these of its bytes.
     fn put_mark(&mut self, number: u64, before: &[u8]) {
-        for _ in 0..=number.checked_ilog10().unwrap_or(0) {
-            self.put(&[" "]);
-        }
-        self.put(&[" | "]);
+        let width = number.checked_ilog10().unwrap_or(0) as usize;
+        self.sink.put(front_of(MARGIN, width.saturating_add(1)));
+        self.put(" | ");
         for byte in before {
-            let sign = match *byte {
-                b'\t' => "\t",
-                byte if goes_on(byte) => "",
-                _ => " ",
-            };
-            self.put(&[sign]);
+            if !Signs::Later.has(*byte) {
+                self.put(if *byte == b'\t' { "\t" } else { " " });
+            }
         }
-        self.put(&["^\n"]);
+        self.put("^\n");
     }
 
     /// Puts the line in which a place of a text stands.
@@ -183,22 +180,22 @@ impl<'a, A: Allocator + Copy> Notes<'a, A> {
                 1 => " or ",
                 _ => ", ",
             };
-            self.put(&[word, joint]);
+            self.put_all(&[word, joint]);
         }
     }
 
     /// Puts what was expected, and what stands there.
     fn put_expected(&mut self, words: &str, found: &[u8]) {
-        self.put(&["expected ", words]);
+        self.put_all(&["expected ", words]);
         self.put_found(found);
     }
 
     /// Puts what stands at a place, after what was expected there.
     fn put_found(&mut self, found: &[u8]) {
         let shown = shown_sign(found);
-        self.put(&[", found "]);
+        self.put(", found ");
         if !shown.is_empty() {
-            self.put_quoted(shown, &[]);
+            self.put_quoted(shown, "");
         }
         self.put_with(told_of(found), &[spaces_before(found) as u64]);
     }
@@ -238,9 +235,10 @@ impl<'a, A: Allocator + Copy> Notes<'a, A> {
     pub fn put_wanted_words(&mut self, words: &'static [&'static str], found: &[u8]) {
         let token = shown_token(found);
         if let Some(word) = self.near(token, words) {
-            return self.put_quoted(token, &[": did you mean ", word, "?"]);
+            self.put_quoted(token, ": did you mean ");
+            return self.put_all(&[word, "?"]);
         }
-        self.put(&["expected "]);
+        self.put("expected ");
         self.put_words(words);
         self.put_found(found);
     }
@@ -251,8 +249,8 @@ impl<'a, A: Allocator + Copy> Notes<'a, A> {
         if is_numeral(token) {
             self.sink.put(token);
             self.put_out_of_range(range);
-        } else if token.len() > 1 && token.iter().all(|b| b.is_ascii_digit()) {
-            self.put_quoted(token, &[": a number doesn't begin with a needless 0"]);
+        } else if token.len() > 1 && run_of(token, Signs::Digit) == token.len() {
+            self.put_quoted(token, ": a number doesn't begin with a needless 0");
         } else {
             let bounds = [range.least, range.most];
             self.put_with("expected a number from {} to {}", &bounds);
@@ -262,25 +260,15 @@ impl<'a, A: Allocator + Copy> Notes<'a, A> {
 
     /// Puts what a number is that is out of range, after it.
     pub fn put_out_of_range(&mut self, range: Range) {
-        self.put(&[" is out of range: ", range.what, " ", range.verb]);
+        self.put_all(&[" is out of range: ", range.what, " ", range.verb]);
         self.put_with(" from {} to {}", &[range.least, range.most]);
     }
 
-    /// Puts that no register has a name, and the names that they have, or the first of them.
-    fn put_unknown_register(&mut self, token: &[u8], names: &[&[u8]]) {
-        let is_one = names.len() == 1;
-        self.put(&["no register "]);
-        self.put_quoted(
-            token,
-            &[if is_one {
-                ": the register is "
-            } else {
-                ": the registers are "
-            }],
-        );
+    /// Puts names as a list, or the first of them and how many more there are.
+    fn put_names(&mut self, names: &[&[u8]]) {
         let mut joint = "";
         for name in names.get(..MOST_LISTED).unwrap_or(names) {
-            self.put(&[joint]);
+            self.put(joint);
             self.sink.put(name);
             joint = ", ";
         }
@@ -288,6 +276,19 @@ impl<'a, A: Allocator + Copy> Notes<'a, A> {
         if more > 0 {
             self.put_with(" and {} more", &[more as u64]);
         }
+    }
+
+    /// Puts that no register has a name, and the names that they have.
+    fn put_unknown_register(&mut self, token: &[u8], names: &[&[u8]]) {
+        self.put("no register ");
+        let is_one = names.len() == 1;
+        let told = if is_one {
+            ": the register is "
+        } else {
+            ": the registers are "
+        };
+        self.put_quoted(token, told);
+        self.put_names(names);
     }
 
     /// Puts what was wanted and what was found.
@@ -298,9 +299,9 @@ impl<'a, A: Allocator + Copy> Notes<'a, A> {
             Wanted::Number(range) => self.put_wanted_number(range, found),
             Wanted::Text(words) => self.put_expected(words, found),
             Wanted::Register => self.put_unknown_register(token, names),
-            Wanted::Name(fault) => self.put_quoted(token, &[fault]),
+            Wanted::Name(fault) => self.put_quoted(token, fault),
             Wanted::Fewer(most) => self.put_with("there are no more registers than {}", &[most]),
-            Wanted::Told(what, told) => self.put(&[what, told]),
+            Wanted::Told(what, told) => self.put_all(&[what, told]),
         }
     }
 
@@ -309,13 +310,13 @@ impl<'a, A: Allocator + Copy> Notes<'a, A> {
         let found = misfit.found;
         if found == b"\r".as_slice() {
             let words = "this line ends in a carriage return: save the text with line feeds alone";
-            self.put(&[words]);
+            self.put(words);
         } else if misfit.at == 0 && found.starts_with(MARK) {
             let words = "a byte order mark stands before the first line: save the text without one";
-            self.put(&[words]);
+            self.put(words);
         } else {
             self.put_wanted(names, misfit.wanted, found);
         }
-        self.put(&["\n"]);
+        self.put("\n");
     }
 }

@@ -1,10 +1,12 @@
 //! A line, part by part, up to the first place that doesn't fit. It judges nothing: the readers have refused the line,
 //! and it says where.
+use crate::lines_at::behind_parts;
 use crate::wanting::{Form, Misfit, NAME_FORM, NAME_TAKEN, Quantity, Rules, Step, Wanted};
 use reg_base::is_name;
 use reg_history::LONGEST_FRONT;
 use reg_text::{are_front_letters, in_front, is_numeral, numeral_within, skip, spaces_before};
 use std::str;
+use toml_parser::bytes::{is_bare, is_word, is_ws};
 
 /// No line has more parts that take no byte of it.
 const MOST_EMPTY: usize = 8;
@@ -24,15 +26,65 @@ pub fn after(bytes: &[u8], count: usize) -> &[u8] {
     bytes.get(count..).unwrap_or(b"")
 }
 
+/// A kind of signs.
+#[derive(Clone, Copy)]
+pub enum Signs {
+    /// What is printed, but for spaces.
+    Graphic,
+    /// The bytes after the first of a character that is not ASCII.
+    Later,
+    Digit,
+    /// Digits, and the underscores between them.
+    NumberPart,
+    /// Spaces and tabs.
+    Blank,
+    /// Those of the keys of documents.
+    Bare,
+    /// Those of the numbers, dates and other words of documents.
+    Word,
+    Only(u8),
+}
+
+impl Signs {
+    pub fn has(self, byte: u8) -> bool {
+        match self {
+            Signs::Graphic => byte.is_ascii_graphic(),
+            Signs::Later => byte & 0xC0 == 0x80,
+            Signs::Digit => byte.is_ascii_digit(),
+            Signs::NumberPart => byte.is_ascii_digit() || byte == b'_',
+            Signs::Blank => is_ws(byte),
+            Signs::Bare => is_bare(byte),
+            Signs::Word => is_word(byte),
+            Signs::Only(sign) => byte == sign,
+        }
+    }
+}
+
+/// How many of these signs stand at the start.
+pub fn run_of(bytes: &[u8], signs: Signs) -> usize {
+    let mut count = 0usize;
+    for byte in bytes {
+        if !signs.has(*byte) {
+            break;
+        }
+        count = count.saturating_add(1);
+    }
+    count
+}
+
 /// The printed signs at the start, up to the first space, control character or byte past ASCII.
 pub fn token_of(bytes: &[u8]) -> &[u8] {
-    let count = bytes.iter().take_while(|b| b.is_ascii_graphic()).count();
-    front_of(bytes, count)
+    front_of(bytes, run_of(bytes, Signs::Graphic))
 }
 
 /// The place of a word among these.
 pub fn place_of(words: &[&str], word: &[u8]) -> Option<usize> {
-    words.iter().position(|it| it.as_bytes() == word)
+    for (place, it) in words.iter().enumerate() {
+        if it.as_bytes() == word {
+            return Some(place);
+        }
+    }
+    None
 }
 
 /// Whether a name is one of these.
@@ -107,9 +159,14 @@ impl<'a> Scan<'a> {
         if !self.rules.is_strict {
             return true;
         }
-        for name in self.before().split(|b| *b == b' ').skip(1) {
-            if name == token {
+        let mut rest = self.before();
+        for _ in 0..rest.len() {
+            rest = behind_parts(rest, b' ', 1);
+            if token_of(rest) == token {
                 return false;
+            }
+            if rest.is_empty() {
+                break;
             }
         }
         is_register(token)

@@ -1,9 +1,8 @@
 //! Why a step of a record is none that its process makes after those before it.
-use crate::events::put_processes;
+use crate::events::{last_call, put_processes, put_refusal};
 use crate::explaining::RefusedLine;
 use crate::lines_at::line_at;
 use crate::saying::Notes;
-use reg_base::limits::{MOST_EVENTS, MOST_OPERATIONS};
 use reg_base::{Names, Shape};
 use reg_commands::Fault;
 use reg_frames::Frame;
@@ -19,6 +18,18 @@ use std::alloc::{AllocError, Allocator};
 /// The line of the first step of a record.
 const FIRST_STEP: u64 = 5;
 
+/// The last place of a frame on a wire: a frame is mostly taken soon after it was put.
+fn last_place(frames: &[Frame], frame: Frame) -> Option<u32> {
+    let mut place = frames.len();
+    for put in frames.iter().rev() {
+        place = place.saturating_sub(1);
+        if *put == frame {
+            return u32::try_from(place).ok();
+        }
+    }
+    None
+}
+
 /// The event in which a process makes a step, if its frame stands on its wire.
 fn event_of<F: FrontEnd, A: Allocator + Copy>(
     world: &World<F, A>,
@@ -29,29 +40,37 @@ fn event_of<F: FrontEnd, A: Allocator + Copy>(
         Step::Call { op } => Some(Event::Call { process, op }),
         Step::Tick => Some(Event::Tick { process }),
         Step::Take { from, frame } => {
-            // From the end: a frame is mostly taken soon after it was put.
-            let place = world
-                .wire(from, process)?
-                .iter()
-                .rposition(|put| *put == frame)?;
+            let number = last_place(world.wire(from, process)?, frame)?;
             Some(Event::Take {
                 from,
                 to: process,
-                number: u32::try_from(place).ok()?,
+                number,
             })
         }
     }
 }
 
-/// The line of the step that put the frame at a place of a wire, in the run of these events.
+/// Makes steps that are a run, each with its reply, so that none fails unless there is no memory.
+fn replay<F: FrontEnd, A: Allocator + Copy>(
+    world: &mut World<F, A>,
+    steps: &[Recorded],
+) -> Result<(), AllocError> {
+    for recorded in steps {
+        match event_of(world, recorded) {
+            Some(event) if world.step(&event).is_ok() => {}
+            _ => return Err(AllocError),
+        }
+    }
+    Ok(())
+}
+
+/// The line of the step that puts the frame at a place of a wire, in a run of these events.
 fn line_of_put<F: FrontEnd, A: Allocator + Copy>(
-    alloc: A,
-    shape: Shape,
+    world: &mut World<F, A>,
     events: &[Event],
     (from, to): (u8, u8),
     place: usize,
 ) -> Option<u64> {
-    let mut world = World::<F, A>::new(alloc, shape).ok()?;
     let mut line = FIRST_STEP;
     for event in events {
         world.step(event).ok()?;
@@ -63,39 +82,31 @@ fn line_of_put<F: FrontEnd, A: Allocator + Copy>(
     None
 }
 
-/// Whether both are data frames of one number.
-fn have_one_number(frame: Frame, other: Frame) -> bool {
-    match (frame, other) {
-        (Frame::Numbered { number, .. }, Frame::Numbered { number: other, .. }) => number == other,
-        _ => false,
+/// The place of the first data frame of the same number, where this is one.
+fn place_of_number(frames: &[Frame], frame: Frame) -> Option<usize> {
+    let Frame::Numbered { number, .. } = frame else {
+        return None;
+    };
+    for (place, put) in frames.iter().enumerate() {
+        if let Frame::Numbered { number: other, .. } = *put
+            && other == number
+        {
+            return Some(place);
+        }
     }
+    None
 }
 
-/// A step that its process doesn't make after these steps.
+/// A step of a record that its process doesn't make after the steps before it.
 #[derive(Drop)]
-struct WrongStep<'n, 's, A: Allocator + Copy> {
+struct WrongStep<'s, A: Allocator + Copy> {
     shape: Shape,
-    names: &'n Names<A>,
+    names: &'s Names<A>,
     before: &'s [Recorded],
     step: Recorded,
 }
 
-impl<A: Allocator + Copy> WrongStep<'_, '_, A> {
-    /// The world after the steps before it. They are a run, each with its reply, so there is one unless there is no
-    /// memory.
-    fn world<F: FrontEnd>(&self, alloc: A) -> Result<World<F, A>, AllocError> {
-        let mut world = World::new(alloc, self.shape)?;
-        for recorded in self.before {
-            let Some(event) = event_of(&world, recorded) else {
-                return Err(AllocError);
-            };
-            if world.step(&event).is_err() {
-                return Err(AllocError);
-            }
-        }
-        Ok(world)
-    }
-
+impl<A: Allocator + Copy> WrongStep<'_, A> {
     /// Puts the line that the step has with the reply that its process gives.
     fn put_right(&self, notes: &mut Notes<'_, A>, reply: Option<Reply>) {
         let right = Recorded {
@@ -106,42 +117,22 @@ impl<A: Allocator + Copy> WrongStep<'_, '_, A> {
             },
         };
         if let Ok(line) = recorded_line(notes.alloc, self.names, &right) {
-            notes.put(&["after the lines before it, this one is "]);
+            notes.put("after the lines before it, this one is ");
             notes.sink.put(line.as_bytes());
-            notes.put(&["\n"]);
-        }
-    }
-
-    /// Puts the line of the call that the process still runs.
-    fn put_running(&self, notes: &mut Notes<'_, A>, entries: &[Entry]) {
-        for entry in entries.iter().rev() {
-            if let Entry::Called { at, id, .. } = *entry
-                && id.process == self.step.process
-            {
-                let line = u64::from(at).saturating_add(FIRST_STEP);
-                let numbers = [id.process as u64, id.number as u64, line];
-                return notes.put_with(
-                    "process {} runs its operation {}, called on line {}\n",
-                    &numbers,
-                );
-            }
+            notes.put("\n");
         }
     }
 
     /// Puts why a world refuses it, whose history has these entries.
     fn put_refusal(&self, notes: &mut Notes<'_, A>, fault: WorldFault, entries: &[Entry]) {
         let process = self.step.process;
-        match fault {
-            WorldFault::NoProcess => put_processes(notes, process, self.shape.processes()),
-            WorldFault::Busy => self.put_running(notes, entries),
-            WorldFault::TooManyOperations => {
-                let text = "a process calls at most {} operations\n";
-                notes.put_with(text, &[MOST_OPERATIONS as u64]);
-            }
-            WorldFault::TooManyEvents => {
-                notes.put_with("a run has at most {} events\n", &[MOST_EVENTS as u64]);
-            }
-            _ => {}
+        if fault != WorldFault::Busy {
+            return put_refusal(notes, fault, process, self.shape.processes());
+        }
+        if let Some((id, at)) = last_call(entries, process) {
+            let text = "process {} runs its operation {}, called on line {}\n";
+            let line = at.saturating_add(FIRST_STEP);
+            notes.put_with(text, &[process as u64, id.number as u64, line]);
         }
     }
 
@@ -154,7 +145,25 @@ impl<A: Allocator + Copy> WrongStep<'_, '_, A> {
         } else if u32::from(from) >= processes {
             put_processes(notes, from, processes);
         } else {
-            notes.put(&["no wire goes from a process to itself\n"]);
+            notes.put("no wire goes from a process to itself\n");
+        }
+    }
+
+    /// Puts which line put the frame at a place of a wire to its process.
+    fn put_other_body<F: FrontEnd>(
+        &self,
+        notes: &mut Notes<'_, A>,
+        events: &[Event],
+        from: u8,
+        place: usize,
+    ) {
+        let Ok(mut world) = World::<F, A>::new(notes.alloc, self.shape) else {
+            return;
+        };
+        let wire = (from, self.step.process);
+        if let Some(line) = line_of_put(&mut world, events, wire, place) {
+            let text = "it put another body under that number, on line {}\n";
+            notes.put_with(text, &[line]);
         }
     }
 
@@ -164,39 +173,56 @@ impl<A: Allocator + Copy> WrongStep<'_, '_, A> {
             return;
         };
         let to = self.step.process;
-        let numbers = [from as u64, to as u64];
         let Some(frames) = world.wire(from, to) else {
             return self.put_no_wire(notes, from);
         };
-        notes.put_with(
-            "process {} put no such frame for process {} before this line\n",
-            &numbers,
-        );
-        let Some(place) = frames.iter().position(|put| have_one_number(*put, frame)) else {
-            return;
-        };
-        let events = world.accepted();
-        let wire = (from, to);
-        if let Some(line) = line_of_put::<F, A>(notes.alloc, self.shape, events, wire, place) {
-            notes.put_with(
-                "it put another body under that number, on line {}\n",
-                &[line],
-            );
+        let text = "process {} put no such frame for process {} before this line\n";
+        notes.put_with(text, &[from as u64, to as u64]);
+        if let Some(place) = place_of_number(frames, frame) {
+            self.put_other_body::<F>(notes, world.accepted(), from, place);
         }
     }
 
-    /// Puts why it is none that its process makes.
-    fn explain<F: FrontEnd>(&self, notes: &mut Notes<'_, A>) -> Result<(), AllocError> {
-        let mut world = self.world::<F>(notes.alloc)?;
-        match event_of(&world, &self.step) {
+    /// Puts why it is none that its process makes, in a world of no events.
+    fn put_why<F: FrontEnd>(
+        &self,
+        notes: &mut Notes<'_, A>,
+        world: &mut World<F, A>,
+    ) -> Result<(), AllocError> {
+        replay(world, self.before)?;
+        match event_of(world, &self.step) {
             Some(event) => match world.step_reply(&event) {
                 Ok(reply) => self.put_right(notes, reply),
                 Err(fault) => self.put_refusal(notes, fault, world.history().entries()),
             },
-            None => self.put_missing(notes, &world),
+            None => self.put_missing(notes, world),
         }
         Ok(())
     }
+
+    /// Puts why it is none that its process makes.
+    fn explain<F: FrontEnd>(&self, notes: &mut Notes<'_, A>) -> Result<(), AllocError> {
+        let mut world = World::<F, A>::new(notes.alloc, self.shape)?;
+        self.put_why(notes, &mut world)
+    }
+}
+
+/// Puts why the step at a place of a record is none that its process makes.
+fn explain_in<A: Allocator + Copy>(
+    notes: &mut Notes<'_, A>,
+    record: &Record<A>,
+    place: usize,
+) -> Result<(), AllocError> {
+    let Some((before, [step, ..])) = record.steps.as_slice().split_at_checked(place) else {
+        return Ok(());
+    };
+    let wrong = WrongStep {
+        shape: record.shape,
+        names: &record.names,
+        before,
+        step: *step,
+    };
+    by_front!(record.front, wrong.explain::<_>(notes))
 }
 
 /// Puts the step on a line of a record, the first with which its steps are no run, and why.
@@ -209,26 +235,10 @@ fn explain_step<A: Allocator + Copy>(
         return Ok(());
     };
     notes.put_place(line, 0);
-    let Ok(record) = parse_record(notes.alloc, text) else {
-        return Err(AllocError);
-    };
-    let Record {
-        front,
-        shape,
-        names,
-        steps,
-    } = record;
-    let place = number.saturating_sub(FIRST_STEP) as usize;
-    let Some((before, [step, ..])) = steps.as_slice().split_at_checked(place) else {
-        return Ok(());
-    };
-    let wrong = WrongStep {
-        shape,
-        names: &names,
-        before,
-        step: *step,
-    };
-    by_front!(front, wrong.explain::<_>(notes))
+    match parse_record(notes.alloc, text) {
+        Ok(record) => explain_in(notes, &record, number.saturating_sub(FIRST_STEP) as usize),
+        Err(_) => Err(AllocError),
+    }
 }
 
 /// What explains the fault that `verify` tells of a record.

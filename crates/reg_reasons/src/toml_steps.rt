@@ -1,37 +1,56 @@
-//! The steps over a TOML document that find the first place at which a text is none, and what the kit's reader tells
-//! there. No table is kept.
-use crate::hints::put_hint;
-use crate::saying::Notes;
-use crate::scanning::{after, front_of};
-use crate::stops::{Documents, put_stop};
-use crate::toml_values::{
-    Entry, entry_at, part_length, quotes_of, run_of, skip_blank, skip_lines, skip_mark,
-    skip_spaces, starts_line_end, starts_text,
-};
-use crate::toml_words::{fault_of_word, word_length};
-use std::alloc::{AllocError, Allocator};
-use toml_parser::bytes::is_non_eol;
+//! The steps over a TOML document, from one place to what stands behind it. The first place at which a text is none
+//! ends them, with what the kit's reader tells there. No table is kept.
+use crate::scanning::{Signs, after, front_of, run_of};
+use crate::toml_words::{fault_of_word, magnitude, word_of};
+use toml_parser::bytes::{is_non_eol, is_ws};
 use toml_parser::{ErrorKind, RECURSION_LIMIT};
 
 /// What is wrong at a place, and what stands from there on.
-type Stop<'a> = (ErrorKind, &'a [u8]);
+pub type Stop<'a> = (ErrorKind, &'a [u8]);
+
+/// After spaces and tabs.
+pub fn skip_spaces(bytes: &[u8]) -> &[u8] {
+    after(bytes, run_of(bytes, Signs::Blank))
+}
+
+/// Whether a line ends here.
+fn starts_line_end(bytes: &[u8]) -> bool {
+    matches!(bytes, [b'\n', ..] | [b'\r', b'\n', ..])
+}
+
+/// After spaces and line ends, and after comments if they may stand there.
+fn skip_between(bytes: &[u8], has_comments: bool) -> &[u8] {
+    let mut is_comment = false;
+    for (place, byte) in bytes.iter().enumerate() {
+        if starts_line_end(after(bytes, place)) {
+            is_comment = false;
+        } else if has_comments && !is_comment && *byte == b'#' {
+            is_comment = true;
+        } else if !(is_comment && is_non_eol(*byte)) && !is_ws(*byte) {
+            return after(bytes, place);
+        }
+    }
+    b""
+}
+
+/// After spaces, line ends and comments.
+pub fn skip_blank(bytes: &[u8]) -> &[u8] {
+    skip_between(bytes, true)
+}
 
 /// Whether these digits say a character.
 fn is_character(digits: &[u8]) -> bool {
-    let mut number = 0u32;
-    for byte in digits {
-        match char::from(*byte).to_digit(16) {
-            Some(digit) => number = number.saturating_mul(16).saturating_add(digit),
-            None => return false,
-        }
+    let number = magnitude(digits, 16).unwrap_or(u64::MAX);
+    match u32::try_from(number) {
+        Ok(code) => !digits.contains(&b'_') && char::from_u32(code).is_some(),
+        Err(_) => false,
     }
-    char::from_u32(number).is_some()
 }
 
 /// What stands behind an escape, after its backslash.
 fn behind_escape(bytes: &[u8], is_long: bool) -> Result<&[u8], Stop<'_>> {
     if is_long && starts_line_end(skip_spaces(bytes)) {
-        return Ok(skip_lines(bytes));
+        return Ok(skip_between(bytes, false));
     }
     let count = match bytes {
         [b'x', ..] => 2,
@@ -47,16 +66,30 @@ fn behind_escape(bytes: &[u8], is_long: bool) -> Result<&[u8], Stop<'_>> {
     Ok(after(bytes, count.saturating_add(1)))
 }
 
-/// What stands behind the text at the start, which may stand in three quotes where it is a value.
-fn behind_text(bytes: &[u8], is_value: bool) -> Result<&[u8], Stop<'_>> {
+/// Whether a quote or an apostrophe stands at the start.
+pub fn starts_text(bytes: &[u8]) -> bool {
+    matches!(bytes, [b'"' | b'\'', ..])
+}
+
+/// How many quotes stand on each side of the text at the start, which may be three where it is a value.
+pub fn quotes_of(bytes: &[u8], is_value: bool) -> usize {
+    if is_value && (bytes.starts_with(b"\"\"\"") || bytes.starts_with(b"'''")) {
+        3
+    } else {
+        1
+    }
+}
+
+/// From the quotes that end the text at the start on.
+pub fn end_of_text(bytes: &[u8], is_value: bool) -> Result<&[u8], Stop<'_>> {
     let quote = bytes.first().copied().unwrap_or(b'"');
-    let quotes = if is_value { quotes_of(bytes) } else { 1 };
+    let quotes = quotes_of(bytes, is_value);
     let is_long = quotes == 3;
     let mut rest = after(bytes, quotes);
     for _ in 0..bytes.len() {
-        let run = run_of(rest, quote);
+        let run = run_of(rest, Signs::Only(quote));
         if run == quotes || run > 0 && !is_long {
-            return Ok(after(rest, quotes));
+            return Ok(rest);
         }
         rest = match rest {
             [b'\\', escape @ ..] if quote == b'"' => behind_escape(escape, is_long)?,
@@ -68,19 +101,22 @@ fn behind_text(bytes: &[u8], is_value: bool) -> Result<&[u8], Stop<'_>> {
     Err((ErrorKind::String, rest))
 }
 
+/// What stands behind the part of a key at the start.
+pub fn behind_part(bytes: &[u8]) -> Result<&[u8], Stop<'_>> {
+    if starts_text(bytes) {
+        return Ok(after(end_of_text(bytes, false)?, 1));
+    }
+    match run_of(bytes, Signs::Bare) {
+        0 => Err((ErrorKind::Key, bytes)),
+        length => Ok(after(bytes, length)),
+    }
+}
+
 /// What stands behind a key and the spaces after it.
 fn behind_key(bytes: &[u8]) -> Result<&[u8], Stop<'_>> {
     let mut rest = bytes;
     for _ in 0..RECURSION_LIMIT {
-        let length = part_length(rest);
-        let behind = if starts_text(rest) {
-            behind_text(rest, false)?
-        } else if length > 0 {
-            after(rest, length)
-        } else {
-            return Err((ErrorKind::Key, rest));
-        };
-        match skip_spaces(behind) {
+        match skip_spaces(behind_part(rest)?) {
             [b'.', part @ ..] => rest = skip_spaces(part),
             next => return Ok(next),
         }
@@ -89,7 +125,7 @@ fn behind_key(bytes: &[u8]) -> Result<&[u8], Stop<'_>> {
 }
 
 /// What stands behind a key and its equals sign.
-fn behind_equals(bytes: &[u8]) -> Result<&[u8], Stop<'_>> {
+pub fn behind_equals(bytes: &[u8]) -> Result<&[u8], Stop<'_>> {
     match behind_key(bytes)? {
         [b'=', value @ ..] => Ok(skip_spaces(value)),
         rest => Err((ErrorKind::MissingEquals, rest)),
@@ -99,12 +135,12 @@ fn behind_equals(bytes: &[u8]) -> Result<&[u8], Stop<'_>> {
 /// What stands behind a value that is no array and no table.
 fn behind_atom(bytes: &[u8]) -> Result<&[u8], Stop<'_>> {
     if starts_text(bytes) {
-        return behind_text(bytes, true);
+        return Ok(after(end_of_text(bytes, true)?, quotes_of(bytes, true)));
     }
-    let length = word_length(bytes);
-    match fault_of_word(front_of(bytes, length)) {
+    let word = word_of(bytes);
+    match fault_of_word(word) {
         Some(kind) => Err((kind, bytes)),
-        None => Ok(after(bytes, length)),
+        None => Ok(after(bytes, word.len())),
     }
 }
 
@@ -140,15 +176,6 @@ impl Open {
         bytes.starts_with(if self.is_table() { b"}" } else { b"]" })
     }
 
-    /// What is wrong where neither a comma nor the end of the innermost one stands.
-    fn fault(self) -> ErrorKind {
-        if self.is_table() {
-            ErrorKind::InlineTable
-        } else {
-            ErrorKind::Array
-        }
-    }
-
     /// Before the next value, or behind the bracket that ends the innermost one; with whether that is so.
     fn next(self, bytes: &[u8]) -> Result<(&[u8], bool), Stop<'_>> {
         let rest = skip_blank(bytes);
@@ -167,13 +194,14 @@ impl Open {
         match rest {
             [b',', more @ ..] => Ok(more),
             _ if self.ends(rest) => Ok(rest),
-            _ => Err((self.fault(), rest)),
+            _ if self.is_table() => Err((ErrorKind::InlineTable, rest)),
+            _ => Err((ErrorKind::Array, rest)),
         }
     }
 }
 
 /// What stands behind a value.
-fn behind_value(bytes: &[u8]) -> Result<&[u8], Stop<'_>> {
+pub fn behind_value(bytes: &[u8]) -> Result<&[u8], Stop<'_>> {
     let mut open = Open {
         depth: 0,
         tables: 0,
@@ -214,7 +242,7 @@ fn behind_header(bytes: &[u8]) -> Result<&[u8], Stop<'_>> {
 }
 
 /// What stands behind what a line says.
-fn behind_line(bytes: &[u8]) -> Result<&[u8], Stop<'_>> {
+pub fn behind_line(bytes: &[u8]) -> Result<&[u8], Stop<'_>> {
     let behind = match bytes {
         [b'[', b'[', name @ ..] => match behind_header(name)? {
             [b']', rest @ ..] => rest,
@@ -226,72 +254,5 @@ fn behind_line(bytes: &[u8]) -> Result<&[u8], Stop<'_>> {
     match skip_spaces(behind) {
         [] | [b'#' | b'\n' | b'\r', ..] => Ok(behind),
         end => Err((ErrorKind::EndOfLine, end)),
-    }
-}
-
-/// What is wrong with a key after these, where one of the same name stands among them.
-fn fault_of_key(before: &[Entry<'_>], entry: Entry<'_>) -> Option<ErrorKind> {
-    for known in before {
-        if known.name == entry.name && (!known.is_table || !entry.is_table) {
-            let extends = entry.has_parts && !known.is_table;
-            return Some(if extends {
-                ErrorKind::Extend
-            } else {
-                ErrorKind::DuplicateKey
-            });
-        }
-    }
-    None
-}
-
-/// The first place at which a text is no document. Keys that stand twice in a table are passed over.
-fn stop_of<A: Allocator + Copy>(alloc: A, text: &[u8]) -> Result<Option<Stop<'_>>, AllocError> {
-    let mut entries = Vec::new(alloc);
-    let mut rest = skip_blank(skip_mark(text));
-    let mut is_in_table = false;
-    for _ in 0..text.len() {
-        if rest.is_empty() {
-            break;
-        }
-        let behind = match behind_line(rest) {
-            Ok(behind) => behind,
-            Err(stop) => return Ok(Some(stop)),
-        };
-        let is_header = rest.starts_with(b"[");
-        if is_header || !is_in_table {
-            let entry = entry_at(text, rest);
-            if let Some(kind) = fault_of_key(entries.as_slice(), entry) {
-                return Ok(Some((kind, rest)));
-            }
-            entries.push(entry)?;
-        }
-        is_in_table |= is_header;
-        rest = skip_blank(behind);
-    }
-    Ok(None)
-}
-
-/// Whether no place is found at which a text is no document.
-pub(crate) fn is_document<A: Allocator + Copy>(alloc: A, text: &[u8]) -> Result<bool, AllocError> {
-    Ok(stop_of(alloc, text)?.is_none())
-}
-
-/// The steps of this file, which need no heap but the one of what is told.
-#[derive(Clone, Copy)]
-pub(crate) struct Steps;
-
-impl Documents for Steps {
-    fn explain<A: Allocator + Copy>(
-        self,
-        notes: &mut Notes<'_, A>,
-        text: &str,
-    ) -> Result<(), AllocError> {
-        let bytes = text.as_bytes();
-        if let Some((kind, rest)) = stop_of(notes.alloc, bytes)? {
-            let place = bytes.len().saturating_sub(rest.len());
-            put_stop(notes, bytes, place, kind.description());
-        }
-        put_hint(notes, bytes);
-        Ok(())
     }
 }
