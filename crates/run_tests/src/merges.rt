@@ -39,29 +39,43 @@ fn add(logs: &mut Logs, process: u8, entry: LogEntry) -> bool {
     }
 }
 
-/// The logs of the run of these events.
-fn logs_of<F: FrontEnd>(alloc: Global, shape: Shape, events: &[Event]) -> Option<Logs> {
+/// An empty log of each process.
+fn empty_logs(alloc: Global, shape: Shape) -> Option<Logs> {
     let mut logs: Logs = Vec::new(alloc);
     for _process in 0..shape.processes() {
         if logs.push(Vec::new(alloc)).is_err() {
             return None;
         }
     }
-    let Ok(mut world) = World::<F>::new(alloc, shape) else {
-        return None;
-    };
+    Some(logs)
+}
+
+/// Has a world make an event, and adds what its process logs of it.
+fn log_event<F: FrontEnd>(logs: &mut Logs, world: &mut World<F>, event: &Event) -> bool {
+    match (step_of(world, event), world.step_reply(event)) {
+        (Some((process, step)), Ok(reply)) => add(logs, process, LogEntry { step, reply }),
+        _ => false,
+    }
+}
+
+/// The same of all events.
+fn log_events<F: FrontEnd>(logs: &mut Logs, world: &mut World<F>, events: &[Event]) -> bool {
     for event in events {
-        let Some((process, step)) = step_of(&world, event) else {
-            return None;
-        };
-        let Ok(reply) = world.step_reply(event) else {
-            return None;
-        };
-        if !add(&mut logs, process, LogEntry { step, reply }) {
-            return None;
+        if !log_event(logs, world, event) {
+            return false;
         }
     }
-    Some(logs)
+    true
+}
+
+/// The logs of the run of these events.
+fn logs_of<F: FrontEnd>(alloc: Global, shape: Shape, events: &[Event]) -> Option<Logs> {
+    let mut logs = empty_logs(alloc, shape)?;
+    let logged = match World::<F>::new(alloc, shape) {
+        Ok(mut world) => log_events(&mut logs, &mut world, events),
+        Err(_) => false,
+    };
+    logged.then_some(logs)
 }
 
 fn merged<F: FrontEnd>(
@@ -91,46 +105,59 @@ fn is_found<F: FrontEnd>(alloc: Global, shape: Shape, logs: &Logs) -> bool {
     }
 }
 
-/// The logs up to where an order goes.
-fn placed(alloc: Global, shape: Shape, order: &[u8], logs: &Logs) -> Option<Logs> {
-    let mut some: Logs = Vec::new(alloc);
-    for process in 0..shape.processes() {
-        let mut log = Vec::new(alloc);
-        let mut entries = logs.get(process as usize)?.iter();
-        for by in order {
-            if u32::from(*by) == process && log.push(*entries.next()?).is_err() {
-                return None;
-            }
+/// How many entries of a process an order has.
+fn count_of(order: &[u8], process: usize) -> usize {
+    let mut count = 0usize;
+    for by in order {
+        if usize::from(*by) == process {
+            count = count.wrapping_add(1);
         }
-        if some.push(log).is_err() {
+    }
+    count
+}
+
+/// Adds the first entries of a log. Tells whether there are so many.
+fn add_first(some: &mut Logs, alloc: Global, log: &[LogEntry], count: usize) -> bool {
+    let Some(entries) = log.get(..count) else {
+        return false;
+    };
+    match entries.to_vec(alloc) {
+        Ok(entries) => some.push(entries).is_ok(),
+        Err(_) => false,
+    }
+}
+
+/// The logs up to where an order goes.
+fn placed(alloc: Global, order: &[u8], logs: &Logs) -> Option<Logs> {
+    let mut some: Logs = Vec::new(alloc);
+    for (process, log) in logs.iter().enumerate() {
+        if !add_first(&mut some, alloc, log, count_of(order, process)) {
             return None;
         }
     }
     Some(some)
 }
 
+/// Whether an order is a run of the logs up to where it goes. None where it goes past an end.
+fn runs<F: FrontEnd>(alloc: Global, shape: Shape, order: &[u8], logs: &Logs) -> Option<bool> {
+    let some = placed(alloc, order, logs)?;
+    Some(is_run::<F>(alloc, shape, order, &some))
+}
+
 /// Whether what is left is the next entry of its log, and none of the order with it is a run.
 fn is_stuck<F: FrontEnd>(alloc: Global, shape: Shape, merged: Merged<Global>, logs: &Logs) -> bool {
     let Merged { mut order, left } = merged;
-    let Some(some) = placed(alloc, shape, &order, logs) else {
-        return false;
-    };
-    if !is_run::<F>(alloc, shape, &order, &some) {
+    if runs::<F>(alloc, shape, &order, logs) != Some(true) {
         return false;
     }
     let Some(Left { process, place }) = left else {
         return true;
     };
-    let Some(log) = some.get(usize::from(process)) else {
-        return false;
-    };
-    if log.len() as u64 != place || order.push(process).is_err() {
-        return false;
-    }
-    let Some(more) = placed(alloc, shape, &order, logs) else {
-        return false;
-    };
-    !is_run::<F>(alloc, shape, &order, &more)
+    let next = usize::from(process);
+    next < logs.len()
+        && count_of(&order, next) as u64 == place
+        && order.push(process).is_ok()
+        && runs::<F>(alloc, shape, &order, logs) == Some(false)
 }
 
 /// Whether the logs without the last entry of this one are put in order as far as that goes.
@@ -170,23 +197,35 @@ fn is_other<F: FrontEnd>(alloc: Global, shape: Shape, logs: &mut Logs, process: 
     matches!(merged::<F>(alloc, shape, logs), Err(fault) if fault == MergeFault::Other { process, place })
 }
 
+/// Whether the logs of the run of these events are put in order whole and cut.
+fn are_found<F: FrontEnd>(alloc: Global, shape: Shape, events: &[Event]) -> bool {
+    match logs_of::<F>(alloc, shape, events) {
+        Some(mut logs) => {
+            is_found::<F>(alloc, shape, &logs)
+                && is_cut::<F>(alloc, shape, &mut logs, 1)
+                && is_cut::<F>(alloc, shape, &mut logs, 0)
+        }
+        None => false,
+    }
+}
+
+/// Whether they are refused where the first reply of process 0 is another.
+fn are_others<F: FrontEnd>(alloc: Global, shape: Shape, events: &[Event]) -> bool {
+    match logs_of::<F>(alloc, shape, events) {
+        Some(mut logs) => is_other::<F>(alloc, shape, &mut logs, 0),
+        None => false,
+    }
+}
+
 /// Whether the logs of the play of a seed are put in order whole, cut and changed.
 fn is_right<F: FrontEnd>(alloc: Global, work: &Workload, seed: u64) -> bool {
-    let Ok(played) = play_seeded::<F, _, _>(alloc, work, SeedWords::new(seed)) else {
-        return false;
-    };
-    let Play { world, finished: _ } = played;
-    let shape = world.shape();
-    let Some(mut logs) = logs_of::<F>(alloc, shape, world.accepted()) else {
-        return false;
-    };
-    let Some(mut others) = logs_of::<F>(alloc, shape, world.accepted()) else {
-        return false;
-    };
-    is_found::<F>(alloc, shape, &logs)
-        && is_cut::<F>(alloc, shape, &mut logs, 1)
-        && is_cut::<F>(alloc, shape, &mut logs, 0)
-        && is_other::<F>(alloc, shape, &mut others, 0)
+    match play_seeded::<F, _, _>(alloc, work, SeedWords::new(seed)) {
+        Ok(Play { world, finished: _ }) => {
+            let (shape, events) = (world.shape(), world.accepted());
+            are_found::<F>(alloc, shape, events) && are_others::<F>(alloc, shape, events)
+        }
+        Err(_) => false,
+    }
 }
 
 /// The first seed whose play isn't right.

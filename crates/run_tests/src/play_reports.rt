@@ -1,5 +1,6 @@
 //! Plays of workloads, with reports worked out apart from this code, and documents that are refused.
 use crate::commands::{Given, gives};
+use crate::demands::demand;
 use crate::plays::SMALL;
 use crate::replay_reports::has_report;
 use crate::streams::demand_each_growth;
@@ -302,7 +303,7 @@ fn has_small_report(alloc: Global, fair: bool, lines: &str, tail: &str) -> bool 
 #[test]
 fn each_fair_play_has_its_report(rt: HostRuntime) {
     for (line, tail) in [("", FAIR), ("budget = 3\n", FAIR_THREE)] {
-        assert!(rt; has_small_report(rt.alloc(), true, line, tail), "{line}");
+        demand(&rt, line, has_small_report(rt.alloc(), true, line, tail));
     }
 }
 
@@ -325,9 +326,10 @@ fn each_seeded_play_has_its_report(rt: HostRuntime) {
 fn each_front_end_has_its_report(rt: HostRuntime) {
     let seeded = Command::Play { fair: false };
     for (front, report) in BY_FRONT {
-        assert!(rt;
+        demand(
+            &rt,
+            front,
             has_report(rt.alloc(), seeded, (front, THREE), report),
-            "{front}"
         );
     }
 }
@@ -365,7 +367,7 @@ fn is_refused(alloc: Global, document: (&str, &str), line: &str) -> bool {
 #[test]
 fn documents_are_refused(rt: HostRuntime) {
     for (head, tail, line) in REFUSED {
-        assert!(rt; is_refused(rt.alloc(), (head, tail), line), "{line}");
+        demand(&rt, line, is_refused(rt.alloc(), (head, tail), line));
     }
 }
 

@@ -1,5 +1,6 @@
 //! Schedules that are refused, and the limits of a replay.
 use crate::commands::{Given, gives};
+use crate::demands::demand;
 use reg_commands::Command;
 use std::alloc::{AllocError, Global};
 
@@ -34,17 +35,18 @@ const REFUSED: &[(&str, &str, &str)] = &[
 fn events_are_refused(rt: HostRuntime) {
     for (head, event, line) in REFUSED {
         let given = Given::Refused(line);
-        assert!(rt;
+        demand(
+            &rt,
+            event,
             gives(rt.alloc(), Command::Replay, (head, event), given),
-            "{event}"
         );
     }
 }
 
-/// Adds an event `count` times.
-fn add_events(text: &mut String, event: &str, count: u32) -> Result<(), AllocError> {
-    for _event in 0..count {
-        text.push_str(event)?;
+/// Adds a text a number of times.
+pub(crate) fn add_times(text: &mut String, part: &str, times: u32) -> Result<(), AllocError> {
+    for _time in 0..times {
+        text.push_str(part)?;
     }
     Ok(())
 }
@@ -53,7 +55,7 @@ fn add_events(text: &mut String, event: &str, count: u32) -> Result<(), AllocErr
 fn are_too_many(alloc: Global, event: &str, count: u32, line: &str) -> bool {
     let given = Given::Refused(line);
     let mut events = String::new(alloc);
-    add_events(&mut events, event, count).is_ok()
+    add_times(&mut events, event, count).is_ok()
         && gives(alloc, Command::Replay, (IDLE, events.as_str()), given)
 }
 

@@ -4,13 +4,12 @@ use crate::demands::demand;
 use crate::parts::nodes::{ACKNOWLEDGED, CALL_READ, CALL_WRITE, TAKE_ACK, WROTE};
 use crate::parts::texts::names_of;
 use refusing::{Trial, refusals};
-use reg_base::{Op, Shape};
+use reg_base::{Names, Op, Shape};
 use reg_frames::{Body, Frame};
 use reg_front::{Front, Linear};
 use reg_log::{LineFault, LogFault, LogId, ReadLog, Recorded, begin_log, read_log, sealed_entry};
 use reg_node::{LogEntry, LoggedFault, LoggedNode, MeetingFault, OpenFault, Step};
 use std::alloc::{AllocError, Allocator, Global};
-use std::process::Abort;
 use std::test::Fail;
 
 /// The log of process 0 of two that share a register x.
@@ -111,21 +110,70 @@ fn push_read(text: &mut String, read: Result<ReadLog, LogFault>) -> Result<(), A
     }
 }
 
-fn read_row(rt: &impl AllocGlobal, pieces: &[&str], durable: u64) -> Result<String, AllocError> {
-    let mut bytes = String::new(rt.alloc());
+/// The pieces of a text as one.
+fn joined(alloc: Global, pieces: &[&str]) -> Result<String, AllocError> {
+    let mut text = String::new(alloc);
     for piece in pieces {
-        bytes.push_str(piece)?;
+        text.push_str(piece)?;
     }
-    let mut text = String::new(rt.alloc());
-    push_read(&mut text, read_log(rt.alloc(), bytes.as_bytes(), durable))?;
     Ok(text)
+}
+
+/// Whether this is told of the log of these pieces.
+fn is_read_as(alloc: Global, pieces: &[&str], durable: u64, told: &str) -> bool {
+    let Ok(bytes) = joined(alloc, pieces) else {
+        return false;
+    };
+    let mut text = String::new(alloc);
+    let read = read_log(alloc, bytes.as_bytes(), durable);
+    push_read(&mut text, read).is_ok() && text.as_str() == told
 }
 
 #[test]
 fn logs_are_read_up_to_what_a_crash_left(rt: HostRuntime) {
     for (pieces, durable, told) in ROWS {
-        let text = read_row(&rt, pieces, *durable).expect(&rt, "memory");
-        demand(&rt, told, text.as_str() == *told);
+        demand(&rt, told, is_read_as(rt.alloc(), pieces, *durable, told));
+    }
+}
+
+/// What the seal of the first entry goes on from, where the log begins with its head.
+fn crc_of_head(alloc: Global, shape: Shape, names: &Names) -> Option<u32> {
+    match begin_log(alloc, ID, Front::Linear, shape, names) {
+        Ok((head, crc)) if head.as_slice() == HEAD.as_bytes() => Some(crc),
+        _ => None,
+    }
+}
+
+/// What the seal behind an entry goes on from, where the entry is written as this line.
+fn crc_behind(alloc: Global, names: &Names, crc: u32, row: &(LogEntry, &str)) -> Option<u32> {
+    let (entry, line) = *row;
+    match sealed_entry(alloc, names, crc, &Recorded { process: 0, entry }) {
+        Ok((bytes, behind)) if bytes.as_slice() == line.as_bytes() => Some(behind),
+        _ => None,
+    }
+}
+
+/// The first line that isn't written.
+fn unwritten(alloc: Global, shape: Shape, names: &Names) -> Option<&'static str> {
+    let Some(mut crc) = crc_of_head(alloc, shape, names) else {
+        return Some(HEAD);
+    };
+    for row in &ENTRIES {
+        match crc_behind(alloc, names, crc, row) {
+            Some(behind) => crc = behind,
+            None => return Some(row.1),
+        }
+    }
+    None
+}
+
+/// Whether the head of the log is read as it was written.
+fn is_head_read(alloc: Global, shape: Shape) -> bool {
+    match read_log(alloc, HEAD.as_bytes(), 0) {
+        Ok(read) => {
+            read.log.id == ID && read.log.front == Front::Linear && read.log.shape == shape
+        }
+        Err(_) => false,
     }
 }
 
@@ -133,49 +181,50 @@ fn logs_are_read_up_to_what_a_crash_left(rt: HostRuntime) {
 fn logs_are_written_as_they_are_read(rt: HostRuntime) {
     let shape = Shape::new(2, 1).expect(&rt, "a shape");
     let names = names_of(rt.alloc(), "registers x").expect(&rt, "names");
-    let begun = begin_log(rt.alloc(), ID, Front::Linear, shape, &names);
-    let (head, mut crc) = begun.expect(&rt, "a head");
-    assert!(rt; head.as_slice() == HEAD.as_bytes());
-    for (entry, line) in ENTRIES {
-        let recorded = Recorded { process: 0, entry };
-        let (bytes, behind) = sealed_entry(rt.alloc(), &names, crc, &recorded).expect(&rt, line);
-        demand(&rt, line, bytes.as_slice() == line.as_bytes());
-        crc = behind;
-    }
-    let read = read_log(rt.alloc(), HEAD.as_bytes(), 0).expect(&rt, "a log");
-    assert!(rt; read.log.id == ID && read.log.front == Front::Linear && read.log.shape == shape);
+    let line = unwritten(rt.alloc(), shape, &names);
+    drop(names);
+    assert!(rt;
+        line.is_none() && is_head_read(rt.alloc(), shape),
+        "{line:?}"
+    );
 }
 
-/// A write of a register without a name, and a frame of a time past the last one, have no line.
-#[test]
-fn unfit_entries_have_no_line(rt: HostRuntime) {
-    let names = names_of(rt.alloc(), "registers x").expect(&rt, "names");
-    let beyond = Step::Call {
+/// A write of a register without a name, and a frame of a time past the last one.
+const UNFIT: [Step; 2] = [
+    Step::Call {
         op: Op::Read { register: 1 },
-    };
-    let late = Step::Take {
+    },
+    Step::Take {
         from: 1,
         frame: Frame::Numbered {
             number: 0,
             body: Body::Ack { time: u64::MAX },
         },
-    };
-    for step in [beyond, late] {
-        let entry = LogEntry { step, reply: None };
-        let recorded = Recorded { process: 0, entry };
-        let line = sealed_entry(rt.alloc(), &names, 0, &recorded);
-        assert!(rt; line.err() == Some(LineFault::Unfit));
+    },
+];
+
+/// Whether the entry of a step has no line.
+fn has_no_line(alloc: Global, names: &Names, step: Step) -> bool {
+    let entry = LogEntry { step, reply: None };
+    let recorded = Recorded { process: 0, entry };
+    sealed_entry(alloc, names, 0, &recorded).err() == Some(LineFault::Unfit)
+}
+
+#[test]
+fn unfit_entries_have_no_line(rt: HostRuntime) {
+    let names = names_of(rt.alloc(), "registers x").expect(&rt, "names");
+    for step in UNFIT {
+        assert!(rt; has_no_line(rt.alloc(), &names, step));
     }
 }
 
-/// A node that goes on after the log of these pieces, and has heard from the other process.
-fn opened(rt: &(impl Abort + AllocGlobal), pieces: &[&str]) -> LoggedNode<Linear> {
-    let mut bytes = String::new(rt.alloc());
-    for piece in pieces {
-        bytes.push_str(piece).expect(rt, "memory");
+/// A node that goes on after the log of these pieces. None where there is no memory, or no such log.
+fn opened(alloc: Global, pieces: &[&str]) -> Option<LoggedNode<Linear>> {
+    let text = joined(alloc, pieces).ok()?;
+    match read_log(alloc, text.as_bytes(), 0) {
+        Ok(read) => LoggedNode::open(alloc, read).ok(),
+        Err(_) => None,
     }
-    let read = read_log(rt.alloc(), bytes.as_bytes(), 0).expect(rt, "a log");
-    LoggedNode::open(rt.alloc(), read).expect(rt, "a node")
 }
 
 /// What the log grows by where the node is asked for a step.
@@ -187,49 +236,73 @@ fn written(node: &mut LoggedNode<Linear>, step: Step) -> Result<Vec<u8, Global>,
     }
 }
 
-/// Demands that the log grows by this line.
-fn demand_line(
-    rt: &(impl Abort + AllocGlobal),
-    node: &mut LoggedNode<Linear>,
-    step: Step,
-    line: &str,
-) {
-    let bytes = written(node, step).expect(rt, line);
-    demand(rt, line, bytes.as_slice() == line.as_bytes());
+/// Whether the log grows by this line.
+fn writes(node: &mut LoggedNode<Linear>, step: Step, line: &str) -> bool {
+    match written(node, step) {
+        Ok(bytes) => bytes.as_slice() == line.as_bytes(),
+        Err(_) => false,
+    }
+}
+
+/// Whether a step is refused since another process was not heard.
+fn is_unheard(node: &mut LoggedNode<Linear>, step: Step) -> bool {
+    let fault = MeetingFault::Unheard;
+    written(node, step).err() == Some(LoggedFault::OfMeeting { fault })
+}
+
+/// Whether something is handed out once the first entry is durable, and nothing before or after that.
+fn hands_out_one(node: &mut LoggedNode<Linear>) -> bool {
+    node.hand_out().is_none()
+        && node.mark_durable(1).is_ok()
+        && node.hand_out().is_some()
+        && node.hand_out().is_none()
+}
+
+/// What a new node does otherwise: the first such line, or what else.
+fn misspelled(node: &mut LoggedNode<Linear>) -> Option<&'static str> {
+    if !is_unheard(node, CALL_WRITE) || node.hear(1, 0).is_err() {
+        Some("unheard")
+    } else if !writes(node, CALL_WRITE, WRITE) {
+        Some(WRITE)
+    } else if !hands_out_one(node) {
+        Some("handed out")
+    } else if !writes(node, TAKE_GOT.step, GOT) {
+        Some(GOT)
+    } else if !writes(node, TAKE_ACK, ACKNOWLEDGE) {
+        Some(ACKNOWLEDGE)
+    } else if node.mark_durable(4).is_ok() || node.is_stopped() {
+        Some("durable")
+    } else {
+        None
+    }
 }
 
 #[test]
 fn nodes_spell_the_entries_of_their_logs(rt: HostRuntime) {
-    let mut node = opened(&rt, &[HEAD]);
-    let early = written(&mut node, CALL_WRITE).err();
-    assert!(rt;
-        early
-            == Some(LoggedFault::OfMeeting {
-                fault: MeetingFault::Unheard
-            })
-    );
-    assert!(rt; node.hear(1, 0).is_ok());
-    demand_line(&rt, &mut node, CALL_WRITE, WRITE);
-    assert!(rt; node.hand_out().is_none() && node.mark_durable(1).is_ok());
-    assert!(rt; node.hand_out().is_some() && node.hand_out().is_none());
-    demand_line(&rt, &mut node, TAKE_GOT.step, GOT);
-    demand_line(&rt, &mut node, TAKE_ACK, ACKNOWLEDGE);
-    assert!(rt; node.mark_durable(4).is_err() && !node.is_stopped());
+    let other = match opened(rt.alloc(), &[HEAD]) {
+        Some(mut node) => misspelled(&mut node),
+        None => Some(HEAD),
+    };
+    assert!(rt; other.is_none(), "{other:?}");
+}
+
+/// Whether a node has two entries of a log, and writes the third one again, and before that nothing of its own.
+fn goes_on(node: &mut LoggedNode<Linear>) -> bool {
+    node.meeting().node().logged() == 2
+        && node.hand_out().is_none()
+        && is_unheard(node, CALL_READ)
+        && writes(node, TAKE_ACK, ACKNOWLEDGE)
 }
 
 /// After a crash that tore the last entry off, the node writes it again.
 #[test]
 fn nodes_go_on_behind_what_a_crash_left(rt: HostRuntime) {
-    let mut node = opened(&rt, &[HEAD, WRITE, GOT, "b9d266ce 0 take 1 00130101"]);
-    assert!(rt; node.meeting().node().logged() == 2 && node.hand_out().is_none());
-    let early = written(&mut node, CALL_READ).err();
-    assert!(rt;
-        early
-            == Some(LoggedFault::OfMeeting {
-                fault: MeetingFault::Unheard
-            })
-    );
-    demand_line(&rt, &mut node, TAKE_ACK, ACKNOWLEDGE);
+    let pieces = &[HEAD, WRITE, GOT, "b9d266ce 0 take 1 00130101"];
+    let right = match opened(rt.alloc(), pieces) {
+        Some(mut node) => goes_on(&mut node),
+        None => false,
+    };
+    assert!(rt; right);
 }
 
 /// A log that is read, with a node that is opened with it and acknowledged.
@@ -248,23 +321,38 @@ fn is_refused<A: Allocator + Copy>(node: &mut LoggedNode<Linear, A>, fault: Logg
     }
 }
 
+/// What the log grows by at a tick. None where memory is refused.
+fn ticked<A: Allocator + Copy>(
+    ample: Global,
+    node: &mut LoggedNode<Linear, A>,
+) -> Result<Option<String>, Fail> {
+    match node.tick() {
+        Ok(bytes) => shown(ample, &bytes.as_slice()),
+        Err(fault) => {
+            let refused = is_refused(node, fault);
+            unless_memory(fault, refused)
+        }
+    }
+}
+
+/// The same of a node that goes on after a log.
+fn ticked_after<A: Allocator + Copy>(
+    alloc: A,
+    ample: Global,
+    read: ReadLog<A>,
+) -> Result<Option<String>, Fail> {
+    match LoggedNode::<Linear, A>::open(alloc, read) {
+        Ok(mut node) => ticked(ample, &mut node),
+        Err(fault) => unless_memory(fault, fault == OpenFault::OutOfMemory),
+    }
+}
+
 impl Trial for Continued {
     fn answer<A: Allocator + Copy>(&self, alloc: A, ample: Global) -> Result<Option<String>, Fail> {
-        let text = format!(in ample; "{HEAD}{WRITE}{GOT}")?;
-        let read = match read_log(alloc, text.as_bytes(), 2) {
-            Ok(read) => read,
-            Err(fault) => return unless_memory(fault, fault == LogFault::OutOfMemory),
-        };
-        let mut node = match LoggedNode::<Linear, A>::open(alloc, read) {
-            Ok(node) => node,
-            Err(fault) => return unless_memory(fault, fault == OpenFault::OutOfMemory),
-        };
-        match node.tick() {
-            Ok(bytes) => shown(ample, &bytes.as_slice()),
-            Err(fault) => {
-                let refused = is_refused(&mut node, fault);
-                unless_memory(fault, refused)
-            }
+        let text = joined(ample, &[HEAD, WRITE, GOT])?;
+        match read_log(alloc, text.as_bytes(), 2) {
+            Ok(read) => ticked_after(alloc, ample, read),
+            Err(fault) => unless_memory(fault, fault == LogFault::OutOfMemory),
         }
     }
 }

@@ -1,6 +1,8 @@
 //! Worked examples of a node that meets the others first, as tables of inputs and what each gives.
 use crate::demands::demand;
-use crate::parts::nodes::{CALL_READ, CALL_WRITE, TAKE_ACK, WROTE, push_entry, push_output};
+use crate::parts::nodes::{
+    CALL_READ, CALL_WRITE, TAKE_ACK, WROTE, push_counts, push_done, push_made, push_output,
+};
 use reg_base::Shape;
 use reg_front::{FrontEnd, Linear, LocalRead};
 use reg_node::{LogEntry, MeetingFault, MeetingNode, Step};
@@ -96,33 +98,30 @@ fn push_given<F: FrontEnd, A: Allocator + Copy>(
     input: &Input,
 ) -> Result<(), AllocError> {
     let pushed = match input {
-        Input::Make(step) => match step_of(node, step) {
-            Ok(entry) => push_entry(text, step, &entry),
-            Err(fault) => write!(text, "{fault}, "),
-        },
-        Input::Durable(count) => match node.mark_durable(*count) {
-            Ok(()) => text.push_str("durable, "),
-            Err(fault) => write!(text, "{fault}, "),
-        },
+        Input::Make(step) => push_made(text, step, &step_of(node, step)),
+        Input::Durable(count) => push_done(text, "durable", &node.mark_durable(*count)),
         Input::HandOut => push_output(text, node.hand_out()),
-        Input::Hear(other, count) => match node.hear(*other, *count) {
-            Ok(()) => text.push_str("heard, "),
-            Err(fault) => write!(text, "{fault}, "),
-        },
+        Input::Hear(other, count) => push_done(text, "heard", &node.hear(*other, *count)),
     };
     pushed?;
-    write!(
-        text,
-        "{} of {}",
-        node.node().durable(),
-        node.node().logged()
-    )
+    push_counts(text, node.node().durable(), node.node().logged())
 }
 
 /// Whether the input gives this line.
 fn gives<F: FrontEnd>(alloc: Global, node: &mut MeetingNode<F>, input: &Input, told: &str) -> bool {
     let mut text = String::new(alloc);
     push_given(&mut text, node, input).is_ok() && text.as_str() == told
+}
+
+/// Demands the line of each input.
+fn demand_rows<F: FrontEnd>(
+    rt: &(impl Abort + AllocGlobal),
+    node: &mut MeetingNode<F>,
+    rows: &[Row],
+) {
+    for (input, told) in rows {
+        demand(rt, told, gives(rt.alloc(), node, input, told));
+    }
 }
 
 /// Has the first node of this number, opened with these entries, make the rows.
@@ -134,9 +133,7 @@ fn follow<F: FrontEnd>(
 ) {
     let shape = Shape::new(processes, 1).expect(rt, "a shape");
     let mut node = MeetingNode::<F>::open(rt.alloc(), shape, 0, entries).expect(rt, "a node");
-    for (input, told) in rows {
-        demand(rt, told, gives(rt.alloc(), &mut node, input, told));
-    }
+    demand_rows(rt, &mut node, rows);
 }
 
 #[test]

@@ -9,6 +9,7 @@ use reg_frames::{Body, Frame};
 use reg_front::{FrontEnd, Linear, LocalRead, LocalWrite};
 use reg_node::{LogEntry, Node, NodeFault, OpenFault, Output, ProcessFault, Reply, Step};
 use std::alloc::{AllocError, Allocator, Global};
+use std::fmt;
 use std::process::Abort;
 use std::test::Fail;
 
@@ -169,16 +170,36 @@ fn push_reply(text: &mut String, reply: Option<Reply>) -> Result<(), AllocError>
     }
 }
 
-pub(crate) fn push_entry(
-    text: &mut String,
-    step: &Step,
-    entry: &LogEntry,
-) -> Result<(), AllocError> {
+fn push_entry(text: &mut String, step: &Step, entry: &LogEntry) -> Result<(), AllocError> {
     if entry.step != *step {
         text.push_str("another step, ")?;
     }
     text.push_str("logged, ")?;
     push_reply(text, entry.reply)
+}
+
+/// What a node gives for a step.
+pub(crate) fn push_made<E: fmt::Display>(
+    text: &mut String,
+    step: &Step,
+    made: &Result<LogEntry, E>,
+) -> Result<(), AllocError> {
+    match made {
+        Ok(entry) => push_entry(text, step, entry),
+        Err(fault) => write!(text, "{fault}, "),
+    }
+}
+
+/// The word of what is done, or why it isn't.
+pub(crate) fn push_done<E: fmt::Display>(
+    text: &mut String,
+    word: &str,
+    done: &Result<(), E>,
+) -> Result<(), AllocError> {
+    match done {
+        Ok(()) => write!(text, "{word}, "),
+        Err(fault) => write!(text, "{fault}, "),
+    }
 }
 
 /// What a node gives where it is asked for the step.
@@ -207,6 +228,11 @@ pub(crate) fn push_output<A: Allocator + Copy>(
     }
 }
 
+/// How many entries are durable, of how many.
+pub(crate) fn push_counts(text: &mut String, durable: u64, logged: u64) -> Result<(), AllocError> {
+    write!(text, "{durable} of {logged}")
+}
+
 /// What an input gives, and how many entries are durable then, of how many.
 fn push_given<F: FrontEnd, A: Allocator + Copy>(
     text: &mut String,
@@ -214,18 +240,12 @@ fn push_given<F: FrontEnd, A: Allocator + Copy>(
     input: &Input,
 ) -> Result<(), AllocError> {
     let pushed = match input {
-        Input::Make(step) => match step_of(node, step) {
-            Ok(entry) => push_entry(text, step, &entry),
-            Err(fault) => write!(text, "{fault}, "),
-        },
-        Input::Durable(count) => match node.mark_durable(*count) {
-            Ok(()) => text.push_str("durable, "),
-            Err(fault) => write!(text, "{fault}, "),
-        },
+        Input::Make(step) => push_made(text, step, &step_of(node, step)),
+        Input::Durable(count) => push_done(text, "durable", &node.mark_durable(*count)),
         Input::HandOut => push_output(text, node.hand_out()),
     };
     pushed?;
-    write!(text, "{} of {}", node.durable(), node.logged())
+    push_counts(text, node.durable(), node.logged())
 }
 
 /// Whether the input gives this line.

@@ -32,12 +32,23 @@ fn are_x_and_y(names: &Names) -> bool {
         && [names.name(0), names.name(1), names.name(2)] == [Some("x"), Some("y"), None]
 }
 
+/// Whether the line of x and y names them.
+fn names_x_and_y(alloc: Global) -> bool {
+    match names_of(alloc, "registers x y") {
+        Ok(names) => are_x_and_y(&names),
+        Err(_) => false,
+    }
+}
+
+/// Whether a line isn't one of names, for this cause.
+fn names_none(alloc: Global, text: &str, why: Why) -> bool {
+    names_of(alloc, text).err() == Some(TextFault::Line { line: 1, why })
+}
+
 #[test]
 fn names_of_their_line(rt: HostRuntime) {
-    let names = names_of(rt.alloc(), "registers x y").expect(&rt, "names");
-    assert!(rt; are_x_and_y(&names));
+    assert!(rt; names_x_and_y(rt.alloc()));
     for (text, why) in NO_NAMES {
-        let fault = TextFault::Line { line: 1, why: *why };
-        demand(&rt, text, names_of(rt.alloc(), text).err() == Some(fault));
+        demand(&rt, text, names_none(rt.alloc(), text, *why));
     }
 }
