@@ -5,8 +5,8 @@ use crate::worlds::runs_of;
 use refusing::{Trial, refusals};
 use reg_base::Shape;
 use reg_front::{Front, FrontEnd, Linear, LocalRead, LocalWrite};
-use reg_history::check_serial;
-use reg_world::{Event, RunFault, World, WorldFault};
+use reg_history::{History, check_serial};
+use reg_world::{Event, First, RunFault, World, WorldFault};
 use std::alloc::{Allocator, Global};
 use std::test::Fail;
 
@@ -19,29 +19,31 @@ struct Run {
     at_once: bool,
 }
 
-/// Whether its witness is a serial order of the other one's history.
+/// Whether its witness is a serial order of this history.
 fn has_witness_of<F: FrontEnd, A: Allocator + Copy>(
     ample: Global,
     world: &World<F, A>,
-    other: &World<F>,
+    history: &History,
 ) -> bool {
     match world.witness() {
-        Ok(order) => check_serial(ample, other.history(), order.as_slice()) == Ok(()),
+        Ok(order) => check_serial(ample, history, order.as_slice()) == Ok(()),
         Err(_) => false,
     }
 }
 
-/// Whether the world has stopped, and tells what the other one does.
+/// Whether the world has stopped, and tells what another one does, which accepted this number of events.
 fn stops_as<F: FrontEnd, A: Allocator + Copy>(
     ample: Global,
     world: &mut World<F, A>,
-    other: &World<F>,
+    events: u32,
+    history: &History,
+    order: &[First],
 ) -> bool {
     world.step(&Event::Tick { process: 0 }) == Err(WorldFault::Failed)
-        && world.events() == other.events()
-        && world.history().entries() == other.history().entries()
-        && world.order() == other.order()
-        && has_witness_of(ample, world, other)
+        && world.events() == events
+        && world.history().entries() == history.entries()
+        && world.order() == order
+        && has_witness_of(ample, world, history)
 }
 
 /// Whether the world has stopped, and tells what it told after the first events.
@@ -51,7 +53,10 @@ fn stops_behind<F: FrontEnd, A: Allocator + Copy>(
     first: &[Event],
 ) -> bool {
     match World::<F>::run(ample, world.shape(), first) {
-        Ok(other) => stops_as(ample, world, &other),
+        Ok(other) => {
+            let (history, order) = (other.history(), other.order());
+            stops_as(ample, world, other.events(), history, order)
+        }
         Err(_) => false,
     }
 }

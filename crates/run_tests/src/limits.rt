@@ -5,6 +5,7 @@ use reg_base::Shape;
 use reg_front::{Linear, LocalRead};
 use reg_process::{Process, ProcessFault};
 use reg_world::{Event, World, WorldFault};
+use std::alloc::Global;
 
 /// An event, how often a world of one process accepts it, why not once more, and how many points the world has then.
 const LIMITS: [(Event, u32, WorldFault, usize); 2] = [
@@ -35,19 +36,26 @@ fn has_points(world: &World<Linear>, count: usize) -> bool {
     }
 }
 
-#[test]
-fn a_run_has_so_many_operations_and_events(rt: HostRuntime) {
-    let shape = Shape::new(1, 1).expect(&rt, "a shape");
-    for (event, count, fault, points) in &LIMITS {
-        let mut world = World::<Linear>::new(rt.alloc(), shape).expect(&rt, "memory");
-        assert!(rt;
-            accepts(&mut world, event, *count, *fault) && has_points(&world, *points),
-            "{fault:?}"
-        );
+/// Whether a new world has the limit of this row.
+fn is_limited(alloc: Global, shape: Shape, row: &(Event, u32, WorldFault, usize)) -> bool {
+    let (event, count, fault, points) = row;
+    match World::new(alloc, shape) {
+        Ok(mut world) => {
+            accepts(&mut world, event, *count, *fault) && has_points(&world, *points)
+        }
+        Err(_) => false,
     }
 }
 
-/// Whether a new process calls 65,535 reads, and no more, and goes on.
+#[test]
+fn a_run_has_so_many_operations_and_events(rt: HostRuntime) {
+    let shape = Shape::new(1, 1).expect(&rt, "a shape");
+    for row in &LIMITS {
+        assert!(rt; is_limited(rt.alloc(), shape, row), "{:?}", row.2);
+    }
+}
+
+/// Whether a process calls 65,535 reads, and no more, and goes on.
 fn calls_enough(process: &mut Process<LocalRead>) -> bool {
     for _read in 0..65_535u32 {
         if process.call(READ).is_err() {
@@ -57,9 +65,16 @@ fn calls_enough(process: &mut Process<LocalRead>) -> bool {
     process.call(READ).err() == Some(ProcessFault::TooManyOperations) && process.tick().is_ok()
 }
 
+/// The same of the only process of a shape.
+fn new_calls_enough(alloc: Global, shape: Shape) -> bool {
+    match Process::new(alloc, shape, 0) {
+        Ok(mut process) => calls_enough(&mut process),
+        Err(_) => false,
+    }
+}
+
 #[test]
 fn operations_end(rt: HostRuntime) {
     let shape = Shape::new(1, 1).expect(&rt, "a shape");
-    let mut process = Process::<LocalRead>::new(rt.alloc(), shape, 0).expect(&rt, "a process");
-    assert!(rt; calls_enough(&mut process));
+    assert!(rt; new_calls_enough(rt.alloc(), shape));
 }

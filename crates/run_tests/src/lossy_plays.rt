@@ -44,17 +44,16 @@ const PLAYS: &[(&str, &str, Front, u64, u64)] = &[
 
 /// Whether a play is finished. None where it has too many events, its witness isn't the plain list and a serial order,
 /// or it doesn't come to rest.
-fn end_of<F: FrontEnd>(alloc: Global, play: Play<F>, budget: u32) -> Option<bool> {
-    let Play { world, finished } = play;
-    let mut world = world;
-    let right = world.events() <= budget && is_right(alloc, &world) && comes_to_rest(&mut world);
-    right.then_some(finished)
+fn end_of<F: FrontEnd>(alloc: Global, play: &mut Play<F>, budget: u32) -> Option<bool> {
+    let world = &mut play.world;
+    let right = world.events() <= budget && is_right(alloc, world) && comes_to_rest(world);
+    right.then_some(play.finished)
 }
 
 /// The same of the play of a seed.
 fn end_of_seed<F: FrontEnd>(alloc: Global, work: &Workload, seed: u64) -> Option<bool> {
     match play_seeded::<F, _, _>(alloc, work, SeedWords::new(seed)) {
-        Ok(play) => end_of(alloc, play, work.budget),
+        Ok(mut play) => end_of(alloc, &mut play, work.budget),
         Err(_) => None,
     }
 }
@@ -62,8 +61,14 @@ fn end_of_seed<F: FrontEnd>(alloc: Global, work: &Workload, seed: u64) -> Option
 /// The same of a linear play, whose points are looked at too.
 fn end_of_linear(alloc: Global, work: &Workload, seed: u64) -> Option<bool> {
     match play_seeded::<Linear, _, _>(alloc, work, SeedWords::new(seed)) {
-        Ok(play) if are_points(alloc, &play.world) => end_of(alloc, play, work.budget),
-        _ => None,
+        Ok(mut play) => {
+            if are_points(alloc, &play.world) {
+                end_of(alloc, &mut play, work.budget)
+            } else {
+                None
+            }
+        }
+        Err(_) => None,
     }
 }
 

@@ -127,10 +127,15 @@ const NEITHER: &[Entry] = &[
     answered!(5, 2, 0, Answer::Value(3)),
 ];
 
-/// Whether both orders are found within this many stages.
-fn are_found(alloc: Global, history: &History, limit: u32) -> bool {
-    matches!(find_serial(alloc, history, limit), Ok(Some(_)))
-        && matches!(find_points(alloc, history, limit), Ok(Some(_)))
+/// Whether both orders of a history are found within this many stages.
+fn are_found(alloc: Global, entries: &[Entry], limit: u32) -> bool {
+    match history_of(alloc, 4, entries) {
+        Some(history) => {
+            matches!(find_serial(alloc, &history, limit), Ok(Some(_)))
+                && matches!(find_points(alloc, &history, limit), Ok(Some(_)))
+        }
+        None => false,
+    }
 }
 
 /// Two writes of one value run at once, and then it is read, and after it the first value.
@@ -145,35 +150,60 @@ const ALIKE: &[Entry] = &[
     answered!(7, 2, 1, Answer::Value(0)),
 ];
 
+/// Whether it is found within this many stages that there is no serial order.
+fn has_no_order(alloc: Global, history: &History, limit: u32) -> bool {
+    matches!(find_serial(alloc, history, limit), Ok(None))
+}
+
+/// Whether it is found within this many stages that there are no points.
+fn has_no_points(alloc: Global, history: &History, limit: u32) -> bool {
+    matches!(find_points(alloc, history, limit), Ok(None))
+}
+
 /// Whether it is found that there are no points within two stages, and not within one: each write may be the first.
-fn has_limited_points(alloc: Global, history: &History) -> bool {
-    find_points(alloc, history, 1).err() == Some(InterleavingFault::TooManyStages)
-        && matches!(find_points(alloc, history, 2), Ok(None))
+fn has_limited_points(alloc: Global, entries: &[Entry]) -> bool {
+    match history_of(alloc, 4, entries) {
+        Some(history) => {
+            find_points(alloc, &history, 1).err() == Some(InterleavingFault::TooManyStages)
+                && has_no_points(alloc, &history, 2)
+        }
+        None => false,
+    }
 }
 
 /// Whether the same is found of a serial order.
-fn has_limited_order(alloc: Global, history: &History) -> bool {
-    find_serial(alloc, history, 1).err() == Some(InterleavingFault::TooManyStages)
-        && matches!(find_serial(alloc, history, 2), Ok(None))
+fn has_limited_order(alloc: Global, entries: &[Entry]) -> bool {
+    match history_of(alloc, 4, entries) {
+        Some(history) => {
+            find_serial(alloc, &history, 1).err() == Some(InterleavingFault::TooManyStages)
+                && has_no_order(alloc, &history, 2)
+        }
+        None => false,
+    }
 }
 
 #[test]
 fn limit(rt: HostRuntime) {
-    let found = history_of(rt.alloc(), 4, TWO_WRITES).expect(&rt, "in place");
     // Only stages that lead to no order are kept, and none is met on the way to one.
-    assert!(rt; are_found(rt.alloc(), &found, 2));
-    assert!(rt; are_found(rt.alloc(), &found, 0));
+    assert!(rt; are_found(rt.alloc(), TWO_WRITES, 2));
+    assert!(rt; are_found(rt.alloc(), TWO_WRITES, 0));
     // Either write may have left the five, so that nothing is known without a search.
-    let alike = history_of(rt.alloc(), 4, ALIKE).expect(&rt, "in place");
-    assert!(rt; has_limited_points(rt.alloc(), &alike));
-    assert!(rt; has_limited_order(rt.alloc(), &alike));
+    assert!(rt; has_limited_points(rt.alloc(), ALIKE));
+    assert!(rt; has_limited_order(rt.alloc(), ALIKE));
+}
+
+/// Whether it is found with no stage that a history has no serial order.
+fn needs_no_stage(alloc: Global, entries: &[Entry]) -> bool {
+    match history_of(alloc, 4, entries) {
+        Some(history) => has_no_order(alloc, &history, 0),
+        None => false,
+    }
 }
 
 #[test]
 fn an_order_that_nothing_allows_needs_no_stage(rt: HostRuntime) {
-    let none = history_of(rt.alloc(), 4, NEITHER).expect(&rt, "in place");
-    assert!(rt; has_limited_points(rt.alloc(), &none));
-    assert!(rt; matches!(find_serial(rt.alloc(), &none, 0), Ok(None)));
+    assert!(rt; has_limited_points(rt.alloc(), NEITHER));
+    assert!(rt; needs_no_stage(rt.alloc(), NEITHER));
 }
 
 /// The processes of a long history, one of which writes in each round.
@@ -220,16 +250,21 @@ fn rounds(alloc: Global) -> Result<Vec<Entry>, AllocError> {
     Ok(entries)
 }
 
+/// Whether a serial order is found with at most a hundred stages kept of each number of operations, which the checker
+/// takes.
+pub(crate) fn is_serial(alloc: Global, history: &History) -> bool {
+    match find_serial(alloc, history, 100) {
+        Ok(Some(found)) => check_serial(alloc, history, &found) == Ok(()),
+        _ => false,
+    }
+}
+
 /// Whether these have a serial order, which is found with few stages kept, and no point order.
 fn are_serial_alone(alloc: Global, entries: &[Entry]) -> bool {
-    let Some(history) = history_of(alloc, u32::from(READERS), entries) else {
-        return false;
-    };
-    let Ok(Some(found)) = find_serial(alloc, &history, 100) else {
-        return false;
-    };
-    check_serial(alloc, &history, &found) == Ok(())
-        && matches!(find_points(alloc, &history, 100), Ok(None))
+    match history_of(alloc, u32::from(READERS), entries) {
+        Some(history) => is_serial(alloc, &history) && has_no_points(alloc, &history, 100),
+        None => false,
+    }
 }
 
 #[test]
@@ -249,11 +284,12 @@ fn rounds_with_old_read(alloc: Global) -> Result<Vec<Entry>, AllocError> {
 
 /// Whether it is found that these have neither order, with few stages kept.
 fn have_none(alloc: Global, entries: &[Entry]) -> bool {
-    let Some(history) = history_of(alloc, u32::from(READERS), entries) else {
-        return false;
-    };
-    matches!(find_serial(alloc, &history, 100), Ok(None))
-        && matches!(find_points(alloc, &history, 100), Ok(None))
+    match history_of(alloc, u32::from(READERS), entries) {
+        Some(history) => {
+            has_no_order(alloc, &history, 100) && has_no_points(alloc, &history, 100)
+        }
+        None => false,
+    }
 }
 
 #[test]

@@ -1,10 +1,10 @@
 //! Serial orders of histories whose reads lag behind one order of all writes, as in runs of `local-read`: found with
 //! few stages kept, since no operation is placed before what has to come before it.
 use crate::histories::history_on;
+use crate::orders_found::is_serial;
 use reg_base::{Answer, Op, OpId, Shape};
-use reg_history::{Entry, History, check_serial};
-use reg_outcomes::find_serial;
-use std::alloc::{AllocError, Allocator, Global};
+use reg_history::Entry;
+use std::alloc::{AllocError, Global};
 
 const PROCESSES: u32 = 8;
 
@@ -30,12 +30,12 @@ const AT_FIRST: Reader = Reader {
 
 /// A run of processes that each read their own copy.
 #[derive(Drop)]
-struct Run<A: Allocator + Copy = Global> {
+struct Run {
     registers: u32,
-    readers: Vec<Reader, A>,
+    readers: Vec<Reader>,
     /// The registers that are written, in the order of the writes. Each writes its place, counted from one.
-    written: Vec<u16, A>,
-    entries: Vec<Entry, A>,
+    written: Vec<u16>,
+    entries: Vec<Entry>,
     /// What is drawn next, by a linear rule.
     seed: u64,
 }
@@ -51,8 +51,8 @@ fn value_after(written: &[u16], register: u16) -> u64 {
     value
 }
 
-impl<A: Allocator + Copy> Run<A> {
-    fn new(alloc: A, registers: u32, seed: u64) -> Result<Run<A>, AllocError> {
+impl Run {
+    fn new(alloc: Global, registers: u32, seed: u64) -> Result<Run, AllocError> {
         let mut readers = Vec::new(alloc);
         for _process in 0..PROCESSES {
             readers.push(AT_FIRST)?;
@@ -171,26 +171,22 @@ fn entries_of(
     Ok(run.entries)
 }
 
-/// Whether a serial order is found with at most a hundred stages kept of each number of operations, which the checker
-/// takes.
-fn is_ordered(alloc: Global, history: &History) -> bool {
-    match find_serial(alloc, history, 100) {
-        Ok(Some(found)) => check_serial(alloc, history, &found) == Ok(()),
-        _ => false,
+/// Whether these entries on so many registers have a serial order, which is found.
+fn are_ordered(alloc: Global, registers: u32, entries: &[Entry]) -> bool {
+    let Ok(shape) = Shape::new(PROCESSES, registers) else {
+        return false;
+    };
+    match history_on(alloc, shape, entries) {
+        Some(history) => is_serial(alloc, &history),
+        None => false,
     }
 }
 
 /// Whether so many steps on so many registers have a serial order, which is found.
 fn lags_in_order(alloc: Global, registers: u32, steps: u32, seed: u64) -> bool {
-    let Ok(entries) = entries_of(alloc, registers, steps, seed) else {
-        return false;
-    };
-    let Ok(shape) = Shape::new(PROCESSES, registers) else {
-        return false;
-    };
-    match history_on(alloc, shape, &entries) {
-        Some(history) => is_ordered(alloc, &history),
-        None => false,
+    match entries_of(alloc, registers, steps, seed) {
+        Ok(entries) => are_ordered(alloc, registers, &entries),
+        Err(_) => false,
     }
 }
 
