@@ -190,12 +190,16 @@ fn add_all(names: &mut Vec<String>, alloc: Global, words: &[&str]) -> Result<(),
     Ok(())
 }
 
+/// Whether there are names of these words, or not for this cause.
+fn are_judged(alloc: Global, words: &[&str], fault: Option<NamesFault>) -> bool {
+    let mut names = Vec::new(alloc);
+    add_all(&mut names, alloc, words).is_ok() && Names::new(names).err() == fault
+}
+
 #[test]
 fn names_and_their_faults(rt: HostRuntime) {
     for (words, fault) in NAMES {
-        let mut names = Vec::new(rt.alloc());
-        let added = add_all(&mut names, rt.alloc(), words).is_ok();
-        assert!(rt; Names::new(names).err() == *fault && added, "{words:?}");
+        assert!(rt; are_judged(rt.alloc(), words, *fault), "{words:?}");
     }
 }
 
@@ -223,11 +227,15 @@ const COUNTS: &[(u32, Option<NamesFault>)] = &[
     (4097, Some(NamesFault::TooManyNames)),
 ];
 
+/// Whether there may be this number of names, or not for this cause.
+fn are_counted(alloc: Global, count: u32, fault: Option<NamesFault>) -> bool {
+    let mut names = Vec::new(alloc);
+    add_many(&mut names, alloc, count).is_ok() && Names::new(names).err() == fault
+}
+
 #[test]
 fn names_within_the_limits(rt: HostRuntime) {
     for (count, fault) in COUNTS {
-        let mut names = Vec::new(rt.alloc());
-        let added = add_many(&mut names, rt.alloc(), *count).is_ok();
-        assert!(rt; Names::new(names).err() == *fault && added, "{count}");
+        assert!(rt; are_counted(rt.alloc(), *count, *fault), "{count}");
     }
 }

@@ -1,7 +1,8 @@
 //! Each growth of the parts refused in turn: the answer is out of memory, or the one with ample memory.
 use crate::answers::{shown, unless_memory};
 use crate::macros::{cast, id, point};
-use crate::parts::processes::{TABLES, Table};
+use crate::parts::processes::tables_of;
+use crate::parts::reports::is_written_as;
 use crate::parts::traces::{Row, all_of, push_made, step_of};
 use crate::report_texts::{NO_POINTS, NO_POINTS_NOW, ONE_PROCESS, ONE_PROCESS_NOW};
 use crate::values::WRITE_FIVE;
@@ -9,9 +10,7 @@ use refusing::{Trial, refusals};
 use reg_base::{OpId, Shape};
 use reg_frames::{Body, Frame};
 use reg_front::{Front, FrontEnd, Linear, LocalRead, LocalWrite};
-use reg_history::{
-    CheckFault, Point, ReadFault, Report, check_points, check_serial, read_report, write_report,
-};
+use reg_history::{CheckFault, Point, ReadFault, Report, check_points, check_serial, read_report};
 use reg_process::{Process, ProcessFault, Put};
 use std::alloc::{Allocator, Global};
 use std::test::Fail;
@@ -62,20 +61,21 @@ fn steps_told<F: FrontEnd, A: Allocator + Copy>(
     }
 }
 
-/// Steps of processes, as each is answered.
+/// Steps of processes with a front end, as each is answered.
 #[derive(Clone, Copy)]
 struct Steps {
-    table: Table,
+    front: Front,
+    processes: u32,
+    rows: &'static [Row],
 }
 
 impl Trial for Steps {
     fn answer<A: Allocator + Copy>(&self, alloc: A, ample: Global) -> Result<Option<String>, Fail> {
-        let (front, processes, rows) = self.table;
-        let shape = Shape::new(processes, 1)?;
-        match front {
-            Front::Linear => steps_told::<Linear, A>(alloc, ample, shape, rows),
-            Front::LocalRead => steps_told::<LocalRead, A>(alloc, ample, shape, rows),
-            Front::LocalWrite => steps_told::<LocalWrite, A>(alloc, ample, shape, rows),
+        let shape = Shape::new(self.processes, 1)?;
+        match self.front {
+            Front::Linear => steps_told::<Linear, A>(alloc, ample, shape, self.rows),
+            Front::LocalRead => steps_told::<LocalRead, A>(alloc, ample, shape, self.rows),
+            Front::LocalWrite => steps_told::<LocalWrite, A>(alloc, ample, shape, self.rows),
         }
     }
 }
@@ -148,12 +148,12 @@ fn told<A: Allocator + Copy>(
     let history = report.history();
     let serial = check_serial(alloc, history, report.order());
     let points = check_points(alloc, history, STALE.as_slice());
-    let mut out = Vec::new(alloc);
-    let written = write_report(&mut out, report).is_ok();
-    if !written || [serial, points].contains(&Err(CheckFault::OutOfMemory)) {
-        return Ok(None);
+    match is_written_as(alloc, report, now) {
+        Some(is_now) if ![serial, points].contains(&Err(CheckFault::OutOfMemory)) => {
+            shown(ample, &(serial, points, is_now))
+        }
+        _ => Ok(None),
     }
-    shown(ample, &(serial, points, out.as_slice() == now.as_bytes()))
 }
 
 impl Trial for Judged {
@@ -181,10 +181,24 @@ const JUDGED: &[Judged] = &[
     },
 ];
 
+/// The fewest refusals of the steps of a front end's tables.
+fn least_refusals(alloc: Global, front: Front) -> Result<u64, Fail> {
+    let mut least = u64::MAX;
+    for (processes, rows) in tables_of(front) {
+        let steps = Steps {
+            front,
+            processes: *processes,
+            rows,
+        };
+        least = least.min(refusals(&steps, alloc)?);
+    }
+    Ok(least)
+}
+
 #[test]
 fn each_growth_is_refused(rt: HostRuntime) -> Result<(), Fail> {
-    for table in TABLES {
-        assert!(rt; refusals(&Steps { table: *table }, rt.alloc())? > 2);
+    for front in [Front::Linear, Front::LocalRead, Front::LocalWrite] {
+        assert!(rt; least_refusals(rt.alloc(), front)? > 2);
     }
     for judged in JUDGED {
         assert!(rt; refusals(judged, rt.alloc())? > 6);

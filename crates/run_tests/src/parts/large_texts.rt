@@ -1,6 +1,7 @@
 //! Texts with as many names, scripts and operations as there may be.
 use crate::parts::bases::push_name;
 use crate::parts::reports::is_written_as;
+use crate::replays::add_times;
 use reg_base::Names;
 use reg_history::{ReadFault, ReadWhy, read_report};
 use reg_inputs::{Key, Workload, WorkloadFault};
@@ -15,14 +16,20 @@ struct Named {
     rest: &'static str,
 }
 
-/// The text of a report or a schedule. None where memory is refused.
-fn text_of(alloc: Global, named: &Named) -> Result<String, AllocError> {
-    let mut text = String::from_str(alloc, named.head)?;
+/// Adds the text of a report or a schedule.
+fn push_named(text: &mut String, named: &Named) -> Result<(), AllocError> {
+    text.push_str(named.head)?;
     for number in 0..named.count {
         text.push(named.mark)?;
-        push_name(&mut text, number)?;
+        push_name(text, number)?;
     }
-    text.push_str(named.rest)?;
+    text.push_str(named.rest)
+}
+
+/// The text of a report or a schedule.
+fn text_of(alloc: Global, named: &Named) -> Result<String, AllocError> {
+    let mut text = String::new(alloc);
+    push_named(&mut text, named)?;
     Ok(text)
 }
 
@@ -103,7 +110,8 @@ fn have_numbers(names: &Names) -> bool {
 /// Whether a report is read with all its names, and written as it was.
 fn is_read_whole(alloc: Global, text: &str) -> bool {
     match read_report(alloc, text) {
-        Ok(report) => have_numbers(report.names()) && is_written_as(alloc, &report, text),
+        Ok(report) => have_numbers(report.names())
+            && is_written_as(alloc, &report, text) == Some(true),
         Err(_) => false,
     }
 }
@@ -177,30 +185,37 @@ const DOCUMENTS: &[(u32, u32, u32, Option<WorkloadFault>)] = &[
     ),
 ];
 
-/// The document of these counts.
-fn document_of(alloc: Global, names: u32, scripts: u32, reads: u32) -> Result<String, AllocError> {
-    let mut text = String::from_str(alloc, "front = \"linear\"\nregisters = [")?;
+/// Adds this number of names, each in quotes.
+fn push_names(text: &mut String, names: u32) -> Result<(), AllocError> {
     for number in 0..names {
         text.push('"')?;
-        push_name(&mut text, number)?;
+        push_name(text, number)?;
         text.push_str("\",")?;
     }
+    Ok(())
+}
+
+/// Adds the document of these counts.
+fn push_document(
+    text: &mut String,
+    names: u32,
+    scripts: u32,
+    reads: u32,
+) -> Result<(), AllocError> {
+    text.push_str("front = \"linear\"\nregisters = [")?;
+    push_names(text, names)?;
     text.push_str("]\nscripts = [[")?;
-    for _read in 0..reads {
-        text.push_str("\"read aaa\",")?;
-    }
+    add_times(text, "\"read aaa\",", reads)?;
     text.push_str("],")?;
-    for _script in 1..scripts {
-        text.push_str("[],")?;
-    }
-    text.push_str("]\n")?;
-    Ok(text)
+    add_times(text, "[],", scripts.saturating_sub(1))?;
+    text.push_str("]\n")
 }
 
 /// Why the document of these counts is refused.
 fn document_fault(alloc: Global, names: u32, scripts: u32, reads: u32) -> Option<WorkloadFault> {
-    match document_of(alloc, names, scripts, reads) {
-        Ok(text) => Workload::from_toml(alloc, text.as_str()).err(),
+    let mut text = String::new(alloc);
+    match push_document(&mut text, names, scripts, reads) {
+        Ok(()) => Workload::from_toml(alloc, text.as_str()).err(),
         Err(_) => Some(WorkloadFault::OutOfMemory),
     }
 }

@@ -59,7 +59,7 @@ fn tells_its_parts(report: &Report) -> bool {
 fn is_one_process(alloc: Global, parts: Parts) -> bool {
     match report_of(alloc, parts) {
         Some(Ok(report)) => {
-            tells_its_parts(&report) && is_written_as(alloc, &report, ONE_PROCESS_NOW)
+            tells_its_parts(&report) && is_written_as(alloc, &report, ONE_PROCESS_NOW) == Some(true)
         }
         _ => false,
     }

@@ -4,6 +4,7 @@ use reg_base::Shape;
 use reg_frames::{Body, Frame};
 use reg_front::LocalWrite;
 use reg_process::{Process, Put};
+use std::alloc::Global;
 
 /// Whether these are the frames of the first sixteen writes for process 1.
 fn are_first_sixteen(puts: &[Put]) -> bool {
@@ -21,7 +22,7 @@ fn are_first_sixteen(puts: &[Put]) -> bool {
     number == 16
 }
 
-/// Whether a new process makes `writes` writes, and then a tick puts the first sixteen frames again.
+/// Whether a process makes `writes` writes, and then a tick puts the first sixteen frames again.
 fn puts_the_first_sixteen(process: &mut Process<LocalWrite>, writes: u8) -> bool {
     for _write in 0..writes {
         if process.call(WRITE_FIVE).is_err() {
@@ -34,9 +35,16 @@ fn puts_the_first_sixteen(process: &mut Process<LocalWrite>, writes: u8) -> bool
     }
 }
 
+/// The same of a new process.
+fn new_puts_the_first_sixteen(alloc: Global, shape: Shape, writes: u8) -> bool {
+    match Process::new(alloc, shape, 0) {
+        Ok(mut process) => puts_the_first_sixteen(&mut process, writes),
+        Err(_) => false,
+    }
+}
+
 #[test]
 fn tick_puts_the_first_sixteen(rt: HostRuntime) {
     let shape = Shape::new(2, 1).expect(&rt, "a shape");
-    let mut process = Process::<LocalWrite>::new(rt.alloc(), shape, 0).expect(&rt, "a process");
-    assert!(rt; puts_the_first_sixteen(&mut process, 17));
+    assert!(rt; new_puts_the_first_sixteen(rt.alloc(), shape, 17));
 }
