@@ -7,7 +7,12 @@ use reg_frames::{Body, Frame};
 use reg_history::{Entry, Point};
 use reg_world::{Event, First};
 
-pub(crate) const COMPARED: &[Row] = &[
+/// The runs of each front end.
+pub(crate) fn compared() -> &'static [Row] {
+    COMPARED
+}
+
+const COMPARED: &[Row] = &[
     Row {
         name: "a compare-and-swap is done on a register that was never written, and the next one is unequal",
         processes: 1,

@@ -10,7 +10,12 @@ use reg_frames::{Body, Frame};
 use reg_history::Entry;
 use reg_world::{CopyRead, Event, First};
 
-pub(crate) const LOCAL_READ: &[Row] = &[
+/// The runs of `local-read`.
+pub(crate) fn local_read() -> &'static [Row] {
+    LOCAL_READ
+}
+
+const LOCAL_READ: &[Row] = &[
     Row {
         name: "a local read may answer an older value",
         processes: 3,
@@ -129,7 +134,12 @@ macro_rules! ids {
 
 const WRITE: Event = call!(0, write_of!(1));
 
-pub(crate) const LOCAL_WRITE: &[Row] = &[
+/// The runs of `local-write`.
+pub(crate) fn local_write() -> &'static [Row] {
+    LOCAL_WRITE
+}
+
+const LOCAL_WRITE: &[Row] = &[
     Row {
         name: "a local read waits for an own write",
         processes: 2,

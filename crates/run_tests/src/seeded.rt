@@ -87,15 +87,23 @@ fn cast_time<F: FrontEnd>(world: &World<F>, id: OpId) -> u64 {
     }
 }
 
-/// The finished updates that were delivered nowhere. Updates are the only casts that can be finished so.
+/// The operation that an entry calls, if it is a finished update that was delivered nowhere. Updates are the only casts
+/// that can be finished so.
+fn lost_by(entry: &Entry, history: &[Entry], order: &[First]) -> Option<OpId> {
+    match *entry {
+        Entry::Called { at: _, id, op } => {
+            let is_lost = op.updates() && is_finished(history, id) && !is_delivered(order, id);
+            is_lost.then_some(id)
+        }
+        Entry::Answered { .. } => None,
+    }
+}
+
+/// The finished updates that were delivered nowhere.
 fn add_lost<F: FrontEnd>(lost: &mut Vec<Lost>, world: &World<F>) -> Result<(), AllocError> {
     let (history, order) = (world.history().entries(), world.order());
     for entry in history {
-        if let Entry::Called { at: _, id, op } = *entry
-            && op.updates()
-            && is_finished(history, id)
-            && !is_delivered(order, id)
-        {
+        if let Some(id) = lost_by(entry, history, order) {
             lost.push((cast_time(world, id), id))?;
         }
     }
@@ -129,10 +137,14 @@ fn add_reads(ids: &mut Vec<OpId>, reads: &[CopyRead], place: u64) -> Result<(), 
 }
 
 /// The reads at each place, each place's before its cast, where that is of an update or a finished operation.
-fn add_placed<F: FrontEnd>(ids: &mut Vec<OpId>, world: &World<F>) -> Result<(), AllocError> {
-    let (history, reads) = (world.history().entries(), world.reads());
+fn add_placed(
+    ids: &mut Vec<OpId>,
+    history: &[Entry],
+    order: &[First],
+    reads: &[CopyRead],
+) -> Result<(), AllocError> {
     let mut place = 0u64;
-    for first in world.order() {
+    for first in order {
         add_reads(ids, reads, place)?;
         if first.op.updates() || is_finished(history, first.id) {
             ids.push(first.id)?;
@@ -145,7 +157,8 @@ fn add_placed<F: FrontEnd>(ids: &mut Vec<OpId>, world: &World<F>) -> Result<(), 
 /// Whether these are the plain list of the witness.
 fn are_plain<F: FrontEnd>(alloc: Global, world: &World<F>, ids: &[OpId]) -> bool {
     let mut plain = Vec::new(alloc);
-    add_placed(&mut plain, world).is_ok()
+    let (history, order, reads) = (world.history().entries(), world.order(), world.reads());
+    add_placed(&mut plain, history, order, reads).is_ok()
         && add_behind(&mut plain, alloc, world).is_ok()
         && plain.as_slice() == ids
 }
@@ -228,42 +241,6 @@ fn play_on<F: FrontEnd>(world: &mut World<F>, seed: u64) {
     }
 }
 
-/// Whether the witness of a run of pseudo-random events is right.
-fn agrees<F: FrontEnd>(alloc: Global, shape: Shape, seed: u64) -> bool {
-    match World::<F>::new(alloc, shape) {
-        Ok(mut world) => {
-            play_on(&mut world, seed);
-            is_right(alloc, &world)
-        }
-        Err(_) => false,
-    }
-}
-
-/// Whether the points of a linear run of pseudo-random events are right too.
-fn agrees_with_points(alloc: Global, shape: Shape, seed: u64) -> bool {
-    match World::<Linear>::new(alloc, shape) {
-        Ok(mut world) => {
-            play_on(&mut world, seed);
-            is_right(alloc, &world) && are_points(alloc, &world)
-        }
-        Err(_) => false,
-    }
-}
-
-fn all_agree(alloc: Global, shape: Shape, seed: u64) -> bool {
-    agrees_with_points(alloc, shape, seed)
-        && agrees::<LocalRead>(alloc, shape, seed)
-        && agrees::<LocalWrite>(alloc, shape, seed)
-}
-
-#[test]
-fn the_witness_is_the_plain_list(rt: HostRuntime) {
-    let shape = Shape::new(3, 1).expect(&rt, "a shape");
-    for seed in 0..40 {
-        assert!(rt; all_agree(rt.alloc(), shape, seed));
-    }
-}
-
 /// Whether one of these ids is neither of a delivered cast nor of a read from a copy.
 fn are_some_lost(order: &[First], reads: &[CopyRead], ids: &[OpId]) -> bool {
     for id in ids {
@@ -283,8 +260,13 @@ struct Seen {
     reads: bool,
 }
 
+const NOTHING: Seen = Seen {
+    lost: false,
+    reads: false,
+};
+
 /// Looks at what a world has. Tells whether there is memory for its witness.
-fn look(seen: &mut Seen, world: &World<LocalWrite>) -> bool {
+fn look<F: FrontEnd>(seen: &mut Seen, world: &World<F>) -> bool {
     match world.witness() {
         Ok(ids) => {
             let (order, reads) = (world.order(), world.reads());
@@ -296,26 +278,49 @@ fn look(seen: &mut Seen, world: &World<LocalWrite>) -> bool {
     }
 }
 
-/// Looks at the run of this seed. Tells whether there is memory for it.
-fn look_at(seen: &mut Seen, alloc: Global, shape: Shape, seed: u64) -> bool {
-    match World::new(alloc, shape) {
+/// Looks at the run of pseudo-random events of a seed. Tells whether its witness is right.
+fn agrees<F: FrontEnd>(seen: &mut Seen, alloc: Global, shape: Shape, seed: u64) -> bool {
+    match World::<F>::new(alloc, shape) {
         Ok(mut world) => {
             play_on(&mut world, seed);
-            look(seen, &world)
+            look(seen, &world) && is_right(alloc, &world)
         }
         Err(_) => false,
+    }
+}
+
+/// Whether the points of a linear run of pseudo-random events are right too.
+fn agrees_with_points(alloc: Global, shape: Shape, seed: u64) -> bool {
+    match World::<Linear>::new(alloc, shape) {
+        Ok(mut world) => {
+            play_on(&mut world, seed);
+            is_right(alloc, &world) && are_points(alloc, &world)
+        }
+        Err(_) => false,
+    }
+}
+
+fn all_agree(alloc: Global, shape: Shape, seed: u64) -> bool {
+    let mut seen = NOTHING;
+    agrees_with_points(alloc, shape, seed)
+        && agrees::<LocalRead>(&mut seen, alloc, shape, seed)
+        && agrees::<LocalWrite>(&mut seen, alloc, shape, seed)
+}
+
+#[test]
+fn the_witness_is_the_plain_list(rt: HostRuntime) {
+    let shape = Shape::new(3, 1).expect(&rt, "a shape");
+    for seed in 0..40 {
+        assert!(rt; all_agree(rt.alloc(), shape, seed));
     }
 }
 
 #[test]
 fn some_casts_are_lost_and_some_reads_share_a_place(rt: HostRuntime) {
     let shape = Shape::new(3, 1).expect(&rt, "a shape");
-    let mut seen = Seen {
-        lost: false,
-        reads: false,
-    };
+    let mut seen = NOTHING;
     for seed in 0..40 {
-        assert!(rt; look_at(&mut seen, rt.alloc(), shape, seed));
+        assert!(rt; agrees::<LocalWrite>(&mut seen, rt.alloc(), shape, seed));
     }
     assert!(rt; seen.lost && seen.reads);
 }

@@ -30,7 +30,12 @@ pub(crate) struct Row {
 
 const BEYOND: Op = Op::Read { register: 1 };
 
-pub(crate) const LINEAR: &[Row] = &[
+/// The runs of `linear`.
+pub(crate) fn linear() -> &'static [Row] {
+    LINEAR
+}
+
+const LINEAR: &[Row] = &[
     Row {
         name: "one process answers at once",
         processes: 1,

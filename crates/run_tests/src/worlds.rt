@@ -1,9 +1,9 @@
 //! Runs as worked by hand: what a world tells after its events.
-use crate::compared_rows::COMPARED;
-use crate::local_rows::{LOCAL_READ, LOCAL_WRITE};
+use crate::compared_rows::compared;
+use crate::local_rows::{local_read, local_write};
 use crate::macros::{call, take, tick};
 use crate::values::WRITE_FIVE;
-use crate::world_rows::{LINEAR, Row};
+use crate::world_rows::{Row, linear};
 use reg_base::{OpId, Shape};
 use reg_frames::Frame;
 use reg_front::{Front, FrontEnd, Linear, LocalRead, LocalWrite};
@@ -148,11 +148,11 @@ fn differing_front(alloc: Global, front: Front, row: &Row) -> Option<&'static st
 /// The runs of a front end: its own, and those that every front end has.
 pub(crate) fn runs_of(front: Front) -> [&'static [Row]; 2] {
     let own = match front {
-        Front::Linear => LINEAR,
-        Front::LocalRead => LOCAL_READ,
-        Front::LocalWrite => LOCAL_WRITE,
+        Front::Linear => linear(),
+        Front::LocalRead => local_read(),
+        Front::LocalWrite => local_write(),
     };
-    [own, COMPARED]
+    [own, compared()]
 }
 
 /// Demands that worlds tell what the rows of a front end say.
