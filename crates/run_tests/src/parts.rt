@@ -13,6 +13,7 @@ mod meetings;
 mod nodes;
 mod orders;
 mod plain_holdback;
+mod process_rows;
 mod processes;
 mod refusals;
 mod report_parts;
