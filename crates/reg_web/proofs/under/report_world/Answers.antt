@@ -1,5 +1,4 @@
-use Rattle.std.proofs.Common.{ℕ, ◌≡◌, ◌∙◌, List, None, Ok, ap, subst}
-use Rattle.reg_commands.specs.declared.faults.Fault.{Fault}
+use Rattle.std.proofs.Common.{ℕ, ◌≡◌, ◌∙◌, List, None, ap, subst}
 use Rattle.reg_history.specs.Reports.{Contents}
 use Rattle.reg_world.specs.Worlds.{Made, run_in}
 use Rattle.reg_commands.proofs.Shown.{parts_of, serial_given, shows, time_given}
@@ -13,7 +12,7 @@ returns-in-Ok-new-clause-shows g c =
     let given = c.into_history.result in
     let P : Made → Type 0 = λ w. (run_in start w).accepted ≡ w.accepted in
     let named : List ℕ → Contents = λ front. record { front = front; shape = given.shape; names = c.args.names; entries = given.entries; order = ids; points = None } in
-    shows {E = Fault} start c.args.front c.args.names w given ids None (Ok c.in-Ok-new.report)
+    shows start c.args.front c.args.names w given ids None c.in-Ok-new.report
     (record { accepted = subst P c.world.view_is c.world.invariant.tells.accepted; shape = c.into_history.ensures.shape; entries = c.into_history.ensures.entries; order = c.in-Ok.ensures.keyed })
     (record {
       serial = serial_given c.in-Ok.field-0-0.now given w ids c.in-Ok.ensures.shape c.in-Ok.ensures.value c.into_history.ensures.shape c.into_history.ensures.value c.in-Ok.ensures.serial;
