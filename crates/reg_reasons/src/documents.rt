@@ -2,14 +2,14 @@
 use crate::forms::{FRONTS, KEYS, OP, kind_of_key, range_of};
 use crate::saying::Notes;
 use crate::scanning::{after, is_register, misfit_of, place_of};
-use crate::stops::explain_stop;
+use crate::stops::{Documents, explain_stop};
 use crate::toml_steps::starts_text;
 use crate::toml_values::{Entry, items_of, kind_of, read_entries, text_of};
 use crate::toml_words::{integer_of, word_of};
 use crate::wanting::{NAME_FORM, NAME_TAKEN, Rules};
 use reg_base::limits::{MOST_OPERATIONS, MOST_PROCESSES, MOST_REGISTERS};
 use reg_inputs::{Key, WorkloadFault};
-use std::alloc::{AllocError, Allocator, Global};
+use std::alloc::{AllocError, Allocator};
 
 /// Puts that a key is missing.
 fn put_missing<A: Allocator + Copy>(notes: &mut Notes<'_, A>, key: Key) {
@@ -327,15 +327,15 @@ impl<'a> Document<'a> {
     }
 }
 
-/// Puts why a text is no workload. Where there is no global heap, no table of it is kept.
-pub fn explain_workload<A: Allocator + Copy>(
+/// Puts why a text is no workload.
+pub fn explain_workload<D: Documents, A: Allocator + Copy>(
     notes: &mut Notes<'_, A>,
-    global: Option<Global>,
+    documents: D,
     text: &str,
     fault: WorkloadFault,
 ) -> Result<(), AllocError> {
     if fault == WorkloadFault::Toml {
-        return explain_stop(notes, global, text);
+        return explain_stop(notes, documents, text);
     }
     let mut entries = Vec::new(notes.alloc);
     read_entries(&mut entries, text.as_bytes())?;

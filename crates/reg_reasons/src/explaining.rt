@@ -9,11 +9,12 @@ use crate::orders::explain_list;
 use crate::report_lines::{Part, Walk, number_on, walk_to};
 use crate::saying::Notes;
 use crate::scanning::misfit_of;
+use crate::stops::Documents;
 use crate::wanting::{Form, Rules};
 use reg_base::limits::MOST_EVENTS;
 use reg_commands::{Command, Fault, Verdict, Verdicts};
 use reg_history::{ReadWhy, Report};
-use std::alloc::{AllocError, Allocator, Global};
+use std::alloc::{AllocError, Allocator};
 
 /// The line of a report that tells its registers, or how many they are.
 const LINE_OF_REGISTERS: u64 = 4;
@@ -174,9 +175,9 @@ impl<'a> RefusedLine<'a> {
 }
 
 /// Puts what explains the fault that a command tells of a text.
-fn explain<A: Allocator + Copy>(
+fn explain<D: Documents, A: Allocator + Copy>(
     notes: &mut Notes<'_, A>,
-    global: Option<Global>,
+    documents: D,
     command: Command,
     text: &str,
     fault: Fault,
@@ -194,22 +195,22 @@ fn explain<A: Allocator + Copy>(
             }
         }
         Fault::Event { at, fault } => explain_event(notes, text, at, fault),
-        Fault::Workload { fault } => explain_workload(notes, global, text, fault),
+        Fault::Workload { fault } => explain_workload(notes, documents, text, fault),
         _ => Ok(()),
     }
 }
 
 /// What explains the fault that a command tells of a text.
-pub(crate) fn explain_fault<A: Allocator + Copy>(
+pub(crate) fn explain_fault<D: Documents, A: Allocator + Copy>(
     alloc: A,
-    global: Option<Global>,
+    documents: D,
     command: Command,
     text: &str,
     fault: Fault,
 ) -> Result<Vec<u8, A>, AllocError> {
     let mut bytes = Vec::new(alloc);
     let mut notes = Notes::new(alloc, &mut bytes);
-    explain(&mut notes, global, command, text, fault).and(notes.finish())?;
+    explain(&mut notes, documents, command, text, fault).and(notes.finish())?;
     Ok(bytes)
 }
 

@@ -7,6 +7,7 @@ ghost use Rattle.reg_reasons.specs.Tellings.{Halts};
 
 use crate::records::tell_record;
 use crate::refusals::{Explanation, refused, tell_load, tell_report, tell_schedule};
+use crate::stops::Steps;
 use crate::toml_values::stop_of;
 use reg_commands::{Fault, Kind, kind_of};
 use reg_inputs::WorkloadFault;
@@ -27,7 +28,13 @@ fn doubted<A: Allocator + Copy>(
     } else {
         WorkloadFault::Toml
     };
-    refused(alloc, None, Kind::Workload, text, Fault::Workload { fault })
+    refused(
+        alloc,
+        Steps,
+        Kind::Workload,
+        text,
+        Fault::Workload { fault },
+    )
 }
 
 /// The answer for a text that is meant as a workload.

@@ -17,6 +17,7 @@ ghost use Rattle.reg_reasons.specs.Tellings.{Agrees, Disagrees, Halts, Refuses, 
 use crate::explaining::{explain_fault, explain_verdicts};
 use crate::first_lines::{Subject, line_of_fault, line_of_no, line_of_subject};
 use crate::records::tell_record;
+use crate::stops::{Documents, Steps, Tables};
 use reg_base::Op;
 use reg_commands::{
     Fault, Kind, Ran, Verdicts, all_yes, command_of, judge, kind_of, read_report_text,
@@ -66,10 +67,10 @@ pub(crate) fn accepted<A: Allocator + Copy>(
     })
 }
 
-/// The answer for a text with this fault. Where there is no global heap, no table of a document is kept.
-pub(crate) fn refused<A: Allocator + Copy>(
+/// The answer for a text with this fault.
+pub(crate) fn refused<D: Documents, A: Allocator + Copy>(
     alloc: A,
-    global: Option<Global>,
+    documents: D,
     kind: Kind,
     text: &str,
     fault: Fault,
@@ -77,7 +78,7 @@ pub(crate) fn refused<A: Allocator + Copy>(
     ensures { IfOk result (λ t. (rest : List ℕ) × (t.answer.items ≡ fault_line fault ++ rest) × (t.is_accepted ≡ false)) }
 {
     let line = line_of_fault(alloc, fault)?;
-    let notes = explain_fault(alloc, global, command_of(kind), text, fault)?;
+    let notes = explain_fault(alloc, documents, command_of(kind), text, fault)?;
     joined(line, notes.as_slice())
 }
 
@@ -93,9 +94,9 @@ pub(crate) fn is_of_text(fault: Fault) -> bool
 }
 
 /// The answer for a refused text, where the fault is one of the text; else the fault.
-fn refused_or_halted<A: Allocator + Copy>(
+fn refused_or_halted<D: Documents, A: Allocator + Copy>(
     alloc: A,
-    global: Option<Global>,
+    documents: D,
     kind: Kind,
     text: &str,
     fault: Fault,
@@ -109,7 +110,7 @@ fn refused_or_halted<A: Allocator + Copy>(
     if !is_of_text(fault) {
         return Err(fault);
     }
-    match refused(alloc, global, kind, text, fault) {
+    match refused(alloc, documents, kind, text, fault) {
         Ok(told) => Ok(told),
         Err(_) => Err(Fault::OutOfMemory),
     }
@@ -164,7 +165,7 @@ fn tell_run<A: Allocator + Copy>(
             Ok(told) => Ok(told),
             Err(_) => Err(Fault::OutOfMemory),
         },
-        Err(fault) => refused_or_halted(alloc, None, Kind::Schedule, text, fault),
+        Err(fault) => refused_or_halted(alloc, Steps, Kind::Schedule, text, fault),
     }
 }
 
@@ -178,7 +179,7 @@ pub(crate) fn tell_schedule<A: Allocator + Copy>(
 {
     match read_schedule(alloc, text) {
         Ok(schedule) => tell_run(alloc, text, schedule),
-        Err(fault) => refused_or_halted(alloc, None, Kind::Schedule, text, fault),
+        Err(fault) => refused_or_halted(alloc, Steps, Kind::Schedule, text, fault),
     }
 }
 
@@ -229,7 +230,7 @@ fn tell_workload<A: Allocator + Copy>(
             Ok(told) => Ok(told),
             Err(_) => Err(Fault::OutOfMemory),
         },
-        Err(fault) => refused_or_halted(alloc, Some(global), Kind::Workload, text, fault),
+        Err(fault) => refused_or_halted(alloc, Tables { global }, Kind::Workload, text, fault),
     }
 }
 
@@ -315,7 +316,7 @@ pub(crate) fn tell_report<A: Allocator + Copy>(
             Ok(told) => Ok(told),
             Err(_) => Err(Fault::OutOfMemory),
         },
-        Err(fault) => refused_or_halted(alloc, None, Kind::Report, text, fault),
+        Err(fault) => refused_or_halted(alloc, Steps, Kind::Report, text, fault),
     }
 }
 

@@ -67,34 +67,65 @@ fn put_stop<A: Allocator + Copy>(
     }
 }
 
-/// Puts what the kit's reader of documents tells, which keeps their tables in the global heap.
-fn put_told<A: Allocator + Copy>(
-    notes: &mut Notes<'_, A>,
-    global: Global,
-    text: &str,
-) -> Result<(), AllocError> {
-    if let Err(error) = table_from_str(global, text) {
-        let Some(span) = error.span() else {
-            return Err(AllocError);
-        };
-        put_stop(notes, text.as_bytes(), span.start, error.message());
-    }
-    Ok(())
+/// What finds the place at which a text is no document. (It is a trait, so that what is built for a page has no code
+/// for the heap that a page lacks.)
+pub trait Documents: Copy {
+    /// Puts the place at which a text is no document, and what is wrong there.
+    fn put_stop<A: Allocator + Copy>(
+        self,
+        notes: &mut Notes<'_, A>,
+        text: &str,
+    ) -> Result<(), AllocError>;
 }
 
-/// Puts where a text is no document, and why. Where there is no global heap, it is found by steps that keep no table.
-pub fn explain_stop<A: Allocator + Copy>(
+/// The kit's reader of documents, which keeps their tables in the global heap.
+#[derive(Clone, Copy)]
+pub(crate) struct Tables {
+    pub(crate) global: Global,
+}
+
+impl Documents for Tables {
+    fn put_stop<A: Allocator + Copy>(
+        self,
+        notes: &mut Notes<'_, A>,
+        text: &str,
+    ) -> Result<(), AllocError> {
+        if let Err(error) = table_from_str(self.global, text) {
+            let Some(span) = error.span() else {
+                return Err(AllocError);
+            };
+            put_stop(notes, text.as_bytes(), span.start, error.message());
+        }
+        Ok(())
+    }
+}
+
+/// Steps that keep no table, and need no heap but the one of what is told.
+#[derive(Clone, Copy)]
+pub(crate) struct Steps;
+
+impl Documents for Steps {
+    fn put_stop<A: Allocator + Copy>(
+        self,
+        notes: &mut Notes<'_, A>,
+        text: &str,
+    ) -> Result<(), AllocError> {
+        let bytes = text.as_bytes();
+        if let Some((kind, rest)) = stop_of(notes.alloc, bytes)? {
+            let place = bytes.len().saturating_sub(rest.len());
+            put_stop(notes, bytes, place, kind.description());
+        }
+        Ok(())
+    }
+}
+
+/// Puts where a text is no document, and why.
+pub fn explain_stop<D: Documents, A: Allocator + Copy>(
     notes: &mut Notes<'_, A>,
-    global: Option<Global>,
+    documents: D,
     text: &str,
 ) -> Result<(), AllocError> {
-    let bytes = text.as_bytes();
-    if let Some(global) = global {
-        put_told(notes, global, text)?;
-    } else if let Some((kind, rest)) = stop_of(notes.alloc, bytes)? {
-        let place = bytes.len().saturating_sub(rest.len());
-        put_stop(notes, bytes, place, kind.description());
-    }
-    put_hint(notes, bytes);
+    documents.put_stop(notes, text)?;
+    put_hint(notes, text.as_bytes());
     Ok(())
 }
