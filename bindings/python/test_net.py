@@ -416,8 +416,8 @@ class Datagrams(unittest.TestCase):
         one, other = (self.road(p, Keys(self.pairs[p][1], self.known)) for p in range(2))
         stranger = socket.socket(type=socket.SOCK_DGRAM)
         self.addCleanup(stranger.close)
-        for _ in range(2000):  # more than the system keeps for a socket
-            stranger.sendto(bytes(1000), ("127.0.0.1", int(self.addresses[1].rpartition(":")[2])))
+        for _ in range(2000):  # more than the system keeps for a socket, and no longer than a message
+            stranger.sendto(bytes(60), ("127.0.0.1", int(self.addresses[1].rpartition(":")[2])))
         one.send(1, b"a message")
         self.assertEqual(other.receive(5), [(0, b"a message")])
 
