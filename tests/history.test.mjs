@@ -46,9 +46,9 @@ const line = (process, type, f, value, more = {}) =>
   JSON.stringify({ process, type, f, key: "x", value, ...more }) + "\n";
 
 test("the examples of the judge's document are judged alike", () => {
-  const blocks = readFileSync(join(TOP, "docs/JUDGE.md"), "utf8").split(/^```\n/m).filter((_, place) => place % 2 === 1)
-    .map(block => block.split("\n").filter(one => one.startsWith("{\"")).map(one => one + "\n").join(""));
-  const histories = blocks.filter(Boolean);
+  const blocks = readFileSync(join(TOP, "docs/JUDGE.md"), "utf8").matchAll(/^```\w*\n([^]*?)^```$/gm);
+  const histories = [...blocks].map(([, block]) =>
+    block.split("\n").filter(one => one.startsWith("{\"")).map(one => one + "\n").join("")).filter(Boolean);
   assert.equal(histories.length, 3);
   assert.deepEqual(histories.map(text => agree(text).output.split("\n")[0]), ["no", "no", "yes"]);
 });
