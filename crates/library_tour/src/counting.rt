@@ -1,7 +1,5 @@
 //! Four threads add to two counters that they share: to one while they hold a lock that is taken by swaps, to the other
 //! by compare-and-swaps without a lock. The road loses and repeats parcels. It prints the same whatever the schedule.
-#![tactic(auto)]
-
 use anyhow::anyhow;
 use std::alloc::Global;
 use std::sync::{Arc, Wait};
@@ -139,7 +137,8 @@ fn print_verdict(rt: &impl Print, alloc: Global, world: &World<Linear>) -> anyho
     Ok(())
 }
 
-fn main(rt: HostRuntime) -> anyhow::Result<()> {
+/// Makes a cluster, has all threads add, closes it, and prints the totals.
+pub fn run(rt: HostRuntime) -> anyhow::Result<()> {
     let alloc = rt.alloc();
     let road = Arc::new(alloc, Rough::new(SeedWords::new(11), 10, 10))?;
     let names = named(alloc)?;

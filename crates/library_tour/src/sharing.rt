@@ -1,8 +1,6 @@
 //! Two threads share a register over a road that loses and repeats parcels. One writes, and hands on how far the
 //! journal has come; the other reads from there on, so it reads what was written. It prints the same whatever the
 //! schedule.
-#![tactic(auto)]
-
 use anyhow::anyhow;
 use std::alloc::Global;
 use std::sync::{Arc, Wait};
@@ -51,7 +49,8 @@ fn print_run(
     Ok(())
 }
 
-fn main(rt: HostRuntime) -> anyhow::Result<()> {
+/// Makes a cluster, has its registers shared, closes it, and prints what came.
+pub fn run(rt: HostRuntime) -> anyhow::Result<()> {
     let alloc = rt.alloc();
     let road = Arc::new(alloc, Rough::new(SeedWords::new(7), 20, 20))?;
     let (running, mut passes) = start::<Linear, _, _, _>(
