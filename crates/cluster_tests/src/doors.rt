@@ -1,5 +1,4 @@
-//! One call of each layer.
-use crate::WRITE;
+//! One call of each layer, by the names that the crate it is looked for in passes on, so that no door closes unseen.
 use reg_base::{
     Answer, Clock, ClockFull, Names, Op, OpId, OutOfMemory, Registers, Shape, ShapeFault, Stamp,
 };
@@ -26,6 +25,11 @@ use std::process::Abort;
 use std::sync::Wait;
 
 const READ: Op = Op::Read { register: 0 };
+
+const WRITE: Op = Op::Write {
+    register: 0,
+    value: 5,
+};
 
 const FIRST: OpId = OpId {
     process: 0,
