@@ -13,9 +13,8 @@ use Rattle.reg_checkers.proofs.Histories.{answered_was_called}
 use Rattle.reg_checkers.proofs.Noting.{history_front}
 use Rattle.reg_checkers.proofs.OneMore.{IsOneMore, one_more}
 use Rattle.reg_checkers.proofs.Places.{IsAt-map, element_at}
-use Rattle.reg_judge.specs.Judging.{AreBounds, HasPointOrder, IsFirstUnexplained}
+use Rattle.reg_judge.specs.Judging.{AreBounds, HasPointOrder, IsExplained, IsFirstUnexplained}
 use Rattle.reg_judge.specs.declared.judge.Bounds.{Bounds}
-use Rattle.std.proofs.lemmas.Bool.{cases_eq}
 use Rattle.std.proofs.lemmas.List.{take_all}
 
 nothing : {X : Type 0} (i : ℕ) (x : X) → IsAt [] i x → ⊥
@@ -97,22 +96,19 @@ first_unexplained n registers h history good bad next le order none lt =
     go (Called t x o) here not also = absurd (not (order.0, order_after_call n registers h history good t x o here order.0 order.1))
     go (Answered t x answer) here not also = record { answer = (t, x, answer, here); none = also; before = order }
 
--- at first none of the entries, and all
-pub first_bounds : (registers : ℕ) (h : List Entry) (b : Bounds) → b.good ≡ 0 → b.bad ≡ length h → ¬ HasPointOrder registers h → AreBounds registers h b
+-- none of the entries has a point order
+pub none_explained : (registers : ℕ) (h : List Entry) (place : ℕ) → place < length h → IsExplained registers h 0
+none_explained registers h place lt = (omega (arith, lt), empty_order registers)
+
+-- at first those that have a point order, and all
+pub first_bounds : (registers : ℕ) (h : List Entry) (b : Bounds) → IsExplained registers h b.good → b.bad ≡ length h → ¬ HasPointOrder registers h → AreBounds registers h b
 first_bounds registers h b good bad none = record {
-  order = subst (λ (i : ℕ). HasPointOrder registers (take i h)) (sym good) (empty_order registers);
+  order = good.1;
   none = all;
-  apart = elim (cases_eq (length h) 0) [
-    | inl empty ↦ absurd (none (subst (HasPointOrder registers) (sym (no_entries h empty)) (empty_order registers)))
-    | inr some ↦ omega (arith, good, bad, some)
-  ];
+  apart = omega (arith, good.0, bad);
   inside = omega (arith, bad);
 }
   where
-    no_entries : (l : List Entry) → length l ≡ 0 → l ≡ []
-    no_entries [] e = refl
-    no_entries (x ∷ xs) e = absurd (omega (arith, e))
-
     all : ¬ HasPointOrder registers (take b.bad h)
     all order = none (subst (HasPointOrder registers) (take_all b.bad h (omega (arith, bad))) order)
 

@@ -34,7 +34,11 @@ IsPointsFault registers h OutOfMemory = Unit {0}
 -- whether there is a point order, and which
 abbrev pub IsDecided : {A : Type 0} → ℕ → List Entry → Decided A → Type 0
 IsDecided registers h (Order points) = IsPointOrder registers h points.items
-IsDecided registers h (NoOrder place) = ¬ HasPointOrder registers h
+IsDecided registers h (NoOrder stuck) = (stuck.place < length h) × (¬ HasPointOrder registers h)
+
+-- so many first entries, and not all, have a point order
+abbrev pub IsExplained : ℕ → List Entry → ℕ → Type 0
+IsExplained registers h count = (count < length h) × HasPointOrder registers (take count h)
 
 -- so many first entries have a point order, and so many more have none
 pub record AreBounds (registers : ℕ) (h : List Entry) (b : Bounds) : Type 0 where

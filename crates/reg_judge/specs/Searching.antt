@@ -144,8 +144,8 @@ IsFirst stages = (s : Stage) × IsAt stages 0 s × (s.placed ≡ 0) × (s.value 
 abbrev pub AreFirst : {A : Type 0} → List (Vec Stage A) → Type 0
 AreFirst {A} layers = (r : ℕ) (layer : Vec Stage A) → IsAt layers r layer → IsFirst layer.items
 
--- where a search is stuck, there is no point order
+-- where a search is stuck, at an entry, there is no point order
 abbrev pub IsSearchEnd : {A : Type 0} → ℕ → List Entry → Searched A → Type 0
 IsSearchEnd registers h (Through search) = Unit {0}
-IsSearchEnd registers h (AtEntry place) = (ps : List Point) → ¬ IsPointOrder registers h ps
+IsSearchEnd registers h (AtEntry place search) = (place < length h) × ((ps : List Point) → ¬ IsPointOrder registers h ps)
 IsSearchEnd registers h (Wide place) = Unit {0}

@@ -2,7 +2,7 @@
 ghost use Rattle.std.specs.Prelude.{◌≡◌, ◌+◌, ◌-◌, ◌<◌, ◌≤◌, IfErr, IfOk, MatchResult, length, take};
 ghost use Rattle.reg_checkers.specs.History.{IsHistory};
 ghost use Rattle.reg_checkers.specs.Orders.{IsPointOrder};
-ghost use Rattle.reg_judge.specs.Judging.{AreBounds, HasPointOrder, IsDecided, IsFirstUnexplained, IsPointsFault};
+ghost use Rattle.reg_judge.specs.Judging.{AreBounds, HasPointOrder, IsDecided, IsExplained, IsFirstUnexplained, IsPointsFault};
 
 use crate::order::points_of;
 use crate::search::{Searched, go_through};
@@ -42,13 +42,22 @@ impl From<AllocError> for PointsFault {
     }
 }
 
+/// How far a search came that found no order.
+#[derive(Drop)]
+struct Stuck<A: Allocator + Copy = Global> {
+    /// The place of the entry up to which it came.
+    place: usize,
+    /// What it had placed before that entry.
+    points: Vec<Point, A>,
+}
+
 /// Whether there is a point order.
 #[derive(Drop)]
 enum Decided<A: Allocator + Copy = Global> {
     /// This one.
     Order(Vec<Point, A>),
-    /// None, and the search came up to the entry of this place.
-    NoOrder(usize),
+    /// None.
+    NoOrder(Stuck<A>),
 }
 
 /// A point order of a history, or that there is none.
@@ -70,7 +79,10 @@ fn decide<A: Allocator + Copy>(
                 Err(_) => Err(PointsFault::Unchecked),
             }
         }
-        Searched::AtEntry(place) => Ok(Decided::NoOrder(place)),
+        Searched::AtEntry(place, search) => {
+            let points = points_of(alloc, &rows, &search)?;
+            Ok(Decided::NoOrder(Stuck { place, points }))
+        }
         Searched::Wide(place) => Err(PointsFault::TooManyStages { place }),
     }
 }
@@ -95,6 +107,24 @@ fn first_part<A: Allocator + Copy>(
         }
     }
     Ok(part)
+}
+
+/// How many first entries have a point order, where a search of all was stuck: those before the entry up to which it
+/// came, if what it had placed passes the check, and else none. It goes by answers that come later, so it may not.
+fn explained<A: Allocator + Copy>(
+    alloc: A,
+    history: &History<A>,
+    stuck: &Stuck<A>,
+) -> Result<usize, AllocError>
+    requires { stuck.now.place < length history.now.entries }
+    ensures { IfOk result (IsExplained history.now.shape.registers history.now.entries) }
+{
+    let part = first_part(alloc, history, stuck.place)?;
+    match check_points(alloc, &part, &stuck.points) {
+        Ok(()) => Ok(stuck.place),
+        Err(CheckFault::OutOfMemory) => Err(AllocError),
+        Err(_) => Ok(0),
+    }
 }
 
 /// A number of entries between two, to be tried next: where the search came to, if that is between them.
@@ -144,10 +174,10 @@ fn narrowed<A: Allocator + Copy>(
             bad: bounds.bad,
             reached: bounds.reached,
         }),
-        Ok(Decided::NoOrder(place)) => Ok(Bounds {
+        Ok(Decided::NoOrder(stuck)) => Ok(Bounds {
             good: bounds.good,
             bad: count,
-            reached: place,
+            reached: stuck.place,
         }),
         Err(PointsFault::TooManyStages { place }) => Err(PointsFault::TooManyStages { place }),
         Err(PointsFault::Unchecked) => Err(PointsFault::Unchecked),
@@ -159,17 +189,18 @@ fn narrowed<A: Allocator + Copy>(
 fn first_unexplained<A: Allocator + Copy>(
     alloc: A,
     history: &History<A>,
-    reached: usize,
+    stuck: &Stuck<A>,
     limit: u32,
 ) -> Result<usize, PointsFault>
-    requires { ¬ HasPointOrder history.now.shape.registers history.now.entries }
+    requires stuck { stuck.now.place < length history.now.entries }
+    requires none { ¬ HasPointOrder history.now.shape.registers history.now.entries }
     ensures found { IfOk result (IsFirstUnexplained history.now.shape.registers history.now.entries) }
     ensures refused { IfErr result (IsPointsFault history.now.shape.registers history.now.entries) }
 {
     let mut bounds = Bounds {
-        good: 0,
+        good: explained(alloc, history, stuck)?,
         bad: history.entries().len(),
-        reached,
+        reached: stuck.place,
     };
     'narrow: while bounds.good + 1 < bounds.bad {
         match narrowed(alloc, history, bounds, limit) {
@@ -198,8 +229,8 @@ pub fn judge_points<A: Allocator + Copy>(
 {
     match decide(alloc, history, limit)? {
         Decided::Order(points) => Ok(points),
-        Decided::NoOrder(reached) => {
-            let place = first_unexplained(alloc, history, reached, limit)?;
+        Decided::NoOrder(stuck) => {
+            let place = first_unexplained(alloc, history, &stuck, limit)?;
             Err(PointsFault::No { place })
         }
     }

@@ -244,8 +244,8 @@ impl<A: Allocator + Copy> Search<A> {
 pub enum Searched<A: Allocator + Copy = Global> {
     /// All entries are gone through.
     Through(Search<A>),
-    /// At the entry of this place some register had no stage.
-    AtEntry(usize),
+    /// At the entry of this place some register had no stage. The search stands before it.
+    AtEntry(usize, Search<A>),
     /// At the entry of this place some register had more stages than the limit.
     Wide(usize),
 }
@@ -267,7 +267,7 @@ pub fn go_through<A: Allocator + Copy>(
     for place in 0..entries.len() {
         match search.step(rows, &needs, entries, place)? {
             Stepped::On => {}
-            Stepped::Stuck => return Ok(Searched::AtEntry(place)),
+            Stepped::Stuck => return Ok(Searched::AtEntry(place, search)),
             Stepped::TooMany => return Ok(Searched::Wide(place)),
         }
     }

@@ -3,7 +3,7 @@ use Rattle.reg_judge.proofs.Narrowing.{first_bounds, found_bounds}
 use Rattle.reg_judge.proofs.judge.first_unexplained.Goals as goal
 
 pub narrow-init : goal.narrow-init
-narrow-init g c = first_bounds c.args.history.now.shape.registers c.args.history.now.entries _ refl (ap length c.entries.ensures.value) c.requires
+narrow-init g c = first_bounds c.args.history.now.shape.registers c.args.history.now.entries _ c.in_ok-explained.ensures (ap length c.entries.ensures.value) c.requires.none
 
 pub returns-clause-found : goal.returns-clause-found
 returns-clause-found g c =

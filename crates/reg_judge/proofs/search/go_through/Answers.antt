@@ -36,4 +36,4 @@ returns-in-Stuck g c =
     let old = c.loop-place.search in
     let new = c.step.new.self in
     let stuck = subst (λ (s : Stepped). IsStep (act_in c.args.rows.now) c.loop-place.place c.args.entries.now old.running.items old.layers.items new.running.items new.layers.items s) c.in-Stuck.is c.in_ok-step.ensures.step in
-    λ ps order. stuck (c.loop-place.invariant.alive ps order)
+    (c.loop-place-test.true, λ ps order. stuck (c.loop-place.invariant.alive ps order))
