@@ -10,6 +10,15 @@ use crate::trail::Trail;
 use std::alloc::{AllocError, Allocator, Global};
 use std::collections::BTreeMap;
 
+/// An answer: to what a process runs on a register, as the entry at a place, and the most stages that may be found.
+#[derive(Clone, Copy)]
+pub struct Answering {
+    pub process: u8,
+    pub register: u16,
+    pub place: usize,
+    pub limit: u32,
+}
+
 /// Stages, each once.
 #[derive(Drop)]
 struct Found<A: Allocator + Copy = Global> {
@@ -200,18 +209,17 @@ pub fn close<A: Allocator + Copy>(
     trail: &mut Trail<A>,
     stages: &[Stage],
     movers: &[Mover],
-    process: u8,
-    limit: u32,
+    at: Answering,
 ) -> Result<Option<Vec<Stage, A>>, AllocError>
     requires narrow { AreNarrow movers.now }
-    requires process { process < 64 }
-    ensures { IfOk result (λ o. IfSome o (λ v. IsClosed movers.now process stages.now v.items)) }
+    requires process { at.process < 64 }
+    ensures { IfOk result (λ o. IfSome o (λ v. IsClosed movers.now at.process stages.now v.items)) }
 {
     let mut found = Found::new(alloc);
     found.add_each(stages)?;
-    if !found.complete(trail, movers, process, limit)? {
+    if !found.complete(trail, movers, at.process, at.limit)? {
         return Ok(None);
     }
-    let kept = answered(alloc, &found.stages, process)?;
+    let kept = answered(alloc, &found.stages, at.process)?;
     Ok(Some(kept))
 }

@@ -12,7 +12,7 @@ ghost use Rattle.reg_judge.specs.Stages.{IsRead, Reads};
 use crate::acts::Act;
 use crate::bits::with;
 use crate::calls::{Call, Needs, call_of, movers_on, needs_of};
-use crate::found::close;
+use crate::found::{Answering, close};
 use crate::stages::{Stage, all_have, answered};
 use crate::trail::Trail;
 use reg_base::{OpId, Shape};
@@ -108,15 +108,6 @@ fn first_layers<A: Allocator + Copy>(
     Ok(layers)
 }
 
-/// An answer: to what a process runs on a register, as the entry at a place, and the most stages that may be found.
-#[derive(Clone, Copy)]
-struct Answering {
-    process: u8,
-    register: u16,
-    place: usize,
-    limit: u32,
-}
-
 /// The stages of a register after an answer, None where there are more than the limit.
 fn layer_after<A: Allocator + Copy>(
     alloc: A,
@@ -133,7 +124,7 @@ fn layer_after<A: Allocator + Copy>(
         return Ok(Some(answered(alloc, layer, at.process)?));
     }
     let movers = movers_on(alloc, running, at.register, at.place)?;
-    close(alloc, trail, layer, &movers, at.process, at.limit)
+    close(alloc, trail, layer, &movers, at)
 }
 
 impl<A: Allocator + Copy> Search<A> {

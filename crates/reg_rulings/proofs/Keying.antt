@@ -1,5 +1,5 @@
 -- Steps of what is found out of each key.
-use Rattle.std.proofs.Common.{ℕ, ◌≡◌, ◌+◌, ◌<◌, ◌≤◌, ◌⊎◌, inl, inr, List, [], ◌∷◌, ◌++◌, length, drop, get_or, slice_get, Some, ap, sym, ◌∙◌, subst, append_assoc, append-nil, length-append}
+use Rattle.std.proofs.Common.{ℕ, ◌≡◌, ◌+◌, ◌<◌, ◌≤◌, ◌⊎◌, inl, inr, List, [], ◌∷◌, ◌++◌, length, drop, get_or, slice_get, Some, ap, sym, ◌∙◌, subst, append_assoc, append-nil, length-append, Vec}
 use Rattle.reg_checkers.specs.declared.entries.Entry.{Entry}
 use Rattle.reg_checkers.specs.declared.entries.Entry.TheVariants.{Answered}
 use Rattle.reg_checkers.specs.History.{IsAt, event_of}
@@ -8,7 +8,7 @@ use Rattle.reg_judge.specs.Judging.{HasPointOrder, IsFirstUnexplained}
 use Rattle.reg_rulings.specs.declared.keys.Ruling.{Ruling}
 use Rattle.reg_rulings.specs.declared.keys.Ruling.TheVariants.{Not}
 use Rattle.reg_rulings.specs.declared.rows.Row.{Row}
-use Rattle.reg_rulings.specs.Keys.{of_key, rows_of_key}
+use Rattle.reg_rulings.specs.Keys.{AreParts, GetsRow, of_key, rows_of_key}
 use Rattle.reg_rulings.specs.Rulings.{AreRuled, IsRuled, RulesEntries}
 use Rattle.reg_rulings.proofs.Lists.{from_here, past_end}
 
@@ -21,6 +21,29 @@ key_more key i rows d whole old new lt before is =
 
 pub key_all : (key i : ℕ) (rows whole part : List Row) → length rows ≤ i → part ++ rows_of_key key (drop i rows) ≡ whole → part ≡ whole
 key_all key i rows whole part le before = sym (append-nil part) ∙ ap (λ l. part ++ rows_of_key key l) (sym (past_end rows i le)) ∙ before
+
+-- the rows of each key before a place, and the others
+abbrev pub ArePartsFrom : {A : Type 0} → ℕ → ℕ → List Row → List (Vec Row A) → Type 0
+ArePartsFrom {A} keys i rows parts = (length parts ≡ keys) × ((key : ℕ) (part : Vec Row A) → IsAt parts key part → part.items ++ rows_of_key key (drop i rows) ≡ rows_of_key key rows)
+
+pub parts_first : {A : Type 0} (keys : ℕ) (rows : List Row) (parts : List (Vec Row A)) → AreParts keys [] parts → ArePartsFrom keys 0 rows parts
+parts_first keys rows parts none = (none.0, λ key part at. ap (λ l. l ++ rows_of_key key rows) (none.1 key part at))
+
+pub parts_more : {A : Type 0} (keys i : ℕ) (rows : List Row) (d : Row) (old new : List (Vec Row A)) → i < length rows → ArePartsFrom keys i rows old → GetsRow (get_or rows i d) old new → ArePartsFrom keys (i + 1) rows new
+parts_more keys i rows d old new lt before gets =
+    (gets.0 ∙ before.0, λ key part at. let (was, here, is) = gets.1 key part at in key_more key i rows d (rows_of_key key rows) was.items part.items lt (before.1 key was here) is)
+
+pub parts_all : {A : Type 0} (keys i : ℕ) (rows : List Row) (parts : List (Vec Row A)) → length rows ≤ i → ArePartsFrom keys i rows parts → AreParts keys rows parts
+parts_all keys i rows parts le before = (before.0, λ key part at. key_all key i rows (rows_of_key key rows) part.items le (before.1 key part at))
+
+-- one part with no rows more
+pub parts_push : {A : Type 0} (keys : ℕ) (old new : List (Vec Row A)) (part : Vec Row A) → AreParts keys [] old → part.items ≡ [] → new ≡ old ++ part ∷ [] → AreParts (keys + 1) [] new
+parts_push {A} keys old new part before empty is =
+    (ap length is ∙ length-append old (part ∷ []) ∙ ap (λ n. n + 1) before.0, λ key p at. go key p (at_push old key part p (ap (λ l. slice_get l key) (sym is) ∙ at)))
+  where
+    go : (key : ℕ) (p : Vec Row A) → (slice_get old key ≡ Some p) ⊎ ((key ≡ length old) × (p ≡ part)) → p.items ≡ rows_of_key key []
+    go key p (inl at) = before.1 key p at
+    go key p (inr (e, same)) = ap (λ (v : Vec Row A). v.items) same ∙ empty
 
 -- one ruling more
 pub ruled_more : (processes keys : ℕ) (rows : List Row) (old new : List Ruling) (ruling : Ruling) → AreRuled processes keys rows old → IsRuled processes (rows_of_key keys rows) ruling → new ≡ old ++ ruling ∷ [] → AreRuled processes (keys + 1) rows new

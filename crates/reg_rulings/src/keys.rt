@@ -1,6 +1,6 @@
 //! The history of the rows of each key, and whether it has a point order.
-ghost use Rattle.std.specs.Prelude.{◌≡◌, ◌++◌, IfOk, OnOk};
-ghost use Rattle.reg_rulings.specs.Keys.{of_key, rows_of_key};
+ghost use Rattle.std.specs.Prelude.{◌≡◌, IfOk, OnOk};
+ghost use Rattle.reg_rulings.specs.Keys.{AreParts, GetsRow};
 ghost use Rattle.reg_rulings.specs.Standing.{IsStood};
 ghost use Rattle.reg_rulings.specs.Rulings.{AreRuled, IsRuled, RulesEntries};
 
@@ -22,29 +22,43 @@ pub enum Ruling {
     Not { at: u32 },
 }
 
-/// Adds the row, as if its key were the only one, where it is of this key.
-fn push_of_key<A: Allocator + Copy>(
-    part: &mut Vec<Row, A>,
-    key: u32,
-    row: &Row,
-) -> Result<(), AllocError>
-    ensures { OnOk result (part.new.items ≡ part.old.items ++ of_key key row.now) }
+/// Adds a row to the part of its key, as if that key were the only one. A row of no such key is left out.
+fn add_row<A: Allocator + Copy>(parts: &mut [Vec<Row, A>], row: Row) -> Result<(), AllocError>
+    ensures { OnOk result (GetsRow row parts.old parts.new) }
 {
-    if row.key == key {
-        part.push(Row { key: 0, ..*row })?;
+    match parts.get_mut(row.key as usize) {
+        Some(part) => part.push(Row { key: 0, ..row }),
+        None => Ok(()),
     }
-    Ok(())
 }
 
-/// The rows of a key, as if it were the only one.
-fn rows_at<A: Allocator + Copy>(alloc: A, key: u32, rows: &[Row]) -> Result<Vec<Row, A>, AllocError>
-    ensures { IfOk result (λ v. v.items ≡ rows_of_key key rows.now) }
+/// A part with no rows for each key.
+fn empty_parts<A: Allocator + Copy>(
+    alloc: A,
+    keys: u32,
+) -> Result<Vec<Vec<Row, A>, A>, AllocError>
+    ensures { IfOk result (λ v. AreParts keys [] v.items) }
 {
-    let mut part = Vec::new(alloc);
-    for row in rows {
-        push_of_key(&mut part, key, row)?;
+    let mut parts = Vec::new(alloc);
+    for _key in 0..keys {
+        parts.push(Vec::new(alloc))?;
     }
-    Ok(part)
+    Ok(parts)
+}
+
+/// The rows of each key, as if it were the only one.
+fn parts_of<A: Allocator + Copy>(
+    alloc: A,
+    keys: u32,
+    rows: &[Row],
+) -> Result<Vec<Vec<Row, A>, A>, AllocError>
+    ensures { IfOk result (λ v. AreParts keys rows.now v.items) }
+{
+    let mut parts = empty_parts(alloc, keys)?;
+    for row in rows {
+        add_row(&mut parts, *row)?;
+    }
+    Ok(parts)
 }
 
 /// The history of rows of one key, under any names.
@@ -101,10 +115,10 @@ pub fn rule_all<A: Allocator + Copy>(
 ) -> Result<Vec<Ruling, A>, RuleFault>
     ensures { IfOk result (λ v. AreRuled processes keys rows.now v.items) }
 {
+    let parts = parts_of(alloc, keys, rows)?;
     let mut rulings = Vec::new(alloc);
-    for key in 0..keys {
-        let part = rows_at(alloc, key, rows)?;
-        let ruling = rule(alloc, processes, &part)?;
+    for part in &parts {
+        let ruling = rule(alloc, processes, part)?;
         rulings.push(ruling)?;
     }
     Ok(rulings)

@@ -11,5 +11,5 @@ returns g c =
       stages = stages;
       each = λ j s at. stage_extends c.add_each.new.self.stages.items stages s.placed s.value c.in_ok-complete.ensures.extends (c.in_ok-add_each.ensures j s at);
       done = c.in_ok-complete.ensures.done c.if-not-branch.false;
-      kept = subst (λ (l : List Stage). Keeps c.args.process l c.in_ok-kept.kept.items) c.deref.ensures.value c.in_ok-kept.ensures;
+      kept = subst (λ (l : List Stage). Keeps c.args.at.process l c.in_ok-kept.kept.items) c.deref.ensures.value c.in_ok-kept.ensures;
     }
