@@ -14,4 +14,5 @@ pub mod PartFacts
 pub mod SameMemory
 pub mod Merging
 pub mod Locality
+pub mod Fronts
 pub mod Renaming

@@ -17,15 +17,15 @@ use Rattle.reg_judge.proofs.PartFacts.{answered_down, answered_up, called_down, 
 use Rattle.reg_judge.proofs.SameMemory.{Runs, calls_of, ops_of, right_of, runs_from, runs_part, runs_whole}
 
 -- they are two
-abbrev Differ : OpId → OpId → Type 0
+abbrev pub Differ : OpId → OpId → Type 0
 Differ a b = a ≢ b
 
-differ_from : (ids : List OpId) → IsDistinct ids → InOrder Differ ids
+pub differ_from : (ids : List OpId) → IsDistinct ids → InOrder Differ ids
 differ_from ids distinct i j a b here there lt same =
     let one = distinct i j b (subst (IsAt ids i) same here) there in
     omega (arith, lt, one)
 
-distinct_from : (ids : List OpId) → InOrder Differ ids → IsDistinct ids
+pub distinct_from : (ids : List OpId) → InOrder Differ ids → IsDistinct ids
 distinct_from ids differ i j id here there = elim (cases_order i j) [
   | inl same ↦ same
   | inr (inl lt) ↦ absurd (differ i j id id here there lt refl)

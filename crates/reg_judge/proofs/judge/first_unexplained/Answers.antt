@@ -1,4 +1,4 @@
-use Rattle.std.proofs.Common.{ap, length, refl}
+use Rattle.std.proofs.Common.{ap, length}
 use Rattle.reg_judge.proofs.Narrowing.{first_bounds, found_bounds}
 use Rattle.reg_judge.proofs.judge.first_unexplained.Goals as goal
 
