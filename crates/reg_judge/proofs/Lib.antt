@@ -15,4 +15,5 @@ pub mod SameMemory
 pub mod Merging
 pub mod Locality
 pub mod Fronts
+pub mod Unexplained
 pub mod Renaming

@@ -7,3 +7,4 @@ pub mod Wholes
 pub mod Reporting
 pub mod Judging
 pub mod Answering
+pub mod Firsts

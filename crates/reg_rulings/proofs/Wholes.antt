@@ -21,7 +21,7 @@ use Rattle.reg_rulings.specs.Standing.{IsStood}
 use Rattle.reg_rulings.proofs.Agreeing.{agree_alike, stood_agrees}
 
 module _ (naming : Naming) (processes keys : ℕ) (rows : List Row) (entries : List Entry) (stood : IsStood naming processes keys rows entries) where
-  part_alike : (key : ℕ) (alone : List Entry) → IsStood Any processes 1 (rows_of_key key rows) alone → AreAlike key 0 (part_at key entries) alone
+  pub part_alike : (key : ℕ) (alone : List Entry) → IsStood Any processes 1 (rows_of_key key rows) alone → AreAlike key 0 (part_at key entries) alone
   part_alike key alone s =
       agree_alike key stood.held (part_at key entries) s.held alone
       (stood_agrees naming Any processes key rows stood.held entries stood.places keys stood.stands stood.history (rows_of_key key rows) s.held alone s.stands refl s.places 1 s.history)

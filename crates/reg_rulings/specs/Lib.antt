@@ -4,3 +4,4 @@ pub mod Rulings
 pub mod Faults
 pub mod Reported
 pub mod Answers
+pub mod Firsts

@@ -1,7 +1,9 @@
 -- What is found out of a history. To be believed: promises speak of it.
-use Rattle.std.specs.Prelude.{ℕ, ◌≡◌, List, length, slice_get, Some, Result, Ok, Err, ⊤}
+use Rattle.std.specs.Prelude.{ℕ, ◌≡◌, ◌≤◌, List, length, slice_get, Some, Result, Ok, Err, ⊤}
 use Rattle.reg_base.specs.declared.memory.OpId.{OpId}
+use Rattle.reg_base.specs.declared.memory.Answer.{Answer}
 use Rattle.reg_checkers.specs.declared.entries.Entry.{Entry}
+use Rattle.reg_checkers.specs.declared.entries.Entry.TheVariants.{Answered}
 use Rattle.reg_checkers.specs.declared.entries.Point.{Point}
 use Rattle.reg_checkers.specs.History.{IsAt, event_of}
 use Rattle.reg_checkers.specs.Orders.{IsPointOrder, IsSerial}
@@ -11,6 +13,7 @@ use Rattle.reg_rulings.specs.declared.keys.Ruling.TheVariants.{Linearizable, Not
 use Rattle.reg_rulings.specs.declared.rows.Row.{Row}
 use Rattle.reg_rulings.specs.declared.search.Sought.{Sought}
 use Rattle.reg_rulings.specs.declared.search.Sought.TheVariants as sought
+use Rattle.reg_rulings.specs.declared.seats.Naming.{Naming}
 use Rattle.reg_rulings.specs.declared.seats.Naming.TheVariants.{Any}
 use Rattle.reg_rulings.specs.declared.serial.Serial.{Serial}
 use Rattle.reg_rulings.specs.declared.serial.Serial.TheVariants.{Yes, No, Unjudged, TooWide}
@@ -48,6 +51,20 @@ IsRuled processes rows ruling = (entries : List Entry) × IsStood Any processes 
 pub record AreRuled (processes keys : ℕ) (rows : List Row) (rulings : List Ruling) : Type 0 where
   pub all : length rulings ≡ keys
   pub each : (key : ℕ) (ruling : Ruling) → slice_get rulings key ≡ Some ruling → IsRuled processes (rows_of_key key rows) ruling
+
+-- what is found out of each register of a history, by rows that it stands for
+abbrev pub AreRulingsOf : ℕ → List Entry → List Ruling → Type 0
+AreRulingsOf registers entries rulings = (naming : Naming) × (processes : ℕ) × (rows : List Row) × IsStood naming processes registers rows entries × AreRuled processes registers rows rulings
+
+-- the earliest event of an answer that is found to be the first that none explains
+pub record IsFirstNot (rulings : List Ruling) (at : ℕ) : Type 0 where
+  pub key : ℕ
+  pub is : IsAt rulings key (Not at)
+  pub least : (other t : ℕ) → IsAt rulings other (Not t) → at ≤ t
+
+-- an answer of this event stands at the place
+abbrev pub IsAnswerAt : List Entry → ℕ → ℕ → Type 0
+IsAnswerAt entries at place = (id : OpId) × (answer : Answer) × IsAt entries place (Answered at id answer)
 
 -- of entries that have a serial order, and of those that have none
 abbrev pub RulesSerial : ℕ → List Entry → Serial → Type 0

@@ -6,6 +6,7 @@ mod answers;
 mod command;
 mod details;
 mod faults;
+mod firsts;
 mod history_rows;
 mod keys;
 pub mod laws;

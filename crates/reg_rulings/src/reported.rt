@@ -6,7 +6,7 @@ ghost use Rattle.reg_rulings.specs.Rulings.{IsSought, found_in};
 use crate::faults::RuleFault;
 use crate::history_rows::rows_of;
 use crate::keys::{Ruling, rule_all};
-use crate::search::{Sought, seek};
+use crate::search::{Sought, seek_by};
 use crate::serial::{Serial, seek_serial};
 use reg_checkers::History;
 use reg_history::Report;
@@ -51,9 +51,9 @@ pub fn judge_report<A: Allocator + Copy>(
 {
     let history = report.history();
     let shape = history.shape();
-    let sought = seek(alloc, history)?;
     let rows = rows_of(alloc, history)?;
     let rulings = rule_all(alloc, shape.processes() as usize, shape.registers(), &rows)?;
+    let sought = seek_by(alloc, history, &rulings)?;
     let serial = serial_of(alloc, history, &sought)?;
     Ok(Judgement {
         sought,

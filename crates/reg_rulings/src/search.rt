@@ -2,9 +2,11 @@
 ghost use Rattle.std.specs.Prelude.{◌≡◌, IfOk};
 ghost use Rattle.reg_checkers.specs.History.{IsAt, event_of as event_number};
 ghost use Rattle.reg_checkers.specs.declared.entries.Entry.{Entry as AnyEntry};
-ghost use Rattle.reg_rulings.specs.Rulings.{IsSought};
+ghost use Rattle.reg_rulings.specs.Rulings.{AreRulingsOf, IsSought};
 
 use crate::faults::RuleFault;
+use crate::firsts::first_unexplained;
+use crate::keys::Ruling;
 use reg_checkers::{Entry, History, Point};
 use reg_judge::{MOST_STAGES, PointsFault, judge_points};
 use std::alloc::Allocator;
@@ -58,5 +60,25 @@ pub fn seek<A: Allocator + Copy>(alloc: A, history: &History<A>) -> Result<Sough
         }),
         Err(PointsFault::Unchecked) => Err(RuleFault::Unchecked),
         Err(PointsFault::OutOfMemory) => Err(RuleFault::OutOfMemory),
+    }
+}
+
+/// A point order of a history, or the place of the first answer that none explains, by what was found out of each
+/// register. So the whole is searched only where each register by itself has a point order.
+///
+/// # Errors
+///
+/// As `seek`.
+pub(crate) fn seek_by<A: Allocator + Copy>(
+    alloc: A,
+    history: &History<A>,
+    rulings: &[Ruling],
+) -> Result<Sought<A>, RuleFault>
+    requires { AreRulingsOf history.now.shape.registers history.now.entries rulings.now }
+    ensures { IfOk result (IsSought history.now.shape.registers history.now.entries) }
+{
+    match first_unexplained(history.entries(), rulings) {
+        Some(place) => Ok(Sought::None { place }),
+        None => seek(alloc, history),
     }
 }
