@@ -1,5 +1,5 @@
 -- What stands in the history of a key's rows is alike to the key's part of the whole history.
-use Rattle.std.proofs.Common.{◌≡◌, ◌≢◌, ◌↔◌, inl, inr, ℕ, zero, suc, Bool, true, false, cond, ◌==◌, nat_eq, List, [], ◌∷◌, ◌++◌, length, get_or, set, slice_set, replicate, Option, Some, None, refl, ap, sym, ◌∙◌, subst, arith, append-nil}
+use Rattle.std.proofs.Common.{◌≡◌, ◌≢◌, ◌↔◌, inl, inr, ℕ, zero, suc, Bool, true, false, cond, ◌==◌, List, [], ◌∷◌, ◌++◌, length, get_or, set, slice_set, replicate, Option, Some, None, refl, ap, sym, ◌∙◌, subst, arith, append-nil}
 use Rattle.std.proofs.lemmas.Bool.{cases_eq, eq-eqb, eqb-true, false_from_ne_true}
 use Rattle.std.proofs.lemmas.Grind.{flat_map-append}
 use Rattle.std.proofs.lemmas.List.{get_or-set_same, get_or-set_other}
@@ -26,6 +26,7 @@ use Rattle.reg_rulings.specs.declared.seats.LastCall.{LastCall}
 use Rattle.reg_rulings.specs.declared.seats.Naming.{Naming}
 use Rattle.reg_rulings.specs.Keys.{of_key, rows_of_key}
 use Rattle.reg_rulings.specs.Standing.{OneMore, OneMore-by, Stands, Nothing, More, act_op, no_calls}
+use Rattle.reg_rulings.proofs.Keying.{key_here, key_off}
 use Rattle.reg_rulings.proofs.Linking.{AfterSet, after_set, alike_more, front_history, name_called, not_pushed, part_answer, part_call, same_pushed, zip_length}
 use Rattle.reg_rulings.proofs.Seating.{as_many, length_replicate}
 
@@ -214,12 +215,6 @@ Agrees named processes k rows held entries =
 
 key_push : (k : ℕ) (rows : List Row) (row : Row) → rows_of_key k (rows ++ row ∷ []) ≡ rows_of_key k rows ++ of_key k row
 key_push k rows row = flat_map-append (of_key k) rows (row ∷ []) ∙ ap (λ (l : List Row). rows_of_key k rows ++ l) (append-nil (of_key k row))
-
-key_here : (k : ℕ) (row : Row) → row.key ≡ k → of_key k row ≡ record row { key = 0 } ∷ []
-key_here k row is = ap (λ (b : Bool). cond b (record row { key = 0 } ∷ []) []) (eq-eqb row.key k is)
-
-key_off : (k : ℕ) (row : Row) → row.key ≢ k → of_key k row ≡ []
-key_off k row apart = ap (λ (b : Bool). cond b (record row { key = 0 } ∷ []) []) (false_from_ne_true (nat_eq row.key k) (λ is. apart (eqb-true row.key k is)))
 
 -- One row more. Up to the row before, each history of the rows of the key is alike to the part.
 module _ (named : Naming) (processes k : ℕ) (rows : List Row) (held : Seats) (entries : List Entry) (places registers : ℕ) (good : IsHistory places registers entries) (calls : AreCalls entries held) (many : length held ≡ processes) (agrees : Agrees named processes k rows held entries) where

@@ -1,8 +1,11 @@
 -- Steps of what is found out of each key.
-use Rattle.std.proofs.Common.{ℕ, ◌≡◌, ◌+◌, ◌<◌, ◌≤◌, ◌⊎◌, inl, inr, List, [], ◌∷◌, ◌++◌, length, drop, get_or, slice_get, Some, ap, sym, ◌∙◌, subst, append_assoc, append-nil, length-append, Vec}
+use Rattle.std.proofs.Common.{ℕ, set, Bool, cond, nat_eq, refl, ◌≢◌, ◌≡◌, ◌+◌, ◌<◌, ◌≤◌, ◌⊎◌, inl, inr, List, [], ◌∷◌, ◌++◌, length, drop, get_or, slice_get, Some, ap, sym, ◌∙◌, subst, append_assoc, append-nil, length-append, Vec, arith}
+use Rattle.std.proofs.lemmas.Bool.{cases_eq, eq-eqb, eqb-true, false_from_ne_true}
+use Rattle.std.proofs.lemmas.List.{length-set}
 use Rattle.reg_checkers.specs.declared.entries.Entry.{Entry}
 use Rattle.reg_checkers.specs.declared.entries.Entry.TheVariants.{Answered}
 use Rattle.reg_checkers.specs.History.{IsAt, event_of}
+use Rattle.reg_checkers.proofs.Places.{get_set_other, get_set_same, same_at, within}
 use Rattle.reg_checkers.proofs.Pushing.{at_push}
 use Rattle.reg_judge.specs.Judging.{HasPointOrder, IsFirstUnexplained}
 use Rattle.reg_rulings.specs.declared.keys.Ruling.{Ruling}
@@ -11,6 +14,13 @@ use Rattle.reg_rulings.specs.declared.rows.Row.{Row}
 use Rattle.reg_rulings.specs.Keys.{AreParts, GetsRow, of_key, rows_of_key}
 use Rattle.reg_rulings.specs.Rulings.{AreRuled, IsRuled, RulesEntries}
 use Rattle.reg_rulings.proofs.Lists.{from_here, past_end}
+
+-- the row of a key, and one of another key
+pub key_here : (k : ℕ) (row : Row) → row.key ≡ k → of_key k row ≡ record row { key = 0 } ∷ []
+key_here k row is = ap (λ (b : Bool). cond b (record row { key = 0 } ∷ []) []) (eq-eqb row.key k is)
+
+pub key_off : (k : ℕ) (row : Row) → row.key ≢ k → of_key k row ≡ []
+key_off k row apart = ap (λ (b : Bool). cond b (record row { key = 0 } ∷ []) []) (false_from_ne_true (nat_eq row.key k) (λ is. apart (eqb-true row.key k is)))
 
 pub key_more : (key i : ℕ) (rows : List Row) (d : Row) (whole old new : List Row) → i < length rows → old ++ rows_of_key key (drop i rows) ≡ whole → new ≡ old ++ of_key key (get_or rows i d) → new ++ rows_of_key key (drop (i + 1) rows) ≡ whole
 key_more key i rows d whole old new lt before is =
@@ -58,6 +68,32 @@ ruled_more processes keys rows old new ruling before one is = record {
         let K : ℕ → Type 0 = λ k. IsRuled processes (rows_of_key k rows) r in
         let R : Ruling → Type 0 = λ x. IsRuled processes (rows_of_key keys rows) x in
         subst K (sym (e ∙ before.all)) (subst R (sym same) one)
+
+-- a row is of no key
+pub gets_none : {A : Type 0} (row : Row) (parts : List (Vec Row A)) → length parts ≤ row.key → GetsRow row parts parts
+gets_none {A} row parts le = (refl, λ key part at. (part, at, sym (append-nil part.items) ∙ ap (λ (l : List Row). part.items ++ l) (sym (key_off key row (other key part at)))))
+  where
+    other : (key : ℕ) (part : Vec Row A) → IsAt parts key part → row.key ≢ key
+    other key part at e = let lt = within parts key part at in omega (arith, lt, le, e)
+
+-- the part of its key has a row more
+pub gets_row : {A : Type 0} (row : Row) (old : List (Vec Row A)) (was more : Vec Row A) → IsAt old row.key was → more.items ≡ was.items ++ record row { key = 0 } ∷ [] → GetsRow row old (set old row.key more)
+gets_row {A} row old was more here is = (length-set old row.key more, each)
+  where
+    each : (key : ℕ) (part : Vec Row A) → IsAt (set old row.key more) key part → (before : Vec Row A) × IsAt old key before × (part.items ≡ before.items ++ of_key key row)
+    each key part at = elim (cases_eq key row.key) [
+      | inl same ↦
+          let at_key : IsAt (set old row.key more) row.key part = subst (λ (k : ℕ). IsAt (set old row.key more) k part) same at in
+          let set_here : IsAt (set old row.key more) row.key more = get_set_same old row.key more (within old row.key was here) in
+          let one : part ≡ more = same_at (set old row.key more) row.key part more at_key set_here in
+          (was, subst (λ (k : ℕ). IsAt old k was) (sym same) here, ap (λ (v : Vec Row A). v.items) one ∙ is ∙ ap (λ (l : List Row). was.items ++ l) (sym (key_here key row (sym same))))
+      | inr apart ↦
+          (part, sym (get_set_other old row.key key more apart) ∙ at, sym (append-nil part.items) ∙ ap (λ (l : List Row). part.items ++ l) (sym (key_off key row (λ e. apart (sym e)))))
+    ]
+
+-- all keys
+pub ruled_to : (processes i n keys : ℕ) (rows : List Row) (rulings : List Ruling) → n ≤ i → i ≤ n → n ≡ keys → AreRuled processes i rows rulings → AreRuled processes keys rows rulings
+ruled_to processes i n keys rows rulings low high all are = subst (λ (k : ℕ). AreRuled processes k rows rulings) (omega (arith, low, high, all)) are
 
 pub ruled_none : (processes : ℕ) (rows : List Row) (rulings : List Ruling) → rulings ≡ [] → AreRuled processes 0 rows rulings
 ruled_none processes rows rulings e = record { all = ap length e; each = λ key r at. absurd (none key r (ap (λ l. slice_get l key) (sym e) ∙ at)) }

@@ -7,4 +7,4 @@ pub mod Wholes
 pub mod Reporting
 pub mod Judging
 pub mod Answering
-pub mod Firsts
+pub mod Earliest

@@ -13,7 +13,6 @@ use Rattle.reg_rulings.specs.declared.keys.Ruling.TheVariants.{Linearizable, Not
 use Rattle.reg_rulings.specs.declared.rows.Row.{Row}
 use Rattle.reg_rulings.specs.declared.search.Sought.{Sought}
 use Rattle.reg_rulings.specs.declared.search.Sought.TheVariants as sought
-use Rattle.reg_rulings.specs.declared.seats.Naming.{Naming}
 use Rattle.reg_rulings.specs.declared.seats.Naming.TheVariants.{Any}
 use Rattle.reg_rulings.specs.declared.serial.Serial.{Serial}
 use Rattle.reg_rulings.specs.declared.serial.Serial.TheVariants.{Yes, No, Unjudged, TooWide}
@@ -51,10 +50,6 @@ IsRuled processes rows ruling = (entries : List Entry) × IsStood Any processes 
 pub record AreRuled (processes keys : ℕ) (rows : List Row) (rulings : List Ruling) : Type 0 where
   pub all : length rulings ≡ keys
   pub each : (key : ℕ) (ruling : Ruling) → slice_get rulings key ≡ Some ruling → IsRuled processes (rows_of_key key rows) ruling
-
--- what is found out of each register of a history, by rows that it stands for
-abbrev pub AreRulingsOf : ℕ → List Entry → List Ruling → Type 0
-AreRulingsOf registers entries rulings = (naming : Naming) × (processes : ℕ) × (rows : List Row) × IsStood naming processes registers rows entries × AreRuled processes registers rows rulings
 
 -- the earliest event of an answer that is found to be the first that none explains
 pub record IsFirstNot (rulings : List Ruling) (at : ℕ) : Type 0 where

@@ -1,5 +1,5 @@
 //! The history of the rows of each key, and whether it has a point order.
-ghost use Rattle.std.specs.Prelude.{◌≡◌, IfOk, OnOk};
+ghost use Rattle.std.specs.Prelude.{◌≡◌, [], IfOk, OnOk};
 ghost use Rattle.reg_rulings.specs.Keys.{AreParts, GetsRow};
 ghost use Rattle.reg_rulings.specs.Standing.{IsStood};
 ghost use Rattle.reg_rulings.specs.Rulings.{AreRuled, IsRuled, RulesEntries};
@@ -23,20 +23,18 @@ pub enum Ruling {
 }
 
 /// Adds a row to the part of its key, as if that key were the only one. A row of no such key is left out.
-fn add_row<A: Allocator + Copy>(parts: &mut [Vec<Row, A>], row: Row) -> Result<(), AllocError>
-    ensures { OnOk result (GetsRow row parts.old parts.new) }
+fn add_row<A: Allocator + Copy>(parts: &mut Vec<Vec<Row, A>, A>, row: Row) -> Result<(), AllocError>
+    ensures { OnOk result (GetsRow row parts.old.items parts.new.items) }
 {
-    match parts.get_mut(row.key as usize) {
-        Some(part) => part.push(Row { key: 0, ..row }),
-        None => Ok(()),
+    let key = row.key as usize;
+    if key < parts.len() {
+        parts[key].push(Row { key: 0, ..row })?;
     }
+    Ok(())
 }
 
 /// A part with no rows for each key.
-fn empty_parts<A: Allocator + Copy>(
-    alloc: A,
-    keys: u32,
-) -> Result<Vec<Vec<Row, A>, A>, AllocError>
+fn empty_parts<A: Allocator + Copy>(alloc: A, keys: u32) -> Result<Vec<Vec<Row, A>, A>, AllocError>
     ensures { IfOk result (λ v. AreParts keys [] v.items) }
 {
     let mut parts = Vec::new(alloc);

@@ -2,7 +2,8 @@
 ghost use Rattle.std.specs.Prelude.{◌≡◌, IfOk};
 ghost use Rattle.reg_checkers.specs.History.{IsAt, event_of as event_number};
 ghost use Rattle.reg_checkers.specs.declared.entries.Entry.{Entry as AnyEntry};
-ghost use Rattle.reg_rulings.specs.Rulings.{AreRulingsOf, IsSought};
+ghost use Rattle.reg_rulings.specs.Reported.{AreRulingsOf};
+ghost use Rattle.reg_rulings.specs.Rulings.{IsSought};
 
 use crate::faults::RuleFault;
 use crate::firsts::first_unexplained;
@@ -74,7 +75,7 @@ pub(crate) fn seek_by<A: Allocator + Copy>(
     history: &History<A>,
     rulings: &[Ruling],
 ) -> Result<Sought<A>, RuleFault>
-    requires { AreRulingsOf history.now.shape.registers history.now.entries rulings.now }
+    requires { AreRulingsOf history.now.shape.processes history.now.shape.registers history.now.entries rulings.now }
     ensures { IfOk result (IsSought history.now.shape.registers history.now.entries) }
 {
     match first_unexplained(history.entries(), rulings) {
