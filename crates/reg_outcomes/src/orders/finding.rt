@@ -1,6 +1,6 @@
 //! Orders of a history, found or proved not to exist: operations are placed one after another (Wing and Gong 1993), and
 //! each stage from which no order goes on is kept, so that it is tried once (Lowe 2017).
-ghost use Rattle.std.specs.Prelude.{◌≡◌, ℕ, List, ◌≤◌, MatchOption, IfOk, IfErr, IfSome, IsTrue};
+ghost use Rattle.std.specs.Prelude.{◌≡◌, ℕ, List, ◌≤◌, MatchBool, MatchOption, IfOk, IfErr, IfSome, IsTrue};
 ghost use Rattle.reg_base.specs.declared.memory.Op.{Op as AnyOp};
 ghost use Rattle.reg_base.specs.declared.memory.OpId.{OpId as AnyId};
 ghost use Rattle.reg_base.specs.declared.limits.TheConstants.{LAST_EVENT};
@@ -10,6 +10,7 @@ ghost use Rattle.reg_checkers.specs.Orders.{IsPointOrder, IsSerial};
 ghost use Rattle.reg_outcomes.specs.Finding.{IsFindFault, IsSearchFault};
 ghost use Rattle.reg_outcomes.specs.Forced.{AreForced};
 ghost use Rattle.reg_outcomes.specs.Guiding.{IsGuide};
+ghost use Rattle.reg_outcomes.specs.Interleavings.{first_stage};
 ghost use Rattle.reg_outcomes.specs.Layers.{stage_of};
 ghost use Rattle.reg_outcomes.specs.Losing.{AreUses};
 ghost use Rattle.reg_outcomes.specs.Placing.{ArePointsOf, IsComplete, IsOrder};
@@ -151,6 +152,52 @@ fn go_on<A: Allocator + Copy>(
     }
 }
 
+/// Places operations and takes them back until all finished ones are placed, or there is no order. Whether all are
+/// placed.
+fn walk_on<A: Allocator + Copy>(
+    alloc: A,
+    finder: &Finder<'_, A>,
+    guide: &Guide<A>,
+    walk: &mut Walk<A>,
+    failed: &mut Failed<A>,
+) -> Result<bool, InterleavingFault>
+    requires few { finder.now.shape.processes ≤ 64 }
+    requires history { IsHistory finder.now.shape.processes finder.now.shape.registers finder.now.entries }
+    requires guide { IsGuide finder.now guide.now }
+    requires search { IsSearch finder.now walk.old failed.old }
+    ensures placed { IfOk result (λ all. MatchBool all (IsSearch finder.now walk.new failed.new × IsComplete finder.now.entries walk.new.stage.next.items) (¬ Goes finder.now.kind finder.now.entries (first_stage finder.now.shape.processes finder.now.shape.registers))) }
+    ensures refused { IfErr result (IsFindFault finder.now.kind finder.now.shape.processes finder.now.shape.registers finder.now.entries finder.now.limit) }
+{
+    'turns: loop {
+        match go_on(alloc, finder, guide, walk, failed)? {
+            Turn::On => {}
+            Turn::Complete => return Ok(true),
+            Turn::Over => return Ok(false),
+        }
+    }
+}
+
+/// The ids of the operations in an order that places all finished ones, by a guide, None where there is none.
+fn ids_guided<A: Allocator + Copy>(
+    alloc: A,
+    finder: &Finder<'_, A>,
+    guide: &Guide<A>,
+) -> Result<Option<Vec<OpId, A>>, InterleavingFault>
+    requires history { IsHistory finder.now.shape.processes finder.now.shape.registers finder.now.entries }
+    requires guide { IsGuide finder.now guide.now }
+    ensures found { IfOk result (λ o. MatchOption o ((ids : List AnyId) → ¬ IsOrder finder.now.kind finder.now.shape.registers finder.now.entries ids) (λ v. IsOrder finder.now.kind finder.now.shape.registers finder.now.entries v.items)) }
+    ensures refused { IfErr result (IsFindFault finder.now.kind finder.now.shape.processes finder.now.shape.registers finder.now.entries finder.now.limit) }
+{
+    let shape = finder.shape();
+    let mut walk = Walk::new(alloc, shape.processes() as usize, shape.registers() as u16)?;
+    let mut failed = Failed::new(alloc, finder.limit());
+    if walk_on(alloc, finder, guide, &mut walk, &mut failed)? {
+        Ok(Some(walk.ids(alloc)?))
+    } else {
+        Ok(None)
+    }
+}
+
 /// The ids of the operations in an order that places all finished ones, None where there is none.
 fn ids_found<A: Allocator + Copy>(
     alloc: A,
@@ -162,18 +209,9 @@ fn ids_found<A: Allocator + Copy>(
     ensures found { IfOk result (λ o. MatchOption o ((ids : List AnyId) → ¬ IsOrder finder.now.kind finder.now.shape.registers finder.now.entries ids) (λ v. IsOrder finder.now.kind finder.now.shape.registers finder.now.entries v.items)) }
     ensures refused { IfErr result (IsFindFault finder.now.kind finder.now.shape.processes finder.now.shape.registers finder.now.entries finder.now.limit) }
 {
-    let shape = finder.shape();
-    let mut walk = Walk::new(alloc, shape.processes() as usize, shape.registers() as u16)?;
-    let mut failed = Failed::new(alloc, finder.limit());
     let uses = Uses::new(alloc, finder)?;
     let guide = Guide { uses, before };
-    'turns: loop {
-        match go_on(alloc, finder, &guide, &mut walk, &mut failed)? {
-            Turn::On => {}
-            Turn::Complete => return Ok(Some(walk.ids(alloc)?)),
-            Turn::Over => return Ok(None),
-        }
-    }
+    ids_guided(alloc, finder, &guide)
 }
 
 /// The ids of the operations in a point order, None where there is none.
@@ -187,6 +225,28 @@ fn ids_by_points<A: Allocator + Copy>(
 {
     let points = Finder::new(alloc, history, OrderKind::Points, limit)?;
     ids_found(alloc, &points, None)
+}
+
+/// The ids of the operations in a serial order, None where there is none.
+fn serial_found<A: Allocator + Copy>(
+    alloc: A,
+    history: &History<A>,
+    finder: &Finder<'_, A>,
+) -> Result<Option<Vec<OpId, A>>, InterleavingFault>
+    requires kind { finder.now.kind ≡ OrderKind.Serial }
+    requires shape { finder.now.shape ≡ history.now.shape }
+    requires entries { finder.now.entries ≡ history.now.entries }
+    requires in_place { IsHistory finder.now.shape.processes finder.now.shape.registers finder.now.entries }
+    ensures found { IfOk result (λ o. MatchOption o ((ids : List AnyId) → ¬ IsSerial history.now.shape.registers history.now.entries ids) (λ v. IsSerial history.now.shape.registers history.now.entries v.items)) }
+    ensures refused { IfErr result (IsSearchFault history.now.shape.processes history.now.shape.registers history.now.entries finder.now.limit) }
+{
+    match outlook_of(alloc, finder)? {
+        Outlook::Torn => Ok(None),
+        Outlook::Open(before) => match ids_by_points(alloc, history, finder.limit())? {
+            Some(ids) => Ok(Some(ids)),
+            None => ids_found(alloc, finder, before),
+        },
+    }
 }
 
 /// A serial order of a history, None where there is none (sequential consistency, Lamport 1979). Operations are placed
@@ -209,13 +269,7 @@ pub fn find_serial<A: Allocator + Copy>(
     ensures refused { IfErr result (IsSearchFault history.now.shape.processes history.now.shape.registers history.now.entries limit) }
 {
     let finder = Finder::new(alloc, history, OrderKind::Serial, limit)?;
-    match outlook_of(alloc, &finder)? {
-        Outlook::Torn => Ok(None),
-        Outlook::Open(before) => match ids_by_points(alloc, history, limit)? {
-            Some(ids) => Ok(Some(ids)),
-            None => ids_found(alloc, &finder, before),
-        },
-    }
+    serial_found(alloc, history, &finder)
 }
 
 /// The event of a call that the history has.
@@ -248,6 +302,23 @@ fn points_of<A: Allocator + Copy>(
     Ok(points)
 }
 
+/// The points of an order that places all finished operations, None where there is none.
+fn points_found<A: Allocator + Copy>(
+    alloc: A,
+    finder: &Finder<'_, A>,
+) -> Result<Option<Vec<Point, A>>, InterleavingFault>
+    requires kind { finder.now.kind ≡ OrderKind.Points }
+    requires history { IsHistory finder.now.shape.processes finder.now.shape.registers finder.now.entries }
+    ensures found { IfOk result (λ o. MatchOption o ((points : List AnyPoint) → ¬ IsPointOrder finder.now.shape.registers finder.now.entries points) (λ v. IsPointOrder finder.now.shape.registers finder.now.entries v.items)) }
+    ensures events { IfOk result (λ o. IfSome o (λ v. (k : ℕ) (p : AnyPoint) → IsAt v.items k p → p.at ≤ LAST_EVENT)) }
+    ensures refused { IfErr result (IsFindFault finder.now.kind finder.now.shape.processes finder.now.shape.registers finder.now.entries finder.now.limit) }
+{
+    match ids_found(alloc, finder, None)? {
+        Some(ids) => Ok(Some(points_of(alloc, finder, &ids)?)),
+        None => Ok(None),
+    }
+}
+
 /// A point order of a history, None where there is none (linearizability, Herlihy and Wing 1990). Operations are placed
 /// one after another, each only once all that were answered before its call are placed (Wing and Gong 1993), and each
 /// stage from which no order goes on is kept (Lowe 2017). No clause says how the search goes.
@@ -265,8 +336,5 @@ pub fn find_points<A: Allocator + Copy>(
     ensures refused { IfErr result (IsFindFault OrderKind.Points history.now.shape.processes history.now.shape.registers history.now.entries limit) }
 {
     let finder = Finder::new(alloc, history, OrderKind::Points, limit)?;
-    let Some(ids) = ids_found(alloc, &finder, None)? else {
-        return Ok(None);
-    };
-    Ok(Some(points_of(alloc, &finder, &ids)?))
+    points_found(alloc, &finder)
 }

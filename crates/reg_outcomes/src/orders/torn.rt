@@ -217,6 +217,32 @@ fn most_passes<A: Allocator + Copy>(finder: &Finder<'_, A>) -> usize {
     MOST_PASSES.min(MOST_WORK / work.max(1))
 }
 
+/// Goes over the history, at most so often, until nothing is news. Whether some operation comes before itself.
+fn is_torn<A: Allocator + Copy>(
+    finder: &Finder<'_, A>,
+    makers: &Makers<A>,
+    changes: &Changes<A>,
+    before: &mut Before<A>,
+    passes: usize,
+) -> bool
+    requires history { IsHistory finder.now.shape.processes finder.now.shape.registers finder.now.entries }
+    requires makers { AreMakers finder.now.entries makers.now }
+    requires forced { AreForced finder.now before.old.counts.items }
+    ensures torn { IsTrue result → (ids : List AnyId) → ¬ IsSerial finder.now.shape.registers finder.now.entries ids }
+    ensures forced { AreForced finder.now before.new.counts.items }
+{
+    for _pass in 0..passes {
+        let news = go_over(finder, makers, changes, before);
+        if has_circle(finder, before) {
+            return true;
+        }
+        if !news {
+            return false;
+        }
+    }
+    false
+}
+
 /// What comes before each operation in each serial order of the history, as far as the own order of each process tells
 /// it, and what reads, swaps and compare-and-swaps found. It is no search: the time grows with the operations, times
 /// the processes. That a history is not torn says nothing; it is all that is said of a very large one.
@@ -234,14 +260,9 @@ pub(crate) fn outlook_of<A: Allocator + Copy>(
     let makers = makers_of(alloc, finder)?;
     let changes = changes_of(alloc, finder)?;
     let mut before = Before::new(alloc, finder)?;
-    for _pass in 0..passes {
-        let news = go_over(finder, &makers, &changes, &mut before);
-        if has_circle(finder, &before) {
-            return Ok(Outlook::Torn);
-        }
-        if !news {
-            break;
-        }
+    if is_torn(finder, &makers, &changes, &mut before, passes) {
+        Ok(Outlook::Torn)
+    } else {
+        Ok(Outlook::Open(Some(before)))
     }
-    Ok(Outlook::Open(Some(before)))
 }

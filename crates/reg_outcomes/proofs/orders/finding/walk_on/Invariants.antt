@@ -1,5 +1,5 @@
 use Rattle.reg_outcomes.specs.Searching.{IsSearch, left_of}
-use Rattle.reg_outcomes.proofs.orders.finding.ids_found.Given as goal
+use Rattle.reg_outcomes.proofs.orders.finding.walk_on.Given as goal
 
 -- what was tried and what failed leads to no order
 abbrev pub invariant-turns : goal.invariant-turns
