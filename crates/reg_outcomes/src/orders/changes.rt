@@ -11,51 +11,43 @@ use std::alloc::{AllocError, Allocator, Global};
 /// these has a list of its own.
 #[derive(Drop)]
 pub(crate) struct Changes<A: Allocator + Copy = Global> {
-    /// By process and register: the numbers of the operations, in order.
-    numbers: Vec<Vec<Vec<u32, A>, A>, A>,
+    registers: u16,
+    /// Of each process, register by register: the numbers of the operations, in order.
+    numbers: Vec<Vec<u32, A>, A>,
 }
 
-/// No changes of a process.
-fn row_of<A: Allocator + Copy>(
-    alloc: A,
-    registers: usize,
-) -> Result<Vec<Vec<u32, A>, A>, AllocError> {
-    let mut row = Vec::with_capacity(alloc, registers)?;
-    for _register in 0..registers {
-        row.push(Vec::new(alloc))?;
-    }
-    Ok(row)
+/// The place of a process's register among those of all processes.
+fn place_of(process: u8, register: u16, registers: u16) -> usize {
+    usize::from(process) * usize::from(registers) + usize::from(register)
 }
 
 impl<A: Allocator + Copy> Changes<A> {
     /// No changes.
     fn new(alloc: A, finder: &Finder<'_, A>) -> Result<Changes<A>, AllocError> {
         let shape = finder.shape();
-        let mut numbers = Vec::new(alloc);
-        for _process in 0..shape.processes() {
-            numbers.push(row_of(alloc, shape.registers() as usize)?)?;
+        let processes = shape.processes() as u8;
+        let registers = shape.registers() as u16;
+        let lists = place_of(processes, 0, registers);
+        let mut numbers = Vec::with_capacity(alloc, lists)?;
+        for _list in 0..lists {
+            numbers.push(Vec::new(alloc))?;
         }
-        Ok(Changes { numbers })
+        Ok(Changes { registers, numbers })
     }
 
     /// Notes that an operation changes a register, later than those of its process that are noted.
     fn note(&mut self, id: OpId, register: u16) -> Result<(), AllocError> {
-        let Some(row) = self.numbers.get_mut(usize::from(id.process)) else {
-            return Ok(());
-        };
-        let Some(numbers) = row.get_mut(usize::from(register)) else {
-            return Ok(());
-        };
-        numbers.push(id.number)?;
+        let place = place_of(id.process, register, self.registers);
+        if let Some(numbers) = self.numbers.get_mut(place) {
+            numbers.push(id.number)?;
+        }
         Ok(())
     }
 
     /// The numbers of the operations of a process that change a register, in order.
     pub(crate) fn of(&self, process: u8, register: u16) -> &[u32] {
-        let Some(row) = self.numbers.get(usize::from(process)) else {
-            return &[];
-        };
-        match row.get(usize::from(register)) {
+        let place = place_of(process, register, self.registers);
+        match self.numbers.get(place) {
             Some(numbers) => numbers,
             None => &[],
         }
@@ -64,9 +56,13 @@ impl<A: Allocator + Copy> Changes<A> {
 
 /// The register that an operation surely changes, if any.
 fn changed_by<A: Allocator + Copy>(finder: &Finder<'_, A>, id: OpId) -> Option<u16> {
-    let fact = finder.fact(id)?;
-    left_by(fact)?;
-    Some(fact.op.register())
+    let Some(fact) = finder.fact(id) else {
+        return None;
+    };
+    match left_by(fact) {
+        Some(_) => Some(fact.op.register()),
+        None => None,
+    }
 }
 
 /// Notes the change that the operation of an entry makes, if it is a call.
@@ -111,17 +107,28 @@ fn count_below(numbers: &[u32], bound: u32) -> usize {
     low
 }
 
+/// The operation of a process at this place of these, None past the last.
+fn change_at(numbers: &[u32], process: u8, place: usize) -> Option<OpId> {
+    match numbers.get(place) {
+        Some(number) => Some(OpId {
+            process,
+            number: *number,
+        }),
+        None => None,
+    }
+}
+
 /// The last of these operations of a process among so many first ones.
 pub(crate) fn last_change(numbers: &[u32], process: u8, count: u32) -> Option<OpId> {
-    let place = count_below(numbers, count).checked_sub(1)?;
-    let number = *numbers.get(place)?;
-    Some(OpId { process, number })
+    let Some(place) = count_below(numbers, count).checked_sub(1) else {
+        return None;
+    };
+    change_at(numbers, process, place)
 }
 
 /// The first of these operations of a process.
 pub(crate) fn first_change(numbers: &[u32], process: u8) -> Option<OpId> {
-    let number = *numbers.first()?;
-    Some(OpId { process, number })
+    change_at(numbers, process, 0)
 }
 
 /// The first of these operations of a process that comes after an operation.
@@ -142,6 +149,5 @@ pub(crate) fn change_after<A: Allocator + Copy>(
             low = middle + 1;
         }
     }
-    let number = *numbers.get(low)?;
-    Some(OpId { process, number })
+    change_at(numbers, process, low)
 }

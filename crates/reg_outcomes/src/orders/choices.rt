@@ -139,8 +139,10 @@ fn offer<A: Allocator + Copy>(
     if has(tried, process) {
         return None;
     }
-    let fact = placeable(finder, stage, process)?;
-    Some(choice_of(process, fact, tried))
+    match placeable(finder, stage, process) {
+        Some(fact) => Some(choice_of(process, fact, tried)),
+        None => None,
+    }
 }
 
 /// The choice of the lesser rank, if any.

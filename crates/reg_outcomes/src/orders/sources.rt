@@ -102,7 +102,9 @@ pub(crate) fn reader_of<A: Allocator + Copy>(
     requires { AreMakers finder.now.entries makers.now }
     ensures { IfSome result (IsReader finder.now.entries) }
 {
-    let value = asked_by(finder, id)?;
+    let Some(value) = asked_by(finder, id) else {
+        return None;
+    };
     Some(Reader {
         id,
         value,

@@ -111,10 +111,16 @@ fn note_maker<A: Allocator + Copy>(makers: &mut Lasts<A>, entry: Entry) -> Resul
 pub(crate) fn asked_by<A: Allocator + Copy>(finder: &Finder<'_, A>, id: OpId) -> Option<(u16, u64)>
     ensures { IfSome result (λ v. IsAsker finder.now.entries (id.process, v) id.number) }
 {
-    let fact = finder.fact(id)?;
-    let given = fact.answered?;
-    let value = asked(fact.op, given.answer)?;
-    Some((fact.op.register(), value))
+    let Some(fact) = finder.fact(id) else {
+        return None;
+    };
+    let Some(given) = fact.answered else {
+        return None;
+    };
+    match asked(fact.op, given.answer) {
+        Some(value) => Some((fact.op.register(), value)),
+        None => None,
+    }
 }
 
 /// Notes the value that the operation of an entry has to find, if it is an answer.

@@ -93,8 +93,10 @@ impl<A: Allocator + Copy> Walk<A> {
 
     /// The register that the last operation named, and the value that it had before. None before the first operation.
     pub(crate) fn replaced(&self) -> Option<(u16, u64)> {
-        let step = self.path.last()?;
-        Some((step.register, step.before))
+        match self.path.last() {
+            Some(step) => Some((step.register, step.before)),
+            None => None,
+        }
     }
 
     /// The operations that were placed.
