@@ -1,5 +1,5 @@
 -- What is known to come before each operation of a history, as it grows.
-use Rattle.std.proofs.Common.{◌≡◌, ◌≢◌, inl, inr, ℕ, zero, suc, ◌+◌, ◌<◌, ◌≤◌, Bool, true, false, cond, List, [], ◌∷◌, ◌++◌, length, Option, Some, None, IfSome, MatchOption, option_and_then, slice_get, refl, ap, ap₂, sym, ◌∙◌, subst, arith}
+use Rattle.std.proofs.Common.{◌≡◌, ◌≢◌, inl, inr, ℕ, zero, suc, ◌+◌, ◌<◌, ◌≤◌, Bool, true, false, cond, List, [], ◌∷◌, ◌++◌, length, Option, Some, None, IfSome, MatchOption, option_and_then, replicate, slice_get, refl, ap, ap₂, sym, ◌∙◌, subst, arith}
 use Rattle.std.specs.Prelude.{◌==◌, ◌&&◌, slice_index}
 use Rattle.std.specs.BTreeMap.{Updates, get, is_at}
 use Rattle.std.specs.declared.cmp.Ordering.{Ordering}
@@ -7,7 +7,7 @@ use Rattle.std.specs.declared.cmp.Ordering.TheVariants.{Less, Equal, Greater}
 use Rattle.std.specs.Ordering.{is_eq, nat_cmp}
 use Rattle.std.proofs.lemmas.Bool.{cases_Bool, cases_eq, eq-eqb}
 use Rattle.std.proofs.lemmas.Map.Lookups.{exact_unsigned, exact_pairs}
-use Rattle.std.proofs.lemmas.Option.{none-some, same_Some}
+use Rattle.std.proofs.lemmas.Option.{get_or_from_slice_get, none-some, same_Some}
 use Rattle.reg_base.specs.declared.memory.OpId.{OpId}
 use Rattle.reg_base.specs.declared.memory.Answer.{Answer}
 use Rattle.reg_base.specs.Memory.{Memory, after, answer_of, register_of}
@@ -19,17 +19,17 @@ use Rattle.reg_checkers.specs.Facts.{IsFactOf}
 use Rattle.reg_checkers.specs.History.{IsAnswered, IsAt, IsFinished}
 use Rattle.reg_checkers.specs.Progress.{op_of}
 use Rattle.reg_checkers.proofs.Places.{same_at, within}
-use Rattle.reg_checkers.proofs.Pushing.{at_push}
 use Rattle.reg_outcomes.specs.declared.orders.sources.Maker.{Maker}
 use Rattle.reg_outcomes.specs.declared.orders.sources.Reader.{Reader}
 use Rattle.reg_outcomes.specs.Forced.{AreCalledTo, AreForced, AreMakers, AreNone, Comes, Counts, Covers, HasMaker, IsMaker, IsMakerCalled, IsOnlyMaker, IsReader, Makers, Overwrites}
 use Rattle.reg_outcomes.specs.Losing.{IsAsker, value_cmp}
 use Rattle.reg_outcomes.specs.Sought.{Sought}
+use Rattle.reg_outcomes.proofs.Elements.{none_at_first}
 use Rattle.reg_outcomes.proofs.Forced.{comes_through, own_comes}
 
--- a list of noughts with one more
-pub noughts_more : (xs ys : List ℕ) → ys ≡ xs ++ 0 ∷ [] → ((n k : ℕ) → slice_get xs n ≡ Some k → k ≡ 0) → (n k : ℕ) → slice_get ys n ≡ Some k → k ≡ 0
-noughts_more xs ys is all n k here = elim (at_push xs n 0 k (subst (λ (l : List ℕ). slice_get l n ≡ Some k) is here)) [ inl old ↦ all n k old | inr new ↦ new.1 ]
+-- each of a list of noughts
+pub noughts : (count : ℕ) (xs : List ℕ) → xs ≡ replicate count 0 → (n k : ℕ) → slice_get xs n ≡ Some k → k ≡ 0
+noughts count xs is n k here = sym (get_or_from_slice_get xs n k 0 here) ∙ ap (λ (l : List ℕ). slice_index l n) is ∙ none_at_first count n
 
 -- a list of which nothing is read but nought, with one more
 none_more : {X : Type 0} (f : X → Option ℕ) (xs : List X) (x : X) (p : ℕ) → ((k : ℕ) → f x ≡ Some k → k ≡ 0) → ((k : ℕ) → option_and_then f (slice_get xs p) ≡ Some k → k ≡ 0)

@@ -158,7 +158,11 @@ pub fn count_operations<A: Allocator + Copy>(scripts: &[Vec<Op, A>]) -> usize
     requires { sum_by length (map (λ v. v.items) scripts.now) < 2 ^ 64 }
     ensures { result ≡ sum_by length (map (λ v. v.items) scripts.now) }
 {
-    scripts.iter().map(|script| script.len()).sum()
+    let mut count = 0;
+    for script in scripts {
+        count += script.len();
+    }
+    count
 }
 
 /// All stages at which the scripts are used up, and how many stages there are with those on the way.

@@ -59,6 +59,13 @@ fn tell<A: Allocator + Copy>(
     Ok(())
 }
 
+/// The operation of this number in a script, None where it has no more.
+fn op_at(script: &[Op], number: u32) -> Option<Op>
+    ensures { result ≡ slice_get script.now number }
+{
+    script.get(number as usize).copied()
+}
+
 impl<A: Allocator + Copy> Stage<A> {
     /// The stage at which no operation is done.
     pub(crate) fn first(alloc: A, processes: usize, registers: u16) -> Result<Stage<A>, AllocError>
@@ -87,7 +94,7 @@ impl<A: Allocator + Copy> Stage<A> {
         ensures { result ≡ slice_get (script_of (map (λ v. v.items) scripts.now) process) (slice_index self.now.next.items process) }
     {
         let number = self.next[usize::from(process)];
-        scripts[usize::from(process)].get(number as usize).copied()
+        op_at(&scripts[usize::from(process)], number)
     }
 
     /// The stage after a process did this operation, its next one, where this is told.

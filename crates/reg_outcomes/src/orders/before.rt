@@ -1,9 +1,9 @@
 //! What has to come before each operation of a history.
-ghost use Rattle.std.specs.Prelude.{◌≡◌, ◌<◌, ◌⊎◌, ℕ, IfOk, IsSome, IsTrue, Some};
+ghost use Rattle.std.specs.Prelude.{◌≡◌, ◌<◌, ◌⊎◌, ℕ, IfOk, IsSome, IsTrue, Some, option_and_then, slice_get};
 ghost use Rattle.reg_base.specs.declared.memory.OpId.{OpId as AnyId};
 ghost use Rattle.reg_checkers.specs.History.{IsFinished};
 ghost use Rattle.reg_checkers.specs.Progress.{op_of};
-ghost use Rattle.reg_outcomes.specs.Forced.{AreForced, AreNone, Comes, IsNoneColumn, IsNoneRow, count_in};
+ghost use Rattle.reg_outcomes.specs.Forced.{AreForced, AreNone, Comes, IsNoneColumn, IsNoneRow, column_at, count_in};
 ghost use Rattle.reg_outcomes.specs.Sought.{Sought as AnySought};
 
 use crate::orders::finder::Finder;
@@ -24,11 +24,7 @@ pub(crate) struct Before<A: Allocator + Copy = Global> {
 fn column_of<A: Allocator + Copy>(alloc: A, calls: usize) -> Result<Vec<u32, A>, AllocError>
     ensures { IfOk result IsNoneColumn }
 {
-    let mut column = Vec::with_capacity(alloc, calls)?;
-    for _number in 0..calls {
-        column.push(0)?;
-    }
-    Ok(column)
+    vec![in alloc; 0; calls]
 }
 
 /// The counts of none of a process.
@@ -44,6 +40,23 @@ fn row_of<A: Allocator + Copy>(
         row.push(column_of(alloc, calls)?)?;
     }
     Ok(row)
+}
+
+/// The count of this number in a column, None where it has none.
+fn count_at(column: &[u32], number: u32) -> Option<u32>
+    ensures { result ≡ slice_get column.now number }
+{
+    column.get(number as usize).copied()
+}
+
+/// The count of this process and number in a row, None where it has none.
+fn count_of<A: Allocator + Copy>(row: &[Vec<u32, A>], process: u8, number: u32) -> Option<u32>
+    ensures { result ≡ option_and_then (column_at number) (slice_get row.now process) }
+{
+    match row.get(usize::from(process)) {
+        Some(column) => count_at(column, number),
+        None => None,
+    }
 }
 
 impl<A: Allocator + Copy> Before<A> {
@@ -63,9 +76,10 @@ impl<A: Allocator + Copy> Before<A> {
     fn count(&self, id: OpId, process: u8) -> Option<u32>
         ensures { result ≡ count_in self.now.counts.items id process }
     {
-        let row = self.counts.get(usize::from(id.process))?;
-        let column = row.get(usize::from(process))?;
-        column.get(id.number as usize).copied()
+        match self.counts.get(usize::from(id.process)) {
+            Some(row) => count_of(row, process, id.number),
+            None => None,
+        }
     }
 
     /// How many first operations of a process are known to come before an operation.

@@ -1,5 +1,8 @@
-use Rattle.reg_outcomes.proofs.Known.{noughts_more}
+use Rattle.std.proofs.Common.{◌≡◌, ℕ, replicate}
+use Rattle.std.proofs.lemmas.Result.{IfOk-weaker}
+use Rattle.reg_outcomes.specs.Forced.{IsNoneColumn}
+use Rattle.reg_outcomes.proofs.Known.{noughts}
 use Rattle.reg_outcomes.proofs.orders.before.column_of.Goals as goal
 
-pub loop-number-preserved : goal.loop-number-preserved
-loop-number-preserved g c = noughts_more c.loop-number.column.items c.push.new.self.items c.in_ok-push.ensures.items c.loop-number.invariant
+pub returns : goal.returns
+returns g c = IfOk-weaker c.vec.result (λ v. ((y : ℕ) → y ≡ 0 → y ≡ 0) → v.items ≡ replicate c.args.calls 0) IsNoneColumn (λ v is. noughts c.args.calls v.items (is (λ y h. h))) c.vec.ensures.items_if_clones_equal
