@@ -25,7 +25,7 @@ pub struct Tally {
 }
 
 /// What is told of one finished play.
-#[derive(Clone, Copy, Debug, PartialEq, Eq)]
+#[derive(Clone, Copy)]
 pub struct Glance {
     /// The seed of its words.
     pub seed: u64,

@@ -26,3 +26,13 @@ loop-script-preserved g c =
     let inside : i < length c.args.scripts.now = omega arith in
     let can = c.is_playable.ensures.0 c.if-not-is_playable.false in
     one_more (λ v. v.items) (IsPlayable c.args.registers) c.args.scripts.now i item inside c.script-item.is c.loop-script.invariant (subst (λ (s : List Op). IsPlayable c.args.registers s) c.deref.ensures.value can)
+
+pub returns-then-scripts : goal.returns-then-scripts
+returns-then-scripts g c = (
+  λ h. absurd cc,
+  λ playable.
+      let same = length-map c.args.scripts.now (λ v. v.items) in
+      let few = playable.few in
+      let more = c.if-scripts.true in
+      absurd (omega (arith, same, few, more)),
+)
