@@ -4,10 +4,15 @@
 //! With keys each datagram is a NaCl box, made with the same keys as ZeroMQ's CURVE: so it is read by its receiver
 //! alone, and comes from the process whose key opens it. A datagram that is recorded and sent again is a repeated
 //! message, which changes nothing.
+//!
+//! Each peer has a socket of its own, to which the system brings what comes from the peer's address. All else comes to
+//! the socket for strangers, of which few datagrams are opened before the peers are heard again: a flood from elsewhere
+//! takes no peer's room, and little of its time.
 use crate::complaints::{Complaint, Kind};
 use crate::keys::{Key, Keys};
 use crate::road::{Arrived, BATCH, Bell, Road, RoadFault, check_addresses, milliseconds};
 use libsodium_sys as sodium;
+use socket2::{Domain, SockRef, Socket, Type};
 use std::io;
 use std::net::{SocketAddr, ToSocketAddrs, UdpSocket};
 use std::os::fd::AsRawFd;
@@ -17,6 +22,8 @@ use zmq::{POLLIN, PollItem};
 /// Of a message, so that a datagram fits into one packet of most networks.
 const MOST_BYTES: usize = 1200;
 const MOST_READ: usize = 2048;
+/// Datagrams of strangers that are opened at once.
+const FEW: usize = 16;
 const NONCE: usize = sodium::crypto_box_NONCEBYTES as usize;
 const SEAL: usize = sodium::crypto_box_MACBYTES as usize;
 
@@ -70,8 +77,9 @@ impl Shared {
 /// A road over UDP.
 pub struct Datagrams {
     me: u8,
-    socket: UdpSocket,
-    to: Vec<SocketAddr>,
+    strangers: UdpSocket,
+    /// For each process, but for the own one.
+    peers: Vec<Option<UdpSocket>>,
     /// For each process; without keys for none.
     shared: Option<Vec<Shared>>,
     bell: Bell,
@@ -81,6 +89,25 @@ fn place_of(address: &str) -> Result<SocketAddr, RoadFault> {
     let place = address.strip_prefix("udp://").unwrap_or(address);
     let found = place.to_socket_addrs().map_err(|why| RoadFault::new(format!("{address}: {why}")))?.next();
     found.ok_or_else(|| RoadFault::new(format!("{address}: no such place")))
+}
+
+/// A socket for what comes to an address. Before it was bound, one that somebody else has was refused: from here on
+/// others may have its address.
+fn for_strangers(own: SocketAddr) -> io::Result<UdpSocket> {
+    let socket = UdpSocket::bind(own)?;
+    SockRef::from(&socket).set_reuse_address(true)?;
+    socket.set_nonblocking(true)?;
+    Ok(socket)
+}
+
+/// A socket for what goes to and comes from a peer.
+fn for_peer(own: SocketAddr, peer: SocketAddr) -> io::Result<UdpSocket> {
+    let socket = Socket::new(Domain::for_address(own), Type::DGRAM, None)?;
+    socket.set_reuse_address(true)?;
+    socket.bind(&own.into())?;
+    socket.connect(&peer.into())?;
+    socket.set_nonblocking(true)?;
+    Ok(socket.into())
 }
 
 impl Datagrams {
@@ -100,9 +127,10 @@ impl Datagrams {
         let to: Vec<SocketAddr> = addresses.iter().map(|it| place_of(it)).collect::<Result<_, _>>()?;
         let own = usize::from(me);
         let failed = |why: io::Error| RoadFault::new(format!("{}: {why}", addresses[own]));
-        let socket = UdpSocket::bind(to[own]).map_err(failed)?;
-        socket.set_nonblocking(true).map_err(failed)?;
-        Ok(Self { me, socket, to, shared, bell })
+        let strangers = for_strangers(to[own]).map_err(failed)?;
+        let peer = |(p, &place): (usize, &SocketAddr)| (p != own).then(|| for_peer(to[own], place)).transpose();
+        let peers = to.iter().enumerate().map(peer).collect::<io::Result<_>>().map_err(failed)?;
+        Ok(Self { me, strangers, peers, shared, bell })
     }
 
     /// The message of a datagram, with the process whose key opens it.
@@ -115,10 +143,11 @@ impl Datagrams {
         Some(Arrived::Message { key: Some(from), bytes })
     }
 
-    fn take(&self, into: &mut Vec<Arrived>) {
+    /// Opens some of what has come to a socket.
+    fn take(&self, socket: &UdpSocket, most: usize, into: &mut Vec<Arrived>) {
         let mut room = [0; MOST_READ];
-        for _ in 0..BATCH {
-            match self.socket.recv_from(&mut room) {
+        for _ in 0..most {
+            match socket.recv_from(&mut room) {
                 Ok((length, place)) => into.push(self.opened(&room[..length]).unwrap_or_else(|| {
                     let text = format!("{}: a datagram that no known key opens; dropped", place.ip());
                     Arrived::Odd(Complaint { kind: Kind::Key, text })
@@ -138,24 +167,24 @@ impl Road for Datagrams {
 
     fn send(&mut self, to: u8, message: &[u8]) {
         let to = usize::from(to);
-        let Some(place) = self.to.get(to) else { return };
+        let Some(Some(peer)) = self.peers.get(to) else { return };
         let sealed = self.shared.as_ref().map(|it| [&[self.me], &it[to].sealed(message)[..]].concat());
         // (where there is no room, or nobody there, a tick puts it again)
-        let _ = self.socket.send_to(sealed.as_deref().unwrap_or(message), place);
+        let _ = peer.send(sealed.as_deref().unwrap_or(message));
     }
 
     fn receive(&mut self, wait: Option<Duration>, into: &mut Vec<Arrived>) -> Result<bool, RoadFault> {
-        let mut items =
-            [PollItem::from_fd(self.socket.as_raw_fd(), POLLIN), PollItem::from_fd(self.bell.descriptor(), POLLIN)];
+        let sockets: Vec<&UdpSocket> = self.peers.iter().flatten().chain([&self.strangers]).collect();
+        let descriptors = sockets.iter().map(|it| it.as_raw_fd()).chain([self.bell.descriptor()]);
+        let mut items: Vec<PollItem> = descriptors.map(|it| PollItem::from_fd(it, POLLIN)).collect();
         match zmq::poll(&mut items, milliseconds(wait)) {
             Ok(_) | Err(zmq::Error::EINTR) => {}
             Err(why) => return Err(why.into()),
         }
-        let [socket, bell] = items.map(|it| it.is_readable());
-        if socket {
-            self.take(into);
+        for (place, socket) in sockets.iter().enumerate().filter(|it| items[it.0].is_readable()) {
+            self.take(socket, if place + 1 < sockets.len() { BATCH } else { FEW }, into);
         }
-        Ok(bell && self.bell.rang())
+        Ok(items.last().is_some_and(PollItem::is_readable) && self.bell.rang())
     }
 }
 
@@ -183,5 +212,31 @@ mod tests {
         for length in [0, 1, NONCE, NONCE + SEAL - 1] {
             assert_eq!(to.opened(&sealed[..length]), None);
         }
+    }
+
+    /// An address of loopback that nobody has.
+    fn free_address() -> String {
+        let place = UdpSocket::bind("127.0.0.1:0").and_then(|it| it.local_addr()).expect("a port");
+        format!("udp://{place}")
+    }
+
+    #[test]
+    fn what_a_stranger_sends_takes_no_room_of_a_peer() {
+        let addresses = [free_address(), free_address()];
+        let road = |me| Datagrams::open(me, &addresses, None, Bell::new().expect("a bell").0).expect("a road");
+        let (mut here, mut there) = (road(0), road(1));
+        let stranger = UdpSocket::bind("127.0.0.1:0").expect("a port");
+        let place = place_of(&addresses[0]).expect("a place");
+        // (far more than the system keeps for one socket)
+        for _ in 0..20_000 {
+            stranger.send_to(&[7; MOST_BYTES], place).expect("sent");
+        }
+        (0..50).for_each(|number| there.send(0, &[number]));
+        let mut came = Vec::new();
+        for _ in 0..100 {
+            here.receive(Some(Duration::ZERO), &mut came).expect("received");
+        }
+        let is_of_peer = |it: &&Arrived| matches!(it, Arrived::Message { bytes, .. } if bytes.len() == 1);
+        assert_eq!(came.iter().filter(is_of_peer).count(), 50);
     }
 }
