@@ -315,7 +315,13 @@ header {
   height: 26px
 }
 
+.axis,
+.inner {
+  overflow: clip
+}
+
 .axis {
+  contain: inline-size;
   position: sticky;
   top: 0;
   z-index: 2;
@@ -387,7 +393,7 @@ svg text {
 .tick {
   stroke: var(--line);
   stroke-width: 1;
-  opacity: .55
+  stroke-opacity: .55
 }
 
 .axis text {
@@ -480,13 +486,13 @@ svg text {
 
 .veil {
   fill: var(--page);
-  opacity: .74;
+  fill-opacity: .74;
   pointer-events: none
 }
 
 .band {
   fill: var(--now);
-  opacity: .1
+  fill-opacity: .1
 }
 
 .nowline {
@@ -576,7 +582,7 @@ svg text {
   stroke: var(--point);
   stroke-width: 1;
   stroke-dasharray: 1.5 3;
-  opacity: .8
+  stroke-opacity: .8
 }
 
 .source {

@@ -562,6 +562,22 @@ const html = (tag, attributes, ...kids) => fill(document.createElement(tag), att
 const svg = (tag, attributes, ...kids) => fill(document.createElementNS("http://www.w3.org/2000/svg", tag),
   attributes, kids);
 
+const madeIn = new WeakMap();
+
+function renew(element, kids) {
+  const old = madeIn.get(element) || new Map();
+  const made = new Map(kids.map(([says, make]) => [says, old.get(says) || make()]));
+  const stays = new Set(made.values());
+  for (const kid of [...element.children]) if (!stays.has(kid)) kid.remove();
+  let next = element.firstChild;
+  for (const kid of stays) {
+    if (kid === next) next = next.nextSibling;
+    else element.insertBefore(kid, next);
+  }
+  madeIn.set(element, made);
+  return element;
+}
+
 const hue = process => "c" + process % 8;
 const whoTag = process => html("span", { class: "who " + hue(process) }, "p" + process);
 const none = text => html("span", { class: "none" }, text);
@@ -870,6 +886,8 @@ function gutterWidth(run, roomy) {
   return roomy ? Math.max(92, 34 + 7 * longest) : 128;
 }
 
+const SPARE = 2000;
+
 function update(element, attributes) {
   for (const [name, value] of Object.entries(attributes)) {
     if (element.getAttribute(name) !== String(value)) element.setAttribute(name, value);
@@ -926,19 +944,20 @@ class Diagram {
   begin() {
     const { run } = this;
     this.nodes = [];
-    this.ticks = [];
     this.arrows = [];
     this.axisTexts = [];
     this.stubs = [];
     this.bars = new Map();
     this.curves = new Map();
     this.band = svg("rect", { class: "band", y: 0 });
+    this.ticks = svg("path", { class: "tick" });
     this.veil = svg("rect", { class: "veil", y: 0 });
     this.nowLine = svg("line", { class: "nowline", y1: 0 });
     this.rails = this.places.ys.map(y => svg("line", { class: "rail", x1: 0, y1: y, y2: y }));
     if (run.isRealTime) this.rails.unshift(this.memoryRail());
     this.layers = Object.fromEntries(LAYERS.map(name => [name, svg("g")]));
     this.layers.band.append(this.band);
+    this.layers.ticks.append(this.ticks);
     this.layers.rails.append(...this.rails);
     this.layers.veil.append(this.veil);
     this.layers.now.append(this.nowLine);
@@ -958,7 +977,7 @@ class Diagram {
   }
 
   cutTo(kept) {
-    for (const list of [this.nodes, this.ticks, this.arrows, this.axisTexts]) cut(list, kept);
+    for (const list of [this.nodes, this.arrows, this.axisTexts]) cut(list, kept);
     for (const { elements } of this.stubs.splice(kept)) cut(elements, 0);
     for (const at of this.curves.keys()) if (at >= kept) this.curves.delete(at);
     for (const [key, { call, element }] of this.bars) {
@@ -977,7 +996,6 @@ class Diagram {
       if (element) layer.append(element);
     };
     add(this.nodes, layers.nodes, eventNode(places, event));
-    add(this.ticks, layers.ticks, svg("line", { class: "tick", x1: x, x2: x, y1: 0, y2: places.height - 4 }));
     add(this.arrows, layers.arrows, isDrawn ? takenArrow(places, event, this.curves) : null);
     add(this.axisTexts, this.axis, hasText ? svg("text", { x, y: 17, "data-ev": at }, String(at)) : null);
   }
@@ -1023,14 +1041,16 @@ class Diagram {
   }
 
   fit() {
-    const { run, places, drawing } = this, { width, height } = places;
+    const { run, places, drawing } = this, { height } = places, width = Math.ceil(places.width / SPARE) * SPARE;
     const shape = `${run.processes} ${plural(run.processes, "process", "processes")}, ` +
       `${run.events.length} ${plural(run.events.length, "event")}`;
     update(drawing, { width, height, viewBox: `0 0 ${width} ${height}`,
       "aria-label": shape + ". What each event does is told below." });
     update(this.axis, { width });
+    this.inner.style.width = places.width + "px";
     update(this.band, { height });
-    update(this.veil, { height, width: width + 2000 });
+    update(this.ticks, { d: places.xs.slice(0, run.events.length).map(x => `M${x} 0V${height - 4}`).join("") });
+    update(this.veil, { height, width });
     update(this.nowLine, { y2: height });
     for (const rail of this.rails) update(rail, { x2: width });
   }
@@ -1339,6 +1359,16 @@ const mono = (...kids) => html("td", { class: "mono" }, ...kids);
 const headOf = cells => html("thead", {},
   html("tr", {}, cells.map(([text, cls]) => html("th", { class: cls || null }, text))));
 
+function showTable(box, cells, rows) {
+  const says = cells.flat().join();
+  let table = box.querySelector("table");
+  if (table?.dataset.says !== says) {
+    table = html("table", { "data-says": says }, cells.length ? headOf(cells) : null, html("tbody"));
+    box.replaceChildren(table);
+  }
+  renew(table.lastChild, rows);
+}
+
 function effectOn(memory, operation) {
   const { kind, register, value, expected } = operation, was = memory.get(register) || "0";
   if (kind === "read") return `sees ${was}`;
@@ -1372,16 +1402,20 @@ function orderNote(run, list, before, marks) {
 function showOrder(run, at, later) {
   const box = byId("order"), marks = turnedMarks(run, at), list = witnessAt(run, at), memory = new Map();
   const before = at >= 0 ? new Set(witnessAt(run, at - 1).map(({ op }) => op.key)) : new Set();
-  const rows = list.map(({ op, rank }, i) => html("tr",
-    { class: "line " + hue(op.process) + (before.has(op.key) ? "" : " fresh"), "data-op": op.key },
-    number(String(run.isRealTime ? rank[0] : i)), html("td", {}, opChip(op, op.name)),
-    html("td", { class: "mono nowrap" }, op.text),
-    mono(effectOn(memory, op), op.answer && op.answer.at <= at ? "" : none(" (open)"),
-      marks.has(op) ? html("span", { class: "turned" }, marks.get(op)) : ""),
-    run.isRealTime ? html("td", { class: "n nowrap" }, op.first ? "\u25c6 " + op.first.at : "") : null));
+  const rows = list.map(({ op, rank }, i) => {
+    const place = String(run.isRealTime ? rank[0] : i), effect = effectOn(memory, op), mark = marks.get(op) || "";
+    const open = op.answer && op.answer.at <= at ? "" : " (open)", point = op.first ? "\u25c6 " + op.first.at : "";
+    const fresh = before.has(op.key) ? "" : " fresh";
+    return [[place, op.key, op.text, effect, open, mark, point, fresh].join(), () => html("tr",
+      { class: "line " + hue(op.process) + fresh, "data-op": op.key },
+      number(place), html("td", {}, opChip(op, op.name)), html("td", { class: "mono nowrap" }, op.text),
+      mono(effect, open ? none(open) : "", mark ? html("span", { class: "turned" }, mark) : ""),
+      run.isRealTime ? html("td", { class: "n nowrap" }, point) : null)];
+  });
   const head = [[run.isRealTime ? "place" : "#", "n"], [""], ["operation"], ["memory"],
     ...(run.isRealTime ? [["point", "n"]] : [])];
-  box.replaceChildren(list.length ? html("table", {}, headOf(head), html("tbody", {}, rows)) : empty("Nothing yet."));
+  if (rows.length) showTable(box, head, rows);
+  else box.replaceChildren(empty("Nothing yet."));
   byId("order-fine").textContent = orderNote(run, list, before, marks);
   later(() => {
     const fresh = box.querySelector("tr.fresh");
@@ -1391,16 +1425,15 @@ function showOrder(run, at, later) {
 
 function showHistory(run, at, later) {
   const box = byId("history");
-  const row = (k, op, what, text) =>
+  const row = (k, op, what, text) => [[k, op.key, what, text, k === at].join(), () =>
     html("tr", { class: "line " + hue(op.process) + (k === at ? " fresh" : ""), "data-op": op.key },
-    number(String(k)), html("td", {}, opChip(op, op.name)), html("td", {}, what), mono(text));
+    number(String(k)), html("td", {}, opChip(op, op.name)), html("td", {}, what), mono(text))];
   const rows = run.events.slice(0, at + 1).flatMap(({ at: k, call, answered }) => [
     ...(call ? [row(k, call, "call", call.text)] : []),
     ...(answered ? [row(k, answered, "answer", answered.answer.text)] : []),
   ]);
-  box.replaceChildren(rows.length ? html("table", {}, headOf([["event", "n"], [""], ["entry"], [""]]),
-    html("tbody", {}, rows)) :
-    empty("Nothing yet."));
+  if (rows.length) showTable(box, [["event", "n"], [""], ["entry"], [""]], rows);
+  else box.replaceChildren(empty("Nothing yet."));
   later(() => {
     box.scrollTop = 1e6;
   });
@@ -1410,16 +1443,20 @@ function showWires(run, at) {
   const next = at < run.last && run.events[at + 1].take ? run.events[at + 1].take.put : null, most = 40;
   const untaken = run.untakenAt(at).sort((a, b) => (b === next) - (a === next));
   const rows = untaken.slice(0, most).map(put => {
-    const operation = run.operationIn(put.frame);
-    return html("tr", { class: "line " + hue(put.from), "data-op": operation ? operation.key : null },
-      html("td", { class: "mono nowrap" }, `take ${put.from} ${put.to} ${put.place}`),
-      mono(frameText(put.frame).replace("acknowledgement", "ack")),
-      number(put === next ? "next" : put.takes.length ? "at " + put.takes[0] : at < run.last ? "never" : ""));
+    const operation = run.operationIn(put.frame), key = operation ? operation.key : null;
+    const take = `take ${put.from} ${put.to} ${put.place}`;
+    const frame = frameText(put.frame).replace("acknowledgement", "ack");
+    const taken = put === next ? "next" : put.takes.length ? "at " + put.takes[0] : at < run.last ? "never" : "";
+    return [[take, frame, taken, key].join(), () => html("tr", { class: "line " + hue(put.from), "data-op": key },
+      html("td", { class: "mono nowrap" }, take), mono(frame), number(taken))];
   });
   const nothing = run.puts.some(put => put.at <= at) ? "Every frame that was put has been taken." :
     "No frame was put yet.";
-  byId("wires").replaceChildren(rows.length ? html("table", {}, html("tbody", {}, rows)) : empty(nothing),
-    untaken.length > most ? empty(`and ${untaken.length - most} more`) : "");
+  const box = byId("wires"), more = untaken.length > most ? [empty(`and ${untaken.length - most} more`)] : [];
+  if (!rows.length) return box.replaceChildren(empty(nothing));
+  showTable(box, [], rows);
+  while (box.lastChild !== box.firstChild) box.lastChild.remove();
+  box.append(...more);
 }
 
 /* tips */
@@ -1566,8 +1603,7 @@ class View {
     this.run = run;
     byId("slider").max = run.last;
     this.cards.setRun(run);
-    this.tips.lit = null;
-    this.tips.box.hidden = true;
+    this.tips.clear();
     this.diagram.draw(run);
   }
 
@@ -1615,11 +1651,15 @@ class View {
     showOrder(run, at, later);
     showHistory(run, at, later);
     showWires(run, at);
-    byId("schedule").value = run.scheduleAt(at);
+    this.showSchedule();
     this.showControls(at);
     this.later(() => this.diagram.reveal(at));
     this.tips.light(null);
     this.onShow(at, isQuiet);
+  }
+
+  showSchedule() {
+    if (byId("text").open) byId("schedule").value = this.run.scheduleAt(this.at);
   }
 
   showControls(at) {
@@ -1673,6 +1713,7 @@ class View {
       byId("diagram").classList.toggle("smooth", target.checked);
       this.redraw();
     };
+    byId("text").addEventListener("toggle", () => this.showSchedule());
     document.addEventListener("click", event => this.clicked(event));
     document.addEventListener("keydown", event => this.pressed(event));
     let resized = 0;
