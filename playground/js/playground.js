@@ -88,8 +88,10 @@ export class Playground {
     if (isShown) this.takeRun(seen.told ? runOf(seen) : null, at);
     showVerdict(seen, this.editor);
     this.showButtons();
+    const written = this.editor.writeAfterPaint();
     if (!isShown) await this.keepRun(text);
     await this.exercise.judge(text, seen.kind, seen.told && seen.table === null ? this.run : null);
+    await written;
     if (asked === this.asked) document.body.dataset.state = "shown";
   }
 

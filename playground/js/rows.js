@@ -17,9 +17,9 @@ export class Rows {
     return this.lines.length <= MOST_WRAPPED;
   }
 
-  /** Takes a text, or the width that the field has now. */
+  /** Takes a text, or the width that the field has now. Lines above the first that differs stand where they stood. */
   take(text) {
-    const mirror = byId("mirror");
+    const mirror = byId("mirror"), old = this.lines;
     this.lines = text.split("\n");
     byId("editor").classList.toggle("long", !this.isWrapped);
     if (!this.isWrapped) {
@@ -27,15 +27,16 @@ export class Rows {
       this.tops = null;
       return;
     }
-    const { clientWidth } = this.field;
+    const { clientWidth } = this.field, { children } = mirror;
+    let same = 0;
     if (clientWidth !== this.width) mirror.style.width = (this.width = clientWidth) + "px";
-    const { children } = mirror;
+    else while (same < children.length && this.lines[same] === old[same]) same++;
     while (children.length > this.lines.length) mirror.lastChild.remove();
     this.lines.forEach((line, at) => {
       if (at >= children.length) mirror.append(html("div", {}, line));
       else if (children[at].textContent !== line) children[at].textContent = line;
     });
-    this.tops = Array.from(children, child => child.offsetTop);
+    this.tops = [...(this.tops || []).slice(0, same), ...[...children].slice(same).map(child => child.offsetTop)];
     this.bottom = mirror.offsetHeight - TOP;
   }
 
