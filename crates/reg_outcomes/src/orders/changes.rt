@@ -1,5 +1,7 @@
 //! Where each process changes a register. No clause says which changes are found: what is concluded from one is proved
 //! of it, whichever it is.
+ghost use Rattle.std.specs.Prelude.{◌≤◌, length};
+
 use crate::orders::before::Before;
 use crate::orders::finder::Finder;
 use crate::orders::uses::left_by;
@@ -93,7 +95,9 @@ pub(crate) fn changes_of<A: Allocator + Copy>(
 }
 
 /// How many of the numbers, in order, are less than this one.
-fn count_below(numbers: &[u32], bound: u32) -> usize {
+fn count_below(numbers: &[u32], bound: u32) -> usize
+    ensures { result ≤ length numbers.now }
+{
     let mut low = 0;
     let mut high = numbers.len();
     while low < high {
@@ -131,22 +135,25 @@ pub(crate) fn first_change(numbers: &[u32], process: u8) -> Option<OpId> {
     change_at(numbers, process, 0)
 }
 
-/// The first of these operations of a process that comes after an operation.
+/// The first of these operations of a process that comes after an operation. It comes behind those that come before the
+/// operation, and mostly soon: so it is looked for from there on, in steps that grow.
 pub(crate) fn change_after<A: Allocator + Copy>(
     numbers: &[u32],
     before: &Before<A>,
     process: u8,
     id: OpId,
 ) -> Option<OpId> {
-    let mut low = 0;
+    let mut low = count_below(numbers, before.known(id, process));
     let mut high = numbers.len();
+    let mut reach: usize = 0;
     while low < high {
-        let middle = low + (high - low) / 2;
+        let middle = low + reach.min((high - low) / 2);
         let number = numbers[middle];
         if before.has(id, OpId { process, number }) {
             high = middle;
         } else {
             low = middle + 1;
+            reach = reach.saturating_mul(2).saturating_add(1);
         }
     }
     change_at(numbers, process, low)
