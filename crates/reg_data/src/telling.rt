@@ -1,8 +1,11 @@
 //! What is told of a run.
 ghost use Rattle.std.specs.Prelude.{◌≡◌, ◌≢◌, None, IfErr, IfOk, take};
 ghost use Rattle.reg_world.specs.Fronts.{HasPoints};
+ghost use Rattle.reg_world.specs.Keys.{IsWitness};
+ghost use Rattle.reg_world.specs.World.{run_of};
 ghost use Rattle.reg_world.specs.Worlds.{RunRefuses, after_events, run_in};
 ghost use Rattle.reg_inputs.specs.Schedules.{Plan};
+ghost use Rattle.reg_trace.specs.Figures.{arrows_of, bars_of};
 ghost use Rattle.reg_trace.specs.Moments.{moments_of};
 ghost use Rattle.reg_data.specs.Data.{IsDataOf};
 ghost use Rattle.reg_data.specs.Looks.{looks_of};
@@ -10,12 +13,43 @@ ghost use Rattle.reg_data.specs.Looks.{looks_of};
 use crate::data::Data;
 use crate::notes::Notes;
 use crate::watching::{WatchedStates, watch_states};
-use reg_base::Names;
+use reg_base::{Names, OpId};
 use reg_front::{Front, FrontEnd};
 use reg_inputs::Schedule;
-use reg_trace::{arrows, bars};
-use reg_world::{NamedFront, RunFault, World, WorldFault};
+use reg_trace::{Arrow, Bar, Moment, arrows, bars};
+use reg_world::{CopyRead, First, NamedFront, RunFault, World, WorldFault};
 use std::alloc::{AllocError, Allocator};
+
+/// What is told of a whole run, beside what each event did.
+#[derive(Drop)]
+struct Whole<A: Allocator + Copy> {
+    arrows: Vec<Arrow, A>,
+    bars: Vec<Bar, A>,
+    order: Vec<First, A>,
+    reads: Vec<CopyRead, A>,
+    witness: Vec<OpId, A>,
+}
+
+/// What is told of the run of a world, in which each event did this.
+fn whole_of<F: FrontEnd, A: Allocator + Copy>(
+    alloc: A,
+    world: &World<F, A>,
+    moments: &[Moment<A>],
+) -> Result<Whole<A>, AllocError>
+    ensures arrows { IfOk result (λ r. r.arrows.items ≡ arrows_of moments.now) }
+    ensures bars { IfOk result (λ r. r.bars.items ≡ bars_of (run_in F.start world.now).history) }
+    ensures order { IfOk result (λ r. r.order.items ≡ (run_in F.start world.now).order) }
+    ensures reads { IfOk result (λ r. r.reads.items ≡ (run_in F.start world.now).reads) }
+    ensures witness { IfOk result (λ r. IsWitness (run_of world.now.registers (run_in F.start world.now)) r.witness.items) }
+{
+    Ok(Whole {
+        arrows: arrows(alloc, moments)?,
+        bars: bars(alloc, world.history().entries())?,
+        order: world.order().to_vec(alloc)?,
+        reads: world.reads().to_vec(alloc)?,
+        witness: world.witness()?,
+    })
+}
 
 /// All that is told of a run that was watched, under these names, with these notes and no points; and its world.
 fn data_of<F: FrontEnd, A: Allocator + Copy>(
@@ -37,18 +71,19 @@ fn data_of<F: FrontEnd, A: Allocator + Copy>(
         moments,
         looks,
     } = watched;
+    let whole = whole_of(alloc, &world, moments.as_slice())?;
     let data = Data {
         notes,
         processes: world.shape().processes(),
         names,
         front,
-        arrows: arrows(alloc, moments.as_slice())?,
-        bars: bars(alloc, world.history().entries())?,
         moments,
         looks,
-        order: world.order().to_vec(alloc)?,
-        reads: world.reads().to_vec(alloc)?,
-        witness: world.witness()?,
+        arrows: whole.arrows,
+        bars: whole.bars,
+        order: whole.order,
+        reads: whole.reads,
+        witness: whole.witness,
         points: None,
     };
     Ok((data, world))

@@ -1,5 +1,5 @@
 //! A run that is watched with the states of its processes: each of its events is made once.
-ghost use Rattle.std.specs.Prelude.{◌≡◌, ◌≢◌, Some, false, take, IfErr, IfOk, MatchResult, OnOk};
+ghost use Rattle.std.specs.Prelude.{◌≡◌, ◌≢◌, ◌++◌, ◌∷◌, [], Some, false, take, IfErr, IfOk, MatchResult, OnOk};
 ghost use Rattle.reg_world.specs.Worlds.{Accepts, RunRefuses, after_events, refusal, run_in};
 ghost use Rattle.reg_trace.specs.Moments.{moment_of, moments_of};
 ghost use Rattle.reg_data.specs.Looks.{look_behind, looks_of};
@@ -22,22 +22,23 @@ pub(crate) struct WatchedStates<F: FrontEnd, A: Allocator + Copy> {
     pub looks: Vec<Look<A>, A>,
 }
 
-/// Makes an event, and tells what it did and the state of its process after it.
-fn watch_state<F: FrontEnd, A: Allocator + Copy>(
-    alloc: A,
-    world: &mut World<F, A>,
-    event: &Event,
-) -> Result<(Moment<A>, Look<A>), WorldFault>
-    requires { world.old.failed ≡ false }
-    ensures made { OnOk result (Accepts F.start world.old event.now world.new) }
-    ensures told { IfOk result (λ r. r.0 ≡ moment_of F.start world.old event.now) }
-    ensures state { IfOk result (λ r. r.1 ≡ look_behind F.start world.old event.now) }
-    ensures refused { IfErr result (λ f. f ≢ WorldFault.OutOfMemory → refusal F.start world.old event.now ≡ Some f) }
-{
-    let moment = watch(alloc, world, event)?;
-    match look_in(alloc, world, moment.process) {
-        Ok(look) => Ok((moment, look)),
-        Err(_) => Err(WorldFault::OutOfMemory),
+impl<F: FrontEnd, A: Allocator + Copy> WatchedStates<F, A> {
+    /// Makes an event, and keeps what it did and the state of its process after it.
+    fn make(&mut self, alloc: A, event: &Event) -> Result<(), WorldFault>
+        requires { self.old.world.failed ≡ false }
+        ensures made { OnOk result (Accepts F.start self.old.world event.now self.new.world) }
+        ensures told { OnOk result (self.new.moments.items ≡ self.old.moments.items ++ moment_of F.start self.old.world event.now ∷ []) }
+        ensures state { OnOk result (self.new.looks.items ≡ self.old.looks.items ++ look_behind F.start self.old.world event.now ∷ []) }
+        ensures refused { IfErr result (λ f. f ≢ WorldFault.OutOfMemory → refusal F.start self.old.world event.now ≡ Some f) }
+    {
+        let moment = watch(alloc, &mut self.world, event)?;
+        let Ok(look) = look_in(alloc, &self.world, moment.process) else {
+            return Err(WorldFault::OutOfMemory);
+        };
+        if self.moments.push(moment).is_err() || self.looks.push(look).is_err() {
+            return Err(WorldFault::OutOfMemory);
+        }
+        Ok(())
     }
 }
 
@@ -54,24 +55,21 @@ pub(crate) fn watch_states<F: FrontEnd, A: Allocator + Copy>(
     ensures refused { IfErr result (λ f. f.fault ≢ WorldFault.OutOfMemory → RunRefuses F.start shape events.now f.at f.fault) }
     ensures accepted { MatchResult result (λ _. (run_in F.start (after_events F.start shape events.now)).accepted ≡ events.now) (λ f. f.fault ≢ WorldFault.OutOfMemory → (run_in F.start (after_events F.start shape (take f.at events.now))).accepted ≡ take f.at events.now) }
 {
-    let fault = WorldFault::OutOfMemory;
-    let Ok(mut world) = World::new(alloc, shape) else {
-        return Err(RunFault { at: 0, fault });
+    let Ok(world) = World::new(alloc, shape) else {
+        return Err(RunFault {
+            at: 0,
+            fault: WorldFault::OutOfMemory,
+        });
     };
-    let mut moments = Vec::new(alloc);
-    let mut looks = Vec::new(alloc);
+    let mut watched = WatchedStates {
+        world,
+        moments: Vec::new(alloc),
+        looks: Vec::new(alloc),
+    };
     for (at, event) in events.iter().enumerate() {
-        let (moment, look) = match watch_state(alloc, &mut world, event) {
-            Ok(told) => told,
-            Err(fault) => return Err(RunFault { at, fault }),
-        };
-        if moments.push(moment).is_err() || looks.push(look).is_err() {
+        if let Err(fault) = watched.make(alloc, event) {
             return Err(RunFault { at, fault });
         }
     }
-    Ok(WatchedStates {
-        world,
-        moments,
-        looks,
-    })
+    Ok(watched)
 }

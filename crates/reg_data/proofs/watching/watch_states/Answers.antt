@@ -1,4 +1,4 @@
-use Rattle.std.proofs.Common.{List, ◌≡◌, ◌++◌, ◌∷◌, [], ◌∙◌, ap, ap₂, arith, length, refl, rules, subst, take}
+use Rattle.std.proofs.Common.{List, ◌≡◌, ◌++◌, ◌∙◌, ap, ap₂, arith, length, refl, subst, take}
 use Rattle.std.proofs.lemmas.List.{take_all}
 use Rattle.reg_process.specs.declared.events.Event.{Event}
 use Rattle.reg_world.specs.Worlds.{Made, after_events, run_in}
@@ -13,29 +13,32 @@ use Rattle.reg_data.proofs.watching.watch_states.Goals as goal
 pub loop-at-init : goal.loop-at-init
 loop-at-init g c = record {
   ran = record { made = c.in-Ok.ensures; all = refl };
-  told = ap₂ (λ (l : List Fact) (w : Made). l ++ moments_from g.F.FrontEnd.start w c.args.events.now) c.new-moments.ensures.items c.in-Ok.ensures;
-  states = ap₂ (λ (l : List Look) (w : Made). l ++ looks_from g.F.FrontEnd.start w c.args.events.now) c.new-looks.ensures.items c.in-Ok.ensures;
+  told = ap₂ (λ (l : List Fact) (w : Made). l ++ moments_from g.F.FrontEnd.start w c.args.events.now) c.new-2.ensures.items c.in-Ok.ensures;
+  states = ap₂ (λ (l : List Look) (w : Made). l ++ looks_from g.F.FrontEnd.start w c.args.events.now) c.new-3.ensures.items c.in-Ok.ensures;
 }
 
-pub watch_state-requires : goal.watch_state-requires
-watch_state-requires g c = ap (λ (w : Made). w.failed) c.loop-at.invariant.ran.made
+pub make-requires : goal.make-requires
+make-requires g c = ap (λ (w : Made). w.failed) c.loop-at.invariant.ran.made
 
 pub returns-in-Err-clause-refused : goal.returns-in-Err-clause-refused
 returns-in-Err-clause-refused g c = λ other.
-    run_refuses g.F.FrontEnd.start c.args.shape c.args.events.now c.loop-at.at _ c.in-Err.fault c.loop-at.world c.loop-at.world c.loop-at-test.true c.loop-at.invariant.ran.made
-    (fault_refuses g.F.FrontEnd.start c.loop-at.world _ c.in-Err.fault other (c.in-Err.ensures.refused other))
+    run_refuses g.F.FrontEnd.start c.args.shape c.args.events.now c.loop-at.at _ c.in-Err.fault c.loop-at.watched.world c.loop-at.watched.world c.loop-at-test.true c.loop-at.invariant.ran.made
+    (fault_refuses g.F.FrontEnd.start c.loop-at.watched.world _ c.in-Err.fault other (c.in-Err.ensures.refused other))
 
 pub returns-in-Err-clause-accepted : goal.returns-in-Err-clause-accepted
 returns-in-Err-clause-accepted g c = λ _. c.loop-at.invariant.ran.all
 
 pub loop-at-preserved : goal.loop-at-preserved
 loop-at-preserved g c =
-    let told : c.push.new.self.items ≡ c.loop-at.moments.items ++ c.in-Ok-watch_state.told.0 ∷ [] = search rules in
-    let seen : c.push-else-is_err.new.self.items ≡ c.loop-at.looks.items ++ c.in-Ok-watch_state.told.1 ∷ [] = search rules in
+    let start = g.F.FrontEnd.start in
+    let old = c.loop-at.watched in
+    let new = c.make.new.self in
+    let made = c.in_default-make.ensures in
+    let events = c.args.events.now in
     record {
-      ran = run_goes_on g.F.FrontEnd.start c.args.shape c.args.events.now c.loop-at.at _ c.loop-at.world c.watch_state.new.world c.loop-at-test.true c.loop-at.invariant.ran c.in-Ok-watch_state.ensures.made;
-      told = one_told g.F.FrontEnd.start c.loop-at.world c.watch_state.new.world c.loop-at.moments.items c.push.new.self.items (moments_of g.F.FrontEnd.start c.args.shape c.args.events.now) c.in-Ok-watch_state.told.0 c.args.events.now c.loop-at.at _ c.loop-at-test.true c.in-Ok-watch_state.ensures.made.after c.in-Ok-watch_state.ensures.told told c.loop-at.invariant.told;
-      states = one_look g.F.FrontEnd.start c.loop-at.world c.watch_state.new.world c.loop-at.looks.items c.push-else-is_err.new.self.items (looks_of g.F.FrontEnd.start c.args.shape c.args.events.now) c.in-Ok-watch_state.told.1 c.args.events.now c.loop-at.at _ c.loop-at-test.true c.in-Ok-watch_state.ensures.made.after c.in-Ok-watch_state.ensures.state seen c.loop-at.invariant.states;
+      ran = run_goes_on start c.args.shape events c.loop-at.at _ old.world new.world c.loop-at-test.true c.loop-at.invariant.ran made.made;
+      told = one_told start old.world new.world old.moments.items new.moments.items (moments_of start c.args.shape events) _ events c.loop-at.at _ c.loop-at-test.true made.made.after refl made.told c.loop-at.invariant.told;
+      states = one_look start old.world new.world old.looks.items new.looks.items (looks_of start c.args.shape events) _ events c.loop-at.at _ c.loop-at-test.true made.made.after refl made.state c.loop-at.invariant.states;
     }
 
 pub returns-clause-world : goal.returns-clause-world
@@ -49,7 +52,7 @@ returns-clause-accepted g c =
     subst (λ (z : List Event). (run_in g.F.FrontEnd.start (after_events g.F.FrontEnd.start c.args.shape z)).accepted ≡ z) whole c.loop-at.invariant.ran.all
 
 pub returns-clause-told : goal.returns-clause-told
-returns-clause-told g c = all_told g.F.FrontEnd.start c.loop-at.world c.loop-at.moments.items (moments_of g.F.FrontEnd.start c.args.shape c.args.events.now) c.args.events.now c.loop-at.at (omega arith) c.loop-at.invariant.told
+returns-clause-told g c = all_told g.F.FrontEnd.start c.loop-at.watched.world c.loop-at.watched.moments.items (moments_of g.F.FrontEnd.start c.args.shape c.args.events.now) c.args.events.now c.loop-at.at (omega arith) c.loop-at.invariant.told
 
 pub returns-clause-states : goal.returns-clause-states
-returns-clause-states g c = all_looks g.F.FrontEnd.start c.loop-at.world c.loop-at.looks.items (looks_of g.F.FrontEnd.start c.args.shape c.args.events.now) c.args.events.now c.loop-at.at (omega arith) c.loop-at.invariant.states
+returns-clause-states g c = all_looks g.F.FrontEnd.start c.loop-at.watched.world c.loop-at.watched.looks.items (looks_of g.F.FrontEnd.start c.args.shape c.args.events.now) c.args.events.now c.loop-at.at (omega arith) c.loop-at.invariant.states
