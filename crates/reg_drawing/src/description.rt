@@ -1,59 +1,50 @@
 //! What a drawing shows, in words, for those who don't see it.
 use crate::drawing::Drawing;
 use crate::pictures::is_never_taken;
-use crate::words::{IdText, TakeText};
+use crate::words::{put_take, put_with};
+use reg_text::Sink;
 use reg_trace::Bar;
 use std::alloc::Allocator;
-use std::fmt;
 
-/// Shows when an operation was called and answered.
-#[derive(Clone, Copy)]
-struct Times<'a> {
-    bar: &'a Bar,
-}
-
-impl fmt::Display for Times<'_> {
-    fn fmt<W: fmt::Write>(&self, f: &mut fmt::Formatter<W>) -> fmt::Result {
-        let call = self.bar.call;
-        match self.bar.end {
-            Some(end) if end.at == call => write!(f, "event {call}"),
-            Some(end) => {
-                let at = end.at;
-                write!(f, "events {call} to {at}")
-            }
-            None => write!(f, "from event {call} on, not answered"),
-        }
-    }
+/// Puts an operation, with when it was called and answered.
+fn put_called<A: Allocator + Copy>(sink: &mut Sink<'_, Vec<u8, A>>, bar: &Bar) {
+    let (text, at) = match bar.end {
+        Some(end) if end.at == bar.call => ("p{} #{}, event {}: ", end.at),
+        Some(end) => ("p{} #{}, events {} to {}: ", end.at),
+        None => ("p{} #{}, from event {} on, not answered: ", 0),
+    };
+    let (process, number) = (bar.id.process as u64, bar.id.number as u64);
+    put_with(sink, text, &[process, number, bar.call as u64, at as u64]);
 }
 
 impl<A: Allocator + Copy> Drawing<'_, A> {
-    /// Shows who called what when, and what was answered.
-    fn show_operations<W: fmt::Write>(&self, f: &mut fmt::Formatter<W>) -> fmt::Result {
-        for (bar, label) in self.bars.iter().zip(&self.labels) {
-            let (id, times, text) = (IdText { id: bar.id }, Times { bar }, label.text.as_str());
-            writeln!(f, "{id}, {times}: {text}.")?;
+    /// Puts who called what when, and what was answered.
+    fn put_operations(&self, sink: &mut Sink<'_, Vec<u8, A>>) {
+        for labelled in self.bars {
+            put_called(sink, &labelled.bar);
+            sink.put(labelled.text.as_slice());
+            sink.put(b".\n");
         }
-        Ok(())
     }
 
-    /// Shows the frames that are drawn and never taken.
-    fn show_lost<W: fmt::Write>(&self, f: &mut fmt::Formatter<W>) -> fmt::Result {
+    /// Puts the frames that are drawn and never taken.
+    fn put_lost(&self, sink: &mut Sink<'_, Vec<u8, A>>) {
         for moment in self.moments {
             for sent in &moment.sent {
                 if is_never_taken(&self.legend, self.moments, moment.process, sent) {
-                    let take = TakeText::of(self.names, moment.process, sent);
-                    writeln!(f, "Never taken: {take}.")?;
+                    sink.put(b"Never taken: ");
+                    put_take(sink, self.names, moment.process, sent);
+                    sink.put(b".\n");
                 }
             }
         }
-        Ok(())
     }
 
-    /// Shows the element that says what the drawing shows.
-    pub(crate) fn show_description<W: fmt::Write>(&self, f: &mut fmt::Formatter<W>) -> fmt::Result {
-        f.write_str("<desc>\n")?;
-        self.show_operations(f)?;
-        self.show_lost(f)?;
-        f.write_str("</desc>\n")
+    /// Puts the element that says what the drawing shows.
+    pub(crate) fn put_description(&self, sink: &mut Sink<'_, Vec<u8, A>>) {
+        sink.put(b"<desc>\n");
+        self.put_operations(sink);
+        self.put_lost(sink);
+        sink.put(b"</desc>\n");
     }
 }

@@ -2,18 +2,19 @@
 ghost use Rattle.std.specs.Prelude.{IfOk, string_bytes};
 ghost use Rattle.reg_drawing.specs.Drawings.{IsDrawing};
 
-use crate::layout::{BELOW, LEADING, Label, Layout, NUMBERS, TITLE, TOP};
-use crate::legend::{Legend, ROW, show_head};
+use crate::layout::{BELOW, LEADING, Labelled, Layout, NUMBERS, TITLE, TOP};
+use crate::legend::{Legend, ROW, put_head};
 use crate::pictures::is_never_taken;
-use crate::shapes::{Diamond, Node, Span, Spot, Stub, Way};
+use crate::shapes::{Span, Spot, Way, put_diamond, put_node, put_stub};
 use crate::sizes::Size;
-use crate::words::{CastText, IdText, TakeText};
+use crate::words::{put_all, put_take, put_with};
 use reg_base::Names;
 use reg_checkers::Point;
 use reg_frames::{Body, Frame};
-use reg_trace::{Arrow, Bar, Delivery, Moment, Sent};
+use reg_text::Sink;
+use reg_trace::{Arrow, Bar, Delivery, Moment, Sent, put_cast};
 use std::alloc::{AllocError, Allocator};
-use std::fmt;
+use std::str;
 
 /// What is drawn of a run.
 #[derive(Drop)]
@@ -21,11 +22,10 @@ pub(crate) struct Drawing<'a, A: Allocator + Copy> {
     pub(crate) names: &'a Names<A>,
     pub(crate) moments: &'a [Moment<A>],
     pub(crate) points: &'a [Point],
-    pub(crate) bars: Vec<Bar, A>,
-    pub(crate) labels: Vec<Label<A>, A>,
-    pub(crate) arrows: Vec<Arrow, A>,
-    pub(crate) layout: Layout<A>,
-    pub(crate) title: String<A>,
+    pub(crate) bars: &'a [Labelled<A>],
+    pub(crate) arrows: &'a [Arrow],
+    pub(crate) layout: &'a Layout<A>,
+    pub(crate) title: &'a [u8],
     pub(crate) legend: Legend,
     pub(crate) size: Size,
 }
@@ -74,65 +74,62 @@ impl<A: Allocator + Copy> Drawing<'_, A> {
         }
     }
 
-    /// Shows the attributes of the element, its head and the page.
-    fn show_page<W: fmt::Write>(&self, f: &mut fmt::Formatter<W>) -> fmt::Result {
+    /// Puts the attributes of the element, its head and the page.
+    fn put_page(&self, sink: &mut Sink<'_, Vec<u8, A>>) {
         let (width, height) = (self.layout.width, self.height());
         let (wide, high) = (self.size.of(width), self.size.of(height));
-        writeln!(
-            f,
-            "xmlns=\"http://www.w3.org/2000/svg\" class=\"awshow\" width=\"{wide}\" height=\"{high}\" viewBox=\"0 0 {width} {height}\" role=\"img\">"
-        )?;
-        let title = self.title.as_str();
-        writeln!(f, "<title>Space-time diagram: {title}</title>")?;
-        self.show_description(f)?;
-        show_head(f)?;
-        writeln!(
-            f,
-            "<rect class=\"page\" width=\"{width}\" height=\"{height}\"/>"
-        )
+        let (width, height) = (width as u64, height as u64);
+        put_with(
+            sink,
+            "xmlns=\"http://www.w3.org/2000/svg\" class=\"awshow\" width=\"{}\" height=\"{}\" viewBox=\"0 0 {} {}\" role=\"img\">\n<title>Space-time diagram: ",
+            &[wide as u64, high as u64, width, height],
+        );
+        sink.put(self.title);
+        sink.put(b"</title>\n");
+        self.put_description(sink);
+        put_head(sink);
+        put_with(
+            sink,
+            "<rect class=\"page\" width=\"{}\" height=\"{}\"/>\n",
+            &[width, height],
+        );
     }
 
-    /// Shows the title.
-    fn show_title<W: fmt::Write>(&self, f: &mut fmt::Formatter<W>) -> fmt::Result {
-        let (at, title) = (Spot { x: 10, y: TITLE }, self.title.as_str());
-        writeln!(f, "<text class=\"name\" {at}>{title}</text>")
+    /// Puts the title.
+    fn put_title(&self, sink: &mut Sink<'_, Vec<u8, A>>) {
+        put_with(
+            sink,
+            "<text class=\"name\" x=\"10\" y=\"{}\">",
+            &[TITLE as u64],
+        );
+        sink.put(self.title);
+        sink.put(b"</text>\n");
     }
 
-    /// Shows the events' numbers, with a line each.
-    fn show_events<W: fmt::Write>(&self, f: &mut fmt::Formatter<W>) -> fmt::Result {
-        let bottom = self.layout.bottom;
-        for (number, x) in self.layout.events.iter().enumerate() {
-            let span = Span {
-                from: Spot { x: *x, y: TOP },
-                to: Spot { x: *x, y: bottom },
-            };
-            let at = Spot { x: *x, y: NUMBERS };
-            writeln!(
-                f,
-                "<line class=\"event\" {span}/>\n<text class=\"soft\" {at} text-anchor=\"middle\">{number}</text>"
-            )?;
+    /// Puts the events' numbers, with a line each.
+    fn put_events(&self, sink: &mut Sink<'_, Vec<u8, A>>) {
+        let bottom = self.layout.bottom as u64;
+        for (number, place) in self.layout.events.iter().enumerate() {
+            let x = *place as u64;
+            put_with(
+                sink,
+                "<line class=\"event\" x1=\"{}\" y1=\"{}\" x2=\"{}\" y2=\"{}\"/>\n<text class=\"soft\" x=\"{}\" y=\"{}\" text-anchor=\"middle\">{}</text>\n",
+                &[x, TOP as u64, x, bottom, x, NUMBERS as u64, number as u64],
+            );
         }
-        Ok(())
     }
 
-    /// Shows the processes' lines, with their names.
-    fn show_processes<W: fmt::Write>(&self, f: &mut fmt::Formatter<W>) -> fmt::Result {
-        let right = self.layout.width.saturating_sub(14);
-        for (process, y) in self.layout.rows.iter().enumerate() {
-            let span = Span {
-                from: Spot { x: 40, y: *y },
-                to: Spot { x: right, y: *y },
-            };
-            let base = Spot {
-                x: 10,
-                y: y.saturating_add(4),
-            };
-            writeln!(
-                f,
-                "<line class=\"line\" {span}/>\n<text class=\"name\" {base}>p{process}</text>"
-            )?;
+    /// Puts the processes' lines, with their names.
+    fn put_processes(&self, sink: &mut Sink<'_, Vec<u8, A>>) {
+        let right = self.layout.width.saturating_sub(14) as u64;
+        for (process, row) in self.layout.rows.iter().enumerate() {
+            let y = *row as u64;
+            put_with(
+                sink,
+                "<line class=\"line\" x1=\"40\" y1=\"{}\" x2=\"{}\" y2=\"{}\"/>\n<text class=\"name\" x=\"10\" y=\"{}\">p{}</text>\n",
+                &[y, right, y, y.saturating_add(4), process as u64],
+            );
         }
-        Ok(())
     }
 
     /// The frame that an event takes.
@@ -140,30 +137,31 @@ impl<A: Allocator + Copy> Drawing<'_, A> {
         self.moments.get(event)?.frame
     }
 
-    /// Shows the arrow of a frame.
-    fn show_arrow<W: fmt::Write>(
-        &self,
-        f: &mut fmt::Formatter<W>,
-        arrow: &Arrow,
-        frame: Frame,
-    ) -> fmt::Result {
+    /// The way of an arrow.
+    fn way(&self, arrow: &Arrow) -> Way {
         let span = Span {
             from: self.spot(arrow.puts, arrow.from),
             to: self.spot(arrow.takes, arrow.to),
         };
-        let bent = self.seems_to_meet(span, arrow);
-        let (class, way) = (class_of(frame), Way { span, bent });
-        let take = TakeText {
-            names: self.names,
-            from: arrow.from,
+        Way {
+            span,
+            bent: self.seems_to_meet(span, arrow),
+        }
+    }
+
+    /// Puts the arrow of a frame.
+    fn put_arrow(&self, sink: &mut Sink<'_, Vec<u8, A>>, arrow: &Arrow, frame: Frame) {
+        let class = class_of(frame);
+        let sent = Sent {
             to: arrow.to,
             place: arrow.place as usize,
             frame,
         };
-        writeln!(
-            f,
-            "<path class=\"{class}\" d=\"{way}\" marker-end=\"url(#{class})\"><title>{take}</title></path>"
-        )
+        put_all(sink, &["<path class=\"", class, "\" d=\""]);
+        self.way(arrow).put(sink);
+        put_all(sink, &["\" marker-end=\"url(#", class, ")\"><title>"]);
+        put_take(sink, self.names, arrow.from, &sent);
+        sink.put(b"</title></path>\n");
     }
 
     /// Whether the straight line of an arrow seems to meet an event of a process between its ends.
@@ -182,49 +180,46 @@ impl<A: Allocator + Copy> Drawing<'_, A> {
         false
     }
 
-    /// Shows an arrow for each frame that is taken.
-    fn show_arrows<W: fmt::Write>(&self, f: &mut fmt::Formatter<W>) -> fmt::Result {
-        for arrow in &self.arrows {
-            match self.frame_taken(arrow.takes) {
-                Some(frame) if self.legend.draws(frame) => self.show_arrow(f, arrow, frame)?,
-                _ => {}
+    /// Puts an arrow for each frame that is taken.
+    fn put_arrows(&self, sink: &mut Sink<'_, Vec<u8, A>>) {
+        for arrow in self.arrows {
+            if let Some(frame) = self.frame_taken(arrow.takes)
+                && self.legend.draws(frame)
+            {
+                self.put_arrow(sink, arrow, frame);
             }
         }
-        Ok(())
     }
 
-    /// Shows that a frame is never taken.
-    fn show_stub<W: fmt::Write>(
+    /// Puts that a frame is never taken, beside the spot of its event.
+    fn put_lost_frame(
         &self,
-        f: &mut fmt::Formatter<W>,
+        sink: &mut Sink<'_, Vec<u8, A>>,
         process: u8,
         sent: &Sent,
         span: Span,
-    ) -> fmt::Result {
-        let stub = Stub {
-            class: class_of(sent.frame),
-            span,
-        };
-        let take = TakeText::of(self.names, process, sent);
-        writeln!(f, "<g><title>never taken: {take}</title>{stub}</g>")
+    ) {
+        sink.put(b"<g><title>never taken: ");
+        put_take(sink, self.names, process, sent);
+        sink.put(b"</title>");
+        put_stub(sink, class_of(sent.frame), span);
+        sink.put(b"</g>\n");
     }
 
-    /// Shows a stub for each frame that is never taken.
-    fn show_stubs<W: fmt::Write>(&self, f: &mut fmt::Formatter<W>) -> fmt::Result {
+    /// Puts a stub for each frame that is never taken.
+    fn put_stubs(&self, sink: &mut Sink<'_, Vec<u8, A>>) {
         for (number, moment) in self.moments.iter().enumerate() {
             let process = moment.process;
             let from = self.spot(number, process);
             let mut shift = 12u32;
             for sent in &moment.sent {
-                if !is_never_taken(&self.legend, self.moments, process, sent) {
-                    continue;
+                if is_never_taken(&self.legend, self.moments, process, sent) {
+                    let to = from.beside(shift, sent.to > process);
+                    self.put_lost_frame(sink, process, sent, Span { from, to });
+                    shift = shift.saturating_add(9).min(39);
                 }
-                let to = from.beside(shift, sent.to > process);
-                self.show_stub(f, process, sent, Span { from, to })?;
-                shift = shift.saturating_add(9).min(39);
             }
         }
-        Ok(())
     }
 
     /// Where a bar ends, and its class.
@@ -235,123 +230,103 @@ impl<A: Allocator + Copy> Drawing<'_, A> {
         }
     }
 
-    /// Shows the bar of an operation, with its text.
-    fn show_bar<W: fmt::Write>(
-        &self,
-        f: &mut fmt::Formatter<W>,
-        bar: &Bar,
-        text: &str,
-    ) -> fmt::Result {
-        let Spot { x, y } = self.spot(bar.call as usize, bar.id.process);
+    /// Puts the bar of an operation, with its text.
+    fn put_bar(&self, sink: &mut Sink<'_, Vec<u8, A>>, labelled: &Labelled<A>) {
+        let bar = &labelled.bar;
+        let id = bar.id;
+        let Spot { x, y } = self.spot(bar.call as usize, id.process);
         let (end, class) = self.end_of(bar);
-        let wide = end.saturating_sub(x).max(8);
-        let id = IdText { id: bar.id };
-        let corner = Spot {
-            x,
-            y: y.saturating_sub(28),
-        };
-        let base = Spot {
-            x,
-            y: y.saturating_sub(34),
-        };
-        writeln!(
-            f,
-            "<rect class=\"{class}\" {corner} width=\"{wide}\" height=\"8\" rx=\"2\"><title>{id}</title></rect>\n<text {base}>{text}</text>"
-        )
+        let wide = end.saturating_sub(x).max(8) as u64;
+        let (x, corner, base) = (x as u64, y.saturating_sub(28), y.saturating_sub(34));
+        let (process, number) = (id.process as u64, id.number as u64);
+        put_all(sink, &["<rect class=\"", class]);
+        put_with(
+            sink,
+            "\" x=\"{}\" y=\"{}\" width=\"{}\" height=\"8\" rx=\"2\"><title>p{} #{}</title></rect>\n<text x=\"{}\" y=\"{}\">",
+            &[x, corner as u64, wide, process, number, x, base as u64],
+        );
+        sink.put(labelled.text.as_slice());
+        sink.put(b"</text>\n");
     }
 
-    /// Shows a bar for each operation.
-    fn show_bars<W: fmt::Write>(&self, f: &mut fmt::Formatter<W>) -> fmt::Result {
-        for (bar, label) in self.bars.iter().zip(&self.labels) {
-            self.show_bar(f, bar, label.text.as_str())?;
+    /// Puts a bar for each operation.
+    fn put_bars(&self, sink: &mut Sink<'_, Vec<u8, A>>) {
+        for labelled in self.bars {
+            self.put_bar(sink, labelled);
         }
-        Ok(())
     }
 
-    /// Shows where each operation takes effect.
-    fn show_points<W: fmt::Write>(&self, f: &mut fmt::Formatter<W>) -> fmt::Result {
+    /// Puts where each operation takes effect.
+    fn put_points(&self, sink: &mut Sink<'_, Vec<u8, A>>) {
         for point in self.points {
-            let (id, at) = (IdText { id: point.id }, point.at);
-            let diamond = Diamond {
-                middle: Spot {
-                    x: self.x(at as usize),
-                    y: self.y(point.id.process).saturating_sub(24),
-                },
+            let (id, at) = (point.id, point.at);
+            let (process, number) = (id.process as u64, id.number as u64);
+            let middle = Spot {
+                x: self.x(at as usize),
+                y: self.y(id.process).saturating_sub(24),
             };
-            writeln!(
-                f,
-                "<path class=\"point\" d=\"{diamond}\"><title>{id} at {at}</title></path>"
-            )?;
+            put_diamond(sink, middle);
+            put_with(
+                sink,
+                "><title>p{} #{} at {}</title></path>\n",
+                &[process, number, at as u64],
+            );
         }
-        Ok(())
     }
 
-    /// Shows what an event delivered, below it.
-    fn show_delivered<W: fmt::Write>(
-        &self,
-        f: &mut fmt::Formatter<W>,
-        at: Spot,
-        delivered: &[Delivery],
-    ) -> fmt::Result {
-        let mut base = Spot {
-            x: at.x.saturating_sub(3),
-            y: at.y.saturating_add(BELOW).saturating_sub(4),
-        };
+    /// Puts what an event delivered, below it.
+    fn put_delivered(&self, sink: &mut Sink<'_, Vec<u8, A>>, at: Spot, delivered: &[Delivery]) {
+        let x = at.x.saturating_sub(3) as u64;
+        let mut y = at.y.saturating_add(BELOW).saturating_sub(4);
         for delivery in delivered {
-            let cast = CastText {
-                names: self.names,
-                cast: delivery.cast,
-            };
-            writeln!(f, "<text {base}>{cast}</text>")?;
-            base.y = base.y.saturating_add(LEADING);
+            put_with(sink, "<text x=\"{}\" y=\"{}\">", &[x, y as u64]);
+            put_cast(sink, self.names, delivery.cast);
+            sink.put(b"</text>\n");
+            y = y.saturating_add(LEADING);
         }
-        Ok(())
     }
 
-    /// Shows what the events delivered.
-    fn show_deliveries<W: fmt::Write>(&self, f: &mut fmt::Formatter<W>) -> fmt::Result {
+    /// Puts what the events delivered.
+    fn put_deliveries(&self, sink: &mut Sink<'_, Vec<u8, A>>) {
         for (number, moment) in self.moments.iter().enumerate() {
             let at = self.spot(number, moment.process);
-            self.show_delivered(f, at, &moment.delivered)?;
+            self.put_delivered(sink, at, &moment.delivered);
         }
-        Ok(())
     }
 
-    /// Shows the events on their lines, each with the clock after it in it.
-    fn show_dots<W: fmt::Write>(&self, f: &mut fmt::Formatter<W>) -> fmt::Result {
+    /// Puts the events on their lines, each with the clock after it in it.
+    fn put_dots(&self, sink: &mut Sink<'_, Vec<u8, A>>) {
         for (number, moment) in self.moments.iter().enumerate() {
             let clock = moment.clock;
-            let node = Node {
-                middle: self.spot(number, moment.process),
-                clock,
-            };
-            writeln!(f, "{node}<title>event {number}, clock {clock}</title></g>")?;
+            put_node(sink, self.spot(number, moment.process), clock);
+            put_with(
+                sink,
+                "<title>event {}, clock {}</title></g>\n",
+                &[number as u64, clock],
+            );
         }
-        Ok(())
     }
 
-    /// Shows what happened: operations, deliveries and frames. Texts come first, so that the ground behind them cuts no
+    /// Puts what happened: operations, deliveries and frames. Texts come first, so that the ground behind them cuts no
     /// arrow.
-    fn show_run<W: fmt::Write>(&self, f: &mut fmt::Formatter<W>) -> fmt::Result {
-        self.show_bars(f)?;
-        self.show_deliveries(f)?;
-        self.show_arrows(f)?;
-        self.show_stubs(f)?;
-        self.show_points(f)?;
-        self.show_dots(f)
+    fn put_run(&self, sink: &mut Sink<'_, Vec<u8, A>>) {
+        self.put_bars(sink);
+        self.put_deliveries(sink);
+        self.put_arrows(sink);
+        self.put_stubs(sink);
+        self.put_points(sink);
+        self.put_dots(sink);
     }
-}
 
-/// What stands inside of the element: its attributes, and its parts.
-impl<A: Allocator + Copy> fmt::Display for Drawing<'_, A> {
-    fn fmt<W: fmt::Write>(&self, f: &mut fmt::Formatter<W>) -> fmt::Result {
+    /// Puts what stands inside of the element: its attributes, and its parts.
+    fn put(&self, sink: &mut Sink<'_, Vec<u8, A>>) {
         let legend = self.layout.bottom.saturating_add(28);
-        self.show_page(f)?;
-        self.show_title(f)?;
-        self.show_events(f)?;
-        self.show_processes(f)?;
-        self.show_run(f)?;
-        self.legend.show(f, legend, self.layout.width)
+        self.put_page(sink);
+        self.put_title(sink);
+        self.put_events(sink);
+        self.put_processes(sink);
+        self.put_run(sink);
+        self.legend.put(sink, legend, self.layout.width);
     }
 }
 
@@ -371,7 +346,16 @@ impl<A: Allocator + Copy> Drawing<'_, A> {
     pub(crate) fn text(&self, alloc: A) -> Result<String<A>, AllocError>
         ensures { IfOk result (λ s. IsDrawing (string_bytes s)) }
     {
-        let inside = format!(in alloc; "{self}")?;
-        element(alloc, inside.as_str())
+        let mut bytes = Vec::new(alloc);
+        let mut sink = Sink::new(&mut bytes);
+        self.put(&mut sink);
+        if sink.failed {
+            return Err(AllocError);
+        }
+        match str::from_utf8(bytes.as_slice()) {
+            Ok(inside) => element(alloc, inside),
+            // All that was put is text, so this is never so.
+            Err(_) => Err(AllocError),
+        }
     }
 }

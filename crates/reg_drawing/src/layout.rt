@@ -1,8 +1,8 @@
 //! Where the parts of a drawing stand.
-use crate::words::{AnswerText, CastText};
 use reg_base::Names;
-use reg_text::{OpLine, name_of_op};
-use reg_trace::{Bar, Filled, GAP, Moment, TracedRun};
+use reg_process::Delivered;
+use reg_text::{Sink, put_answer, put_number, put_op};
+use reg_trace::{Bar, Filled, GAP, Moment, TracedRun, put_cast};
 use std::alloc::{AllocError, Allocator};
 
 /// The left edge of the first event.
@@ -22,34 +22,44 @@ pub const BELOW: u32 = 34;
 /// From one delivery of an event to the next.
 pub const LEADING: u32 = 15;
 
-/// A text beside a bar.
+/// The bar of an operation, with the text beside it.
 #[derive(Drop)]
-pub struct Label<A: Allocator + Copy> {
-    pub text: String<A>,
+pub struct Labelled<A: Allocator + Copy> {
+    pub bar: Bar,
+    pub text: Vec<u8, A>,
 }
 
-/// The text of a bar: its operation, and its answer with its place where the run has no points.
-pub fn bar_label<A: Allocator + Copy>(
+/// Puts the text of a bar: its operation, and its answer with its place where one is given.
+fn put_label<A: Allocator + Copy>(
+    sink: &mut Sink<'_, Vec<u8, A>>,
+    names: &Names<A>,
+    bar: &Bar,
+    place: Option<u64>,
+) {
+    put_op(sink, names, bar.op);
+    if let Some(end) = bar.end {
+        sink.put(b": ");
+        put_answer(sink, end.answer);
+        if let Some(place) = place {
+            put_number(sink, ", place ", place);
+        }
+    }
+}
+
+/// A bar with its text: its operation, and its answer with its place where the run has no points.
+pub fn label_of<A: Allocator + Copy>(
     alloc: A,
     names: &Names<A>,
     bar: &Bar,
     place: Option<u64>,
-) -> Result<Label<A>, AllocError> {
-    let op = OpLine {
-        name: name_of_op(names, bar.op),
-        op: bar.op,
-    };
-    let text = match bar.end {
-        Some(end) => {
-            let answer = AnswerText { answer: end.answer };
-            match place {
-                Some(place) => format!(in alloc; "{op}: {answer}, place {place}")?,
-                None => format!(in alloc; "{op}: {answer}")?,
-            }
-        }
-        None => format!(in alloc; "{op}")?,
-    };
-    Ok(Label { text })
+) -> Result<Labelled<A>, AllocError> {
+    let mut text = Vec::new(alloc);
+    let mut sink = Sink::new(&mut text);
+    put_label(&mut sink, names, bar, place);
+    if sink.failed {
+        return Err(AllocError);
+    }
+    Ok(Labelled { bar: *bar, text })
 }
 
 /// Where the parts of a drawing stand: the events from left to right, and the processes' lines from above.
@@ -68,6 +78,21 @@ pub fn width_of(letters: usize) -> u32 {
     letters.saturating_mul(15) / 2
 }
 
+/// The length of the text of a cast.
+fn length_of<A: Allocator + Copy>(
+    alloc: A,
+    names: &Names<A>,
+    cast: Delivered,
+) -> Result<usize, AllocError> {
+    let mut text = Vec::new(alloc);
+    let mut sink = Sink::new(&mut text);
+    put_cast(&mut sink, names, cast);
+    if sink.failed {
+        return Err(AllocError);
+    }
+    Ok(text.len())
+}
+
 /// The length of the longest text of an event's deliveries.
 fn longest<A: Allocator + Copy>(
     alloc: A,
@@ -76,12 +101,7 @@ fn longest<A: Allocator + Copy>(
 ) -> Result<usize, AllocError> {
     let mut most = 0;
     for delivery in &moment.delivered {
-        let cast = CastText {
-            names,
-            cast: delivery.cast,
-        };
-        let text = format!(in alloc; "{cast}")?;
-        most = most.max(text.len());
+        most = most.max(length_of(alloc, names, delivery.cast)?);
     }
     Ok(most)
 }
@@ -110,37 +130,75 @@ fn rows_of<A: Allocator + Copy>(
     Ok((rows, y))
 }
 
-/// The layout of a run with these bars and the text of each, at least as wide as given.
+/// The places of a drawing that are found one after another, from left to right.
+#[derive(Drop)]
+struct Placing<'a, A: Allocator + Copy> {
+    names: &'a Names<A>,
+    bars: &'a [Labelled<A>],
+    filled: Filled,
+}
+
+impl<A: Allocator + Copy> Placing<'_, A> {
+    /// The place of an event, from x on, so that the texts of its bars stand where the line is free.
+    fn put_bars(&mut self, number: usize, process: u8, from: u32) -> u32 {
+        let mut x = from;
+        for labelled in self.bars {
+            if labelled.bar.call as usize == number {
+                let wide = width_of(labelled.text.len());
+                x = self.filled.put_above(process, x, wide);
+            }
+        }
+        x
+    }
+
+    /// The place of an event, from x on, so that the texts of its deliveries stand where the line is free.
+    fn put_deliveries(
+        &mut self,
+        alloc: A,
+        moment: &Moment<A>,
+        from: u32,
+    ) -> Result<u32, AllocError> {
+        if moment.delivered.is_empty() {
+            return Ok(from);
+        }
+        let wide = width_of(longest(alloc, self.names, moment)?);
+        Ok(self.filled.put_below(moment.process, from, wide))
+    }
+
+    /// The places of the events.
+    fn events(&mut self, alloc: A, moments: &[Moment<A>]) -> Result<Vec<u32, A>, AllocError> {
+        let mut events = Vec::new(alloc);
+        let mut from = LEFT;
+        for (number, moment) in moments.iter().enumerate() {
+            let beside = self.put_bars(number, moment.process, from);
+            let x = self.put_deliveries(alloc, moment, beside)?;
+            events.push(x)?;
+            from = x.saturating_add(STEP);
+            self.filled.reach(from);
+        }
+        Ok(events)
+    }
+}
+
+/// The layout of a run with these bars, at least as wide as given.
 pub fn lay_out<A: Allocator + Copy>(
     alloc: A,
     told: &TracedRun<A>,
-    bars: &[Bar],
-    labels: &[Label<A>],
+    bars: &[Labelled<A>],
     least: u32,
 ) -> Result<Layout<A>, AllocError> {
     let moments = told.moments.as_slice();
-    let mut filled = Filled::new(least);
-    let mut events = Vec::new(alloc);
-    let mut x = LEFT;
-    for (number, moment) in moments.iter().enumerate() {
-        for (bar, label) in bars.iter().zip(labels) {
-            if bar.call as usize == number {
-                x = filled.put_above(moment.process, x, width_of(label.text.len()));
-            }
-        }
-        if !moment.delivered.is_empty() {
-            let wide = width_of(longest(alloc, &told.names, moment)?);
-            x = filled.put_below(moment.process, x, wide);
-        }
-        events.push(x)?;
-        x = x.saturating_add(STEP);
-        filled.reach(x);
-    }
+    let mut placing = Placing {
+        names: &told.names,
+        bars,
+        filled: Filled::new(least),
+    };
     let (rows, bottom) = rows_of(alloc, told.history.shape().processes(), moments)?;
+    let events = placing.events(alloc, moments)?;
     Ok(Layout {
         events,
         rows,
-        width: filled.right().saturating_add(GAP),
+        width: placing.filled.right().saturating_add(GAP),
         bottom,
     })
 }

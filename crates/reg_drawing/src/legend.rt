@@ -1,8 +1,10 @@
 //! The colours of a drawing, and the legend of its signs.
 use crate::layout::width_of;
-use crate::shapes::{Diamond, Node, Soft, Span, Spot, Stub};
+use crate::shapes::{Spot, put_diamond, put_line, put_node, put_stub};
+use crate::words::{put_all, put_with};
 use reg_frames::Frame;
-use std::fmt;
+use reg_text::Sink;
+use std::alloc::Allocator;
 
 /// The colours, on light and on dark pages.
 const HEAD: &str = "\
@@ -47,22 +49,27 @@ const HEAD: &str = "\
 <defs>
 ";
 
-/// Shows how arrows end.
-fn show_tips<W: fmt::Write>(f: &mut fmt::Formatter<W>) -> fmt::Result {
+/// Puts how arrows end.
+fn put_tips<A: Allocator + Copy>(sink: &mut Sink<'_, Vec<u8, A>>) {
     for class in &["cast", "ack", "count"] {
-        writeln!(
-            f,
-            "<marker id=\"{class}\" viewBox=\"0 0 8 8\" refX=\"16\" refY=\"4\" markerWidth=\"8\" markerHeight=\"8\" markerUnits=\"userSpaceOnUse\" orient=\"auto\"><path class=\"{class}-tip\" d=\"M0 0L8 4L0 8Z\"/></marker>"
-        )?;
+        put_all(
+            sink,
+            &[
+                "<marker id=\"",
+                class,
+                "\" viewBox=\"0 0 8 8\" refX=\"16\" refY=\"4\" markerWidth=\"8\" markerHeight=\"8\" markerUnits=\"userSpaceOnUse\" orient=\"auto\"><path class=\"",
+                class,
+                "-tip\" d=\"M0 0L8 4L0 8Z\"/></marker>\n",
+            ],
+        );
     }
-    Ok(())
 }
 
-/// Shows the head: the colours, and how arrows end.
-pub(crate) fn show_head<W: fmt::Write>(f: &mut fmt::Formatter<W>) -> fmt::Result {
-    f.write_str(HEAD)?;
-    show_tips(f)?;
-    f.write_str("</defs>\n")
+/// Puts the head: the colours, and how arrows end.
+pub(crate) fn put_head<A: Allocator + Copy>(sink: &mut Sink<'_, Vec<u8, A>>) {
+    sink.put(HEAD.as_bytes());
+    put_tips(sink);
+    sink.put(b"</defs>\n");
 }
 
 /// A sign whose meaning is told.
@@ -97,36 +104,6 @@ const APART: u32 = 18;
 /// From one row to the next.
 pub(crate) const ROW: u32 = 20;
 
-/// Shows a line from here to the right.
-fn show_line<W: fmt::Write>(f: &mut fmt::Formatter<W>, at: Spot, class: &str) -> fmt::Result {
-    let span = Span {
-        from: at,
-        to: at.right(26),
-    };
-    write!(f, "<line class=\"{class}\" {span}/>")
-}
-
-/// Shows the line of a frame that is never taken.
-fn show_stub<W: fmt::Write>(f: &mut fmt::Formatter<W>, at: Spot) -> fmt::Result {
-    let stub = Stub {
-        class: "cast",
-        span: Span {
-            from: at,
-            to: at.right(14),
-        },
-    };
-    write!(f, "{stub}")
-}
-
-/// Shows an event, with a clock in it.
-fn show_event<W: fmt::Write>(f: &mut fmt::Formatter<W>, at: Spot) -> fmt::Result {
-    let node = Node {
-        middle: at.right(8),
-        clock: 3,
-    };
-    write!(f, "{node}</g>")
-}
-
 impl Sign {
     /// From the left end of the sign to its words.
     fn wide(self) -> u32 {
@@ -139,19 +116,20 @@ impl Sign {
         }
     }
 
-    /// Shows the sign, from its left end on.
-    fn show<W: fmt::Write>(self, f: &mut fmt::Formatter<W>, at: Spot) -> fmt::Result {
+    /// Puts the sign, from its left end on.
+    fn put<A: Allocator + Copy>(self, sink: &mut Sink<'_, Vec<u8, A>>, at: Spot) {
         match self {
-            Sign::Line(class) => show_line(f, at, class),
-            Sign::NeverTaken => show_stub(f, at),
+            Sign::Line(class) => put_line(sink, class, at.span_right(26)),
+            Sign::NeverTaken => put_stub(sink, "cast", at.span_right(14)),
             Sign::Point => {
-                let diamond = Diamond {
-                    middle: at.right(6),
-                };
-                write!(f, "<path class=\"point\" d=\"{diamond}\"/>")
+                put_diamond(sink, at.right(6));
+                sink.put(b"/>");
             }
-            Sign::Event => show_event(f, at),
-            Sign::Words => Ok(()),
+            Sign::Event => {
+                put_node(sink, at.right(8), 3);
+                sink.put(b"</g>");
+            }
+            Sign::Words => {}
         }
     }
 }
@@ -168,22 +146,18 @@ fn is_over(x: u32, sign: Sign, words: &str, width: u32) -> bool {
     x > BESIDE && next_to(x, sign, words) > width
 }
 
-/// Shows a sign with its words.
-fn show_sign<W: fmt::Write>(
-    f: &mut fmt::Formatter<W>,
+/// Puts a sign with its words.
+fn put_sign<A: Allocator + Copy>(
+    sink: &mut Sink<'_, Vec<u8, A>>,
     at: Spot,
     sign: Sign,
     words: &str,
-) -> fmt::Result {
-    sign.show(f, at)?;
-    let text = Soft {
-        at: Spot {
-            x: at.x.saturating_add(sign.wide()),
-            y: at.y.saturating_add(4),
-        },
-        words,
-    };
-    writeln!(f, "{text}")
+) {
+    let x = at.x.saturating_add(sign.wide()) as u64;
+    let y = at.y.saturating_add(4) as u64;
+    sign.put(sink, at);
+    put_with(sink, "<text class=\"soft\" x=\"{}\" y=\"{}\">", &[x, y]);
+    put_all(sink, &[words, "</text>\n"]);
 }
 
 impl Legend {
@@ -222,13 +196,13 @@ impl Legend {
         rows
     }
 
-    /// Shows the legend, with its first row at this height, in a drawing of this width.
-    pub(crate) fn show<W: fmt::Write>(
+    /// Puts the legend, with its first row at this height, in a drawing of this width.
+    pub(crate) fn put<A: Allocator + Copy>(
         &self,
-        f: &mut fmt::Formatter<W>,
+        sink: &mut Sink<'_, Vec<u8, A>>,
         y: u32,
         width: u32,
-    ) -> fmt::Result {
+    ) {
         let mut at = Spot { x: BESIDE, y };
         for &(is_there, sign, words) in &self.signs() {
             if is_there {
@@ -238,10 +212,9 @@ impl Legend {
                         y: at.y.saturating_add(ROW),
                     };
                 }
-                show_sign(f, at, sign, words)?;
+                put_sign(sink, at, sign, words);
                 at.x = next_to(at.x, sign, words);
             }
         }
-        Ok(())
     }
 }

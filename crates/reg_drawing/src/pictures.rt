@@ -3,12 +3,14 @@ ghost use Rattle.std.specs.Prelude.{IfOk, string_bytes};
 ghost use Rattle.reg_drawing.specs.Drawings.{IsDrawing};
 
 use crate::drawing::Drawing;
-use crate::layout::{Label, bar_label, lay_out, width_of};
+use crate::layout::{Labelled, label_of, lay_out, width_of};
 use crate::legend::Legend;
 use crate::sizes::Size;
+use crate::words::put_all;
 use reg_base::Names;
 use reg_frames::{Body, Frame};
 use reg_front::Front;
+use reg_text::Sink;
 use reg_trace::{Arrow, Bar, Moment, Sent, TracedRun, arrows, bars, is_taken};
 use std::alloc::{AllocError, Allocator};
 
@@ -23,22 +25,19 @@ fn place_of<A: Allocator + Copy>(moments: &[Moment<A>], bar: &Bar) -> Option<u64
     None
 }
 
-/// The texts of the bars.
+/// The bars, each with its text.
 fn labels_of<A: Allocator + Copy>(
     alloc: A,
-    names: &Names<A>,
-    moments: &[Moment<A>],
+    told: &TracedRun<A>,
     bars: &[Bar],
-    with_places: bool,
-) -> Result<Vec<Label<A>, A>, AllocError> {
+) -> Result<Vec<Labelled<A>, A>, AllocError> {
     let mut labels = Vec::new(alloc);
     for bar in bars {
-        let place = if with_places {
-            place_of(moments, bar)
-        } else {
-            None
+        let place = match &told.points {
+            Some(_) => None,
+            None => place_of(told.moments.as_slice(), bar),
         };
-        labels.push(bar_label(alloc, names, bar, place)?)?;
+        labels.push(label_of(alloc, &told.names, bar, place)?)?;
     }
     Ok(labels)
 }
@@ -50,28 +49,43 @@ const LEAST: u32 = 380;
 /// The most registers that are named in the title.
 const MOST_NAMED: u16 = 8;
 
-/// The title: the front end, the registers, and what else there is to say.
-fn title_of<A: Allocator + Copy>(
-    alloc: A,
-    front: Front,
-    names: &Names<A>,
-    more: &str,
-) -> Result<String<A>, AllocError> {
-    let mut title = String::new(alloc);
-    title.push_str(front.name())?;
-    title.push_str(", registers")?;
+/// Puts the names of the registers, the first of them where there are many.
+fn put_names<A: Allocator + Copy>(sink: &mut Sink<'_, Vec<u8, A>>, names: &Names<A>) {
     for register in 0..MOST_NAMED {
         if let Some(name) = names.name(register) {
-            title.push_str(" ")?;
-            title.push_str(name)?;
+            put_all(sink, &[" ", name]);
         }
     }
     if names.count() > usize::from(MOST_NAMED) {
-        title.push_str(" ..")?;
+        sink.put(b" ..");
     }
+}
+
+/// Puts the title: the front end, the registers, and what else there is to say.
+fn put_title<A: Allocator + Copy>(
+    sink: &mut Sink<'_, Vec<u8, A>>,
+    front: Front,
+    names: &Names<A>,
+    more: &str,
+) {
+    put_all(sink, &[front.name(), ", registers"]);
+    put_names(sink, names);
     if !more.is_empty() {
-        title.push_str(": ")?;
-        title.push_str(more)?;
+        put_all(sink, &[": ", more]);
+    }
+}
+
+/// The title of what is told of a run.
+fn title_of<A: Allocator + Copy>(
+    alloc: A,
+    told: &TracedRun<A>,
+    more: &str,
+) -> Result<Vec<u8, A>, AllocError> {
+    let mut title = Vec::new(alloc);
+    let mut sink = Sink::new(&mut title);
+    put_title(&mut sink, told.front, &told.names, more);
+    if sink.failed {
+        return Err(AllocError);
     }
     Ok(title)
 }
@@ -140,37 +154,36 @@ fn legend_of<A: Allocator + Copy>(
     legend
 }
 
-/// What is drawn of what is told of a run, with this in its title.
-fn drawing_of<'a, A: Allocator + Copy>(
+/// The text of the drawing of what is told of a run, with these bars and this title.
+fn text_of<A: Allocator + Copy>(
     alloc: A,
-    told: &'a TracedRun<A>,
-    more: &str,
+    told: &TracedRun<A>,
+    bars: &[Labelled<A>],
+    title: &[u8],
     size: Size,
-) -> Result<Drawing<'a, A>, AllocError> {
+) -> Result<String<A>, AllocError>
+    ensures { IfOk result (λ s. IsDrawing (string_bytes s)) }
+{
     let moments = told.moments.as_slice();
-    let bars = bars(alloc, told.history.entries())?;
-    let arrows = arrows(alloc, moments)?;
-    let labels = labels_of(alloc, &told.names, moments, &bars, told.points.is_none())?;
     let points = match &told.points {
         Some(points) => points.as_slice(),
         None => &[],
     };
-    let title = title_of(alloc, told.front, &told.names, more)?;
-    let legend = legend_of(moments, &arrows, !points.is_empty());
     let least = width_of(title.len()).saturating_add(20).max(LEAST);
-    let layout = lay_out(alloc, told, &bars, &labels, least)?;
-    Ok(Drawing {
+    let arrows = arrows(alloc, moments)?;
+    let layout = lay_out(alloc, told, bars, least)?;
+    let drawing = Drawing {
         names: &told.names,
         moments,
         points,
         bars,
-        labels,
-        arrows,
-        layout,
+        legend: legend_of(moments, arrows.as_slice(), !points.is_empty()),
+        arrows: arrows.as_slice(),
+        layout: &layout,
         title,
-        legend,
         size,
-    })
+    };
+    drawing.text(alloc)
 }
 
 /// Draws what is told of a run, as a space-time diagram: the text of an SVG element. Its title is that of the run's
@@ -188,5 +201,8 @@ pub fn draw_told<A: Allocator + Copy>(
 ) -> Result<String<A>, AllocError>
     ensures { IfOk result (λ s. IsDrawing (string_bytes s)) }
 {
-    drawing_of(alloc, told, more, size)?.text(alloc)
+    let bars = bars(alloc, told.history.entries())?;
+    let labels = labels_of(alloc, told, bars.as_slice())?;
+    let title = title_of(alloc, told, more)?;
+    text_of(alloc, told, labels.as_slice(), title.as_slice(), size)
 }

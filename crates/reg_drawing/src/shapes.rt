@@ -1,5 +1,7 @@
 //! The shapes of a drawing, as text. All lengths are pixels.
-use std::fmt;
+use crate::words::{put_all, put_with};
+use reg_text::Sink;
+use std::alloc::Allocator;
 
 /// A spot, from the upper left corner.
 #[derive(Clone, Copy)]
@@ -17,6 +19,14 @@ impl Spot {
         }
     }
 
+    /// The span from here to the spot at this distance to the right.
+    pub fn span_right(self, by: u32) -> Span {
+        Span {
+            from: self,
+            to: self.right(by),
+        }
+    }
+
     /// The spot at this distance to the right, 16 below or above.
     pub fn beside(self, right: u32, is_below: bool) -> Spot {
         let y = if is_below {
@@ -31,29 +41,11 @@ impl Spot {
     }
 }
 
-impl fmt::Display for Spot {
-    fn fmt<W: fmt::Write>(&self, f: &mut fmt::Formatter<W>) -> fmt::Result {
-        let Spot { x, y } = *self;
-        write!(f, "x=\"{x}\" y=\"{y}\"")
-    }
-}
-
 /// From where to where a line goes.
 #[derive(Clone, Copy)]
 pub struct Span {
     pub from: Spot,
     pub to: Spot,
-}
-
-impl fmt::Display for Span {
-    fn fmt<W: fmt::Write>(&self, f: &mut fmt::Formatter<W>) -> fmt::Result {
-        let (from, to) = (self.from, self.to);
-        write!(
-            f,
-            "x1=\"{}\" y1=\"{}\" x2=\"{}\" y2=\"{}\"",
-            from.x, from.y, to.x, to.y
-        )
-    }
 }
 
 /// How close to a spot a line seems to meet it.
@@ -86,84 +78,61 @@ pub struct Way {
     pub bent: bool,
 }
 
-impl fmt::Display for Way {
-    fn fmt<W: fmt::Write>(&self, f: &mut fmt::Formatter<W>) -> fmt::Result {
+impl Way {
+    /// Puts it as the path that an arrow goes.
+    pub fn put<A: Allocator + Copy>(self, sink: &mut Sink<'_, Vec<u8, A>>) {
         let (from, to) = (self.span.from, self.span.to);
-        write!(f, "M{} {}", from.x, from.y)?;
+        put_with(sink, "M{} {}", &[from.x as u64, from.y as u64]);
         if self.bent {
             let x = (from.x / 2).saturating_add(to.x / 2).saturating_add(BEND);
             let y = (from.y / 2).saturating_add(to.y / 2);
-            return write!(f, "Q{x} {y} {} {}", to.x, to.y);
+            put_with(sink, "Q{} {} ", &[x as u64, y as u64]);
+        } else {
+            sink.put(b"L");
         }
-        write!(f, "L{} {}", to.x, to.y)
+        put_with(sink, "{} {}", &[to.x as u64, to.y as u64]);
     }
 }
 
-/// The line of a frame that is never taken.
-#[derive(Clone, Copy)]
-pub struct Stub<'a> {
-    pub class: &'a str,
-    pub span: Span,
+/// Puts a line of this class.
+pub fn put_line<A: Allocator + Copy>(sink: &mut Sink<'_, Vec<u8, A>>, class: &str, span: Span) {
+    let (from, to) = (span.from, span.to);
+    let numbers = [from.x as u64, from.y as u64, to.x as u64, to.y as u64];
+    put_all(sink, &["<line class=\"", class, "\" "]);
+    put_with(sink, "x1=\"{}\" y1=\"{}\" x2=\"{}\" y2=\"{}\"/>", &numbers);
 }
 
-impl fmt::Display for Stub<'_> {
-    fn fmt<W: fmt::Write>(&self, f: &mut fmt::Formatter<W>) -> fmt::Result {
-        let (class, span) = (self.class, self.span);
-        let Spot { x, y } = span.to;
-        write!(
-            f,
-            "<line class=\"{class}\" {span}/><circle class=\"{class}-tip\" cx=\"{x}\" cy=\"{y}\" r=\"2.5\"/>"
-        )
-    }
+/// Puts the line of a frame that is never taken.
+pub fn put_stub<A: Allocator + Copy>(sink: &mut Sink<'_, Vec<u8, A>>, class: &str, span: Span) {
+    let Spot { x, y } = span.to;
+    put_line(sink, class, span);
+    put_all(sink, &["<circle class=\"", class, "-tip\""]);
+    put_with(
+        sink,
+        " cx=\"{}\" cy=\"{}\" r=\"2.5\"/>",
+        &[x as u64, y as u64],
+    );
 }
 
-/// The outline of the sign of a point.
-#[derive(Clone, Copy)]
-pub struct Diamond {
-    pub middle: Spot,
+/// Puts the sign of a point, whose element the caller ends.
+pub fn put_diamond<A: Allocator + Copy>(sink: &mut Sink<'_, Vec<u8, A>>, middle: Spot) {
+    let (x, y) = (middle.x as u64, middle.y as u64);
+    let (left, right) = (x.saturating_sub(6), x.saturating_add(6));
+    let (top, bottom) = (y.saturating_sub(6), y.saturating_add(6));
+    put_with(
+        sink,
+        "<path class=\"point\" d=\"M{} {}L{} {}L{} {}L{} {}Z\"",
+        &[left, y, x, top, right, y, x, bottom],
+    );
 }
 
-impl fmt::Display for Diamond {
-    fn fmt<W: fmt::Write>(&self, f: &mut fmt::Formatter<W>) -> fmt::Result {
-        let Spot { x, y } = self.middle;
-        let (left, right) = (x.saturating_sub(6), x.saturating_add(6));
-        let (top, bottom) = (y.saturating_sub(6), y.saturating_add(6));
-        write!(f, "M{left} {y}L{x} {top}L{right} {y}L{x} {bottom}Z")
-    }
-}
-
-/// An event with the clock after it, in a group that the caller ends.
-#[derive(Clone, Copy)]
-pub struct Node {
-    pub middle: Spot,
-    pub clock: u64,
-}
-
-impl fmt::Display for Node {
-    fn fmt<W: fmt::Write>(&self, f: &mut fmt::Formatter<W>) -> fmt::Result {
-        let Spot { x, y } = self.middle;
-        let base = Spot {
-            x,
-            y: y.saturating_add(3),
-        };
-        let clock = self.clock;
-        write!(
-            f,
-            "<g><circle class=\"dot\" cx=\"{x}\" cy=\"{y}\" r=\"8\"/><text class=\"clock\" {base}>{clock}</text>"
-        )
-    }
-}
-
-/// Words beside a sign.
-#[derive(Clone, Copy)]
-pub struct Soft<'a> {
-    pub at: Spot,
-    pub words: &'a str,
-}
-
-impl fmt::Display for Soft<'_> {
-    fn fmt<W: fmt::Write>(&self, f: &mut fmt::Formatter<W>) -> fmt::Result {
-        let (at, words) = (self.at, self.words);
-        write!(f, "<text class=\"soft\" {at}>{words}</text>")
-    }
+/// Puts an event with the clock after it, in a group that the caller ends.
+pub fn put_node<A: Allocator + Copy>(sink: &mut Sink<'_, Vec<u8, A>>, middle: Spot, clock: u64) {
+    let (x, y) = (middle.x as u64, middle.y as u64);
+    let base = y.saturating_add(3);
+    put_with(
+        sink,
+        "<g><circle class=\"dot\" cx=\"{}\" cy=\"{}\" r=\"8\"/><text class=\"clock\" x=\"{}\" y=\"{}\">{}</text>",
+        &[x, y, x, base, clock],
+    );
 }
