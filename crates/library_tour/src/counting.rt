@@ -5,6 +5,7 @@ use std::alloc::Global;
 use std::sync::{Arc, Wait};
 use std::thread;
 use std::thread::{JoinHandle, Threads};
+use std::time::Clock;
 use tellwydar::{
     Linear, LiveFault, Names, NoGate, Pass, Rough, SeedWords, World, check_points, shape_for, start,
 };
@@ -138,7 +139,10 @@ fn print_verdict(rt: &impl Print, alloc: Global, world: &World<Linear>) -> anyho
 }
 
 /// Makes a cluster, has all threads add, closes it, and prints the totals.
-pub fn run(rt: HostRuntime) -> anyhow::Result<()> {
+pub fn run<R>(rt: R) -> anyhow::Result<()>
+where
+    R: AllocGlobal + Print + Clock + Threads + Wait + Copy + Send + Sync + 'static,
+{
     let alloc = rt.alloc();
     let road = Arc::new(alloc, Rough::new(SeedWords::new(11), 10, 10))?;
     let names = named(alloc)?;

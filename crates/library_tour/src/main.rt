@@ -7,7 +7,7 @@ mod sharing;
 mod stepping;
 
 fn main(rt: HostRuntime) -> anyhow::Result<()> {
-    stepping::run(rt)?;
+    stepping::run(&rt)?;
     sharing::run(rt)?;
     counting::run(rt)
 }

@@ -6,6 +6,7 @@ use std::alloc::Global;
 use std::sync::{Arc, Wait};
 use std::thread;
 use std::thread::Threads;
+use std::time::Clock;
 use tellwydar::{
     Linear, NoGate, Pass, Receipt, Rough, SeedWords, Shape, World, check_points, read_from, start,
     write,
@@ -50,7 +51,10 @@ fn print_run(
 }
 
 /// Makes a cluster, has its registers shared, closes it, and prints what came.
-pub fn run(rt: HostRuntime) -> anyhow::Result<()> {
+pub fn run<R>(rt: R) -> anyhow::Result<()>
+where
+    R: AllocGlobal + Print + Clock + Threads + Wait + Copy + Send + Sync + 'static,
+{
     let alloc = rt.alloc();
     let road = Arc::new(alloc, Rough::new(SeedWords::new(7), 20, 20))?;
     let (running, mut passes) = start::<Linear, _, _, _>(

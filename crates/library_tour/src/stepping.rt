@@ -132,10 +132,10 @@ fn tour(rt: &impl Print, alloc: Global, world: &mut World<Linear>) -> anyhow::Re
 }
 
 /// Makes a world, and tells of it.
-pub fn run(rt: HostRuntime) -> anyhow::Result<()> {
+pub fn run(rt: &(impl AllocGlobal + Print)) -> anyhow::Result<()> {
     let Ok(shape) = Shape::new(2, 1) else {
         return Err(anyhow!("no shape"));
     };
     let mut world = World::<Linear>::new(rt.alloc(), shape)?;
-    tour(&rt, rt.alloc(), &mut world)
+    tour(rt, rt.alloc(), &mut world)
 }
