@@ -57,7 +57,7 @@ mod tests {
             (1..=500).filter(|_| beat.is_due(first)).collect::<Vec<u32>>()
         };
         assert_eq!(due(false, None), [1, 3, 7, 15, 31, 63, 127, 227, 327, 427]);
-        assert!(due(true, None).is_empty());
+        assert_eq!(due(true, None), []);
         for first in [7, 8] {
             assert_eq!(due(true, Some(first)), [2, 4, 8, 16, 32, 64, 128, 228, 328, 428]);
         }

@@ -2,8 +2,7 @@
 //!
 //! A line is either words, as `write x 5`, or an object in the words of a history (docs/JUDGE.md of the repository), so
 //! that what went over a port can be judged: `{"f": "write", "key": "x", "value": 5}`.
-use crate::json::{self, Members};
-use serde_json::Value;
+use crate::json::{self, Members, Value};
 use tellwydar::{Answer, Op, Word};
 
 /// How a call is spelled, and so the answer to it.
@@ -85,15 +84,15 @@ fn of_words(line: &str, names: &[String]) -> Option<Op> {
 fn of_object(line: &str, names: &[String]) -> Result<Op, String> {
     let members = json::object(line).ok_or("wanted a JSON object")?;
     let (f, key, value) = (member(&members, "f")?, member(&members, "key")?, member(&members, "value")?);
-    let (f, wanted) = f.as_str().and_then(wanted_of).ok_or("wanted f, one of read, write, swap and cas")?;
-    let register = key.as_str().and_then(|it| register_of(it, names));
+    let (f, wanted) = f.as_text().and_then(wanted_of).ok_or("wanted f, one of read, write, swap and cas")?;
+    let register = key.as_text().and_then(|it| register_of(it, names));
     let register = register.ok_or("wanted key, the name of a register")?;
     op_of(f, register, value).ok_or_else(|| format!("wanted value, {wanted}"))
 }
 
 /// The member of this name, or null. One that stands twice is refused, since readers of JSON take it in several ways.
 fn member<'a>(members: &'a Members, name: &str) -> Result<&'a Value, String> {
-    let mut found = members.of(name);
+    let mut found = members.iter().filter(|it| it.0 == name).map(|it| &it.1);
     let first = found.next().unwrap_or(&Value::Null);
     if found.next().is_some() { Err(format!("wanted one {name}")) } else { Ok(first) }
 }
@@ -110,12 +109,12 @@ fn wanted_of(f: &str) -> Option<(&str, &'static str)> {
 }
 
 fn op_of(f: &str, register: u16, value: &Value) -> Option<Op> {
-    Some(match f {
-        "read" if value.is_null() => Op::Read { register },
-        "write" => Op::Write { register, value: value.as_u64()? },
-        "swap" => Op::Swap { register, value: value.as_u64()? },
-        "cas" => match &value.as_array()?[..] {
-            [expected, value] => Op::CompareAndSwap { register, expected: expected.as_u64()?, value: value.as_u64()? },
+    Some(match (f, value) {
+        ("read", Value::Null) => Op::Read { register },
+        ("write", &Value::Number(value)) => Op::Write { register, value },
+        ("swap", &Value::Number(value)) => Op::Swap { register, value },
+        ("cas", Value::Array(values)) => match values[..] {
+            [Value::Number(expected), Value::Number(value)] => Op::CompareAndSwap { register, expected, value },
             _ => return None,
         },
         _ => return None,
