@@ -19,10 +19,9 @@ use Rattle.reg_rulings.specs.declared.keys.Ruling.TheVariants.{Linearizable, Not
 use Rattle.reg_rulings.specs.declared.rows.Row.{Row}
 use Rattle.reg_rulings.specs.declared.seats.Naming.{Naming}
 use Rattle.reg_rulings.specs.declared.seats.Naming.TheVariants.{Own}
-use Rattle.reg_rulings.specs.Firsts.{IsEarlier, IsFirstTo}
+use Rattle.reg_rulings.specs.Firsts.{AreRulingsOf, IsAnswerAt, IsEarlier, IsFirstNot, IsFirstTo}
 use Rattle.reg_rulings.specs.Keys.{rows_of_key}
-use Rattle.reg_rulings.specs.Reported.{AreRulingsOf}
-use Rattle.reg_rulings.specs.Rulings.{AreRuled, IsAnswerAt, IsFirstNot, IsRuled}
+use Rattle.reg_rulings.specs.Rulings.{AreRuled, IsRuled}
 use Rattle.reg_rulings.specs.Standing.{IsStood}
 use Rattle.reg_rulings.proofs.Reporting.{history_stood}
 use Rattle.reg_rulings.proofs.Wholes.{part_alike}

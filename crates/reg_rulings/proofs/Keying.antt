@@ -11,7 +11,8 @@ use Rattle.reg_judge.specs.Judging.{HasPointOrder, IsFirstUnexplained}
 use Rattle.reg_rulings.specs.declared.keys.Ruling.{Ruling}
 use Rattle.reg_rulings.specs.declared.keys.Ruling.TheVariants.{Not}
 use Rattle.reg_rulings.specs.declared.rows.Row.{Row}
-use Rattle.reg_rulings.specs.Keys.{AreParts, GetsRow, of_key, rows_of_key}
+use Rattle.reg_rulings.specs.Keys.{of_key, rows_of_key}
+use Rattle.reg_rulings.specs.Parting.{AreParts, GetsRow}
 use Rattle.reg_rulings.specs.Rulings.{AreRuled, IsRuled, RulesEntries}
 use Rattle.reg_rulings.proofs.Lists.{from_here, past_end}
 

@@ -5,3 +5,4 @@ pub mod Faults
 pub mod Reported
 pub mod Answers
 pub mod Firsts
+pub mod Parting

@@ -47,10 +47,6 @@ SerialFound registers entries (Ok points) (Some serial) = ⊥
 SerialFound registers entries (Err place) None = ⊥
 SerialFound registers entries (Err place) (Some serial) = RulesSerial registers entries serial
 
--- what is found out of each register of a history of so many processes and registers
-abbrev pub AreRulingsOf : ℕ → ℕ → List Entry → List Ruling → Type 0
-AreRulingsOf processes registers entries rulings = (rows : List Row) × AreRowsOf entries rows × AreRuled processes registers rows rulings
-
 -- What is found out of a report: of its history, of each register by itself, and whether there is a serial order. Its
 -- own order and points are not looked at.
 pub record IsJudgedReport (r : Contents) (found : Result (List Point) ℕ) (rulings : List Ruling) (serial : Option Serial) : Type 0 where

@@ -1,9 +1,7 @@
 -- What is found out of a history. To be believed: promises speak of it.
-use Rattle.std.specs.Prelude.{ℕ, ◌≡◌, ◌≤◌, List, length, slice_get, Some, Result, Ok, Err, ⊤}
+use Rattle.std.specs.Prelude.{ℕ, ◌≡◌, List, length, slice_get, Some, Result, Ok, Err, ⊤}
 use Rattle.reg_base.specs.declared.memory.OpId.{OpId}
-use Rattle.reg_base.specs.declared.memory.Answer.{Answer}
 use Rattle.reg_checkers.specs.declared.entries.Entry.{Entry}
-use Rattle.reg_checkers.specs.declared.entries.Entry.TheVariants.{Answered}
 use Rattle.reg_checkers.specs.declared.entries.Point.{Point}
 use Rattle.reg_checkers.specs.History.{IsAt, event_of}
 use Rattle.reg_checkers.specs.Orders.{IsPointOrder, IsSerial}
@@ -50,16 +48,6 @@ IsRuled processes rows ruling = (entries : List Entry) × IsStood Any processes 
 pub record AreRuled (processes keys : ℕ) (rows : List Row) (rulings : List Ruling) : Type 0 where
   pub all : length rulings ≡ keys
   pub each : (key : ℕ) (ruling : Ruling) → slice_get rulings key ≡ Some ruling → IsRuled processes (rows_of_key key rows) ruling
-
--- the earliest event of an answer that is found to be the first that none explains
-pub record IsFirstNot (rulings : List Ruling) (at : ℕ) : Type 0 where
-  pub key : ℕ
-  pub is : IsAt rulings key (Not at)
-  pub least : (other t : ℕ) → IsAt rulings other (Not t) → at ≤ t
-
--- an answer of this event stands at the place
-abbrev pub IsAnswerAt : List Entry → ℕ → ℕ → Type 0
-IsAnswerAt entries at place = (id : OpId) × (answer : Answer) × IsAt entries place (Answered at id answer)
 
 -- of entries that have a serial order, and of those that have none
 abbrev pub RulesSerial : ℕ → List Entry → Serial → Type 0

@@ -3,8 +3,7 @@ ghost use Rattle.std.specs.Prelude.{◌≡◌, ℕ, IfSome, IsTrue};
 ghost use Rattle.reg_base.specs.declared.memory.Answer.{Answer as AnyAnswer};
 ghost use Rattle.reg_base.specs.declared.memory.OpId.{OpId as AnyId};
 ghost use Rattle.reg_checkers.specs.declared.entries.Entry.TheVariants.{Answered};
-ghost use Rattle.reg_rulings.specs.Rulings.{IsAnswerAt, IsFirstNot};
-ghost use Rattle.reg_rulings.specs.Firsts.{IsEarlier};
+ghost use Rattle.reg_rulings.specs.Firsts.{IsAnswerAt, IsEarlier, IsFirstNot};
 
 use crate::keys::Ruling;
 use reg_checkers::Entry;

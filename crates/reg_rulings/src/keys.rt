@@ -1,6 +1,6 @@
 //! The history of the rows of each key, and whether it has a point order.
 ghost use Rattle.std.specs.Prelude.{◌≡◌, [], IfOk, OnOk};
-ghost use Rattle.reg_rulings.specs.Keys.{AreParts, GetsRow};
+ghost use Rattle.reg_rulings.specs.Parting.{AreParts, GetsRow};
 ghost use Rattle.reg_rulings.specs.Standing.{IsStood};
 ghost use Rattle.reg_rulings.specs.Rulings.{AreRuled, IsRuled, RulesEntries};
 

@@ -2,7 +2,7 @@
 ghost use Rattle.std.specs.Prelude.{◌≡◌, IfOk};
 ghost use Rattle.reg_checkers.specs.History.{IsAt, event_of as event_number};
 ghost use Rattle.reg_checkers.specs.declared.entries.Entry.{Entry as AnyEntry};
-ghost use Rattle.reg_rulings.specs.Reported.{AreRulingsOf};
+ghost use Rattle.reg_rulings.specs.Firsts.{AreRulingsOf};
 ghost use Rattle.reg_rulings.specs.Rulings.{IsSought};
 
 use crate::faults::RuleFault;

@@ -1,5 +1,5 @@
 use Rattle.std.proofs.Common.{[]}
-use Rattle.reg_rulings.specs.Keys.{AreParts}
+use Rattle.reg_rulings.specs.Parting.{AreParts}
 use Rattle.reg_rulings.proofs.keys.empty_parts.Given as goal
 
 abbrev pub invariant-loop-key : goal.invariant-loop-key

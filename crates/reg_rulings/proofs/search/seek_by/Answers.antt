@@ -1,6 +1,6 @@
 use Rattle.std.proofs.Common.{ℕ, List, subst}
 use Rattle.reg_checkers.specs.declared.entries.Entry.{Entry}
-use Rattle.reg_rulings.specs.Rulings.{IsAnswerAt, IsFirstNot}
+use Rattle.reg_rulings.specs.Firsts.{IsAnswerAt, IsFirstNot}
 use Rattle.reg_rulings.proofs.Earliest.{unexplained}
 use Rattle.reg_rulings.proofs.search.seek_by.Goals as goal
 
