@@ -4,5 +4,5 @@
 use std::process::ExitCode;
 
 fn main(rt: HostRuntime) -> ExitCode {
-    reg_args::exit_code(reg_cli::run_program(&rt, &mut rt.stderr()))
+    reg_cli::exit_code(reg_cli::run_program(&rt, &mut rt.stderr()))
 }

@@ -4,9 +4,9 @@ use Rattle.reg_base.specs.Names.{names_fault}
 use Rattle.reg_base.specs.Shape.{Extent}
 use Rattle.reg_base.specs.declared.limits.TheConstants.{MOST_PROCESSES}
 use Rattle.reg_front.specs.declared.named.Front.{Front}
-use Rattle.reg_log.specs.declared.logs.LogId.{LogId}
-use Rattle.reg_log.specs.Logs.{begun_with, log_lines, log_text}
-use Rattle.reg_log.specs.Seals.{IsSealed}
+use Rattle.reg_node.specs.declared.transcripts.logs.LogId.{LogId}
+use Rattle.reg_node.specs.LogTexts.{begun_with, log_lines, log_text}
+use Rattle.reg_node.specs.Seals.{IsSealed}
 use Rattle.reg_c.specs.declared.beginning.LogRow.{LogRow}
 use Rattle.reg_c.specs.Beginning.{BeginsLog, SaysNames, id_in}
 use Rattle.reg_c.specs.Fronts.{front_at}

@@ -6,8 +6,8 @@ use Rattle.reg_front.specs.declared.named.Front.{Front}
 use Rattle.reg_process.specs.declared.faults.ProcessFault.TheVariants.{NoProcess, OutOfMemory}
 use Rattle.reg_text.specs.Lines.{lines_of}
 use Rattle.reg_text.specs.Words.{names_text}
-use Rattle.reg_log.specs.declared.logs.LogId.{LogId}
-use Rattle.reg_log.specs.Logs.{IsJournal, Journal, begun_with, log_text}
+use Rattle.reg_node.specs.declared.transcripts.logs.LogId.{LogId}
+use Rattle.reg_node.specs.LogTexts.{IsJournal, Journal, begun_with, log_text}
 use Rattle.reg_commands.specs.Lent.{filled}
 use Rattle.reg_c.specs.declared.beginning.LogRow.{LogRow}
 use Rattle.reg_c.specs.Events.{no_front, no_shape, refusal_code}

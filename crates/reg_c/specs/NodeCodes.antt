@@ -1,8 +1,8 @@
 -- What a node refuses, and why no log is read or opened, as numbers.
 use Rattle.std.specs.Prelude.{ℕ, Option, None, Some}
 use Rattle.reg_process.specs.declared.faults.ProcessFault.TheVariants as refusals
-use Rattle.reg_log.specs.declared.logs.LogFault.{LogFault}
-use Rattle.reg_log.specs.declared.logs.LogFault.TheVariants as logs
+use Rattle.reg_node.specs.declared.transcripts.logs.LogFault.{LogFault}
+use Rattle.reg_node.specs.declared.transcripts.logs.LogFault.TheVariants as logs
 use Rattle.reg_node.specs.Logs.{Outgoing}
 use Rattle.reg_node.specs.declared.faults.HelloFault.{HelloFault}
 use Rattle.reg_node.specs.declared.faults.HelloFault.TheVariants as hellos

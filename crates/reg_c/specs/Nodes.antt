@@ -11,9 +11,9 @@ use Rattle.reg_process.specs.Process.{State}
 use Rattle.reg_process.specs.declared.steps.Reply.{Reply}
 use Rattle.reg_process.specs.declared.steps.Step.{Step}
 use Rattle.reg_process.specs.declared.steps.Step.TheVariants.{Call, Take}
-use Rattle.reg_log.specs.declared.logs.LogFault.{LogFault}
-use Rattle.reg_log.specs.LogFaults.{IsLogFault}
-use Rattle.reg_log.specs.Logs.{IsJournal, Journal, SpellsLog, log_text}
+use Rattle.reg_node.specs.declared.transcripts.logs.LogFault.{LogFault}
+use Rattle.reg_node.specs.LogFaults.{IsLogFault}
+use Rattle.reg_node.specs.LogTexts.{IsJournal, Journal, SpellsLog, log_text}
 use Rattle.reg_node.specs.declared.faults.HelloFault.{HelloFault}
 use Rattle.reg_node.specs.declared.faults.LoggedFault.{LoggedFault}
 use Rattle.reg_node.specs.declared.faults.OpenFault.{OpenFault}

@@ -17,7 +17,7 @@ use reg_base::limits::MOST_REGISTERS;
 use reg_base::{Names, Shape};
 use reg_commands::fill;
 use reg_front::Front;
-use reg_log::{LogId, begin_log};
+use reg_node::{LogId, begin_log};
 use reg_process::ProcessFault;
 use reg_text::{Lines, TextFault, Why, read_names};
 use std::alloc::{AllocError, Global};

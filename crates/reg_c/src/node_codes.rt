@@ -3,8 +3,7 @@ ghost use Rattle.std.specs.Prelude.{◌≡◌, ◌<◌};
 ghost use Rattle.reg_c.specs.NodeCodes.{hello_code, log_code, log_place, logged_code, meeting_code, node_code, open_code, open_place};
 
 use crate::events::code_of_refusal;
-use reg_log::LogFault;
-use reg_node::{HelloFault, LoggedFault, MeetingFault, NodeFault, OpenFault};
+use reg_node::{HelloFault, LogFault, LoggedFault, MeetingFault, NodeFault, OpenFault};
 use reg_process::ProcessFault;
 
 /// The log was lost: another process accepted more than was ever queued for it.

@@ -1,7 +1,7 @@
 //! A node that goes on after the text of its log.
 ghost use Rattle.std.specs.Prelude.{◌≡◌, ◌<◌, ◌⊎◌, length, IfErr, IfOk};
 ghost use Rattle.reg_front.specs.Table.{start_of};
-ghost use Rattle.reg_log.specs.Logs.{Journal, log_crc, log_text};
+ghost use Rattle.reg_node.specs.LogTexts.{Journal, log_crc, log_text};
 ghost use Rattle.reg_node.specs.Opening.{IsOpenFault};
 ghost use Rattle.reg_c.specs.Nodes.{IsReadAs, IsUnopened, IsUnread, KeptAfter, Opens};
 
@@ -9,8 +9,7 @@ use crate::choosing::kept_under;
 use crate::node_codes::{LogRefusal, refusal_of_log, refusal_of_opening};
 use crate::nodes::{HeldNode, KeptNode};
 use reg_front::Front;
-use reg_log::{ReadLog, read_log};
-use reg_node::{LoggedNode, OpenFault};
+use reg_node::{LoggedNode, OpenFault, ReadLog, read_log};
 use std::alloc::Global;
 
 /// A node that goes on after the log that was read, under the front end that it names.

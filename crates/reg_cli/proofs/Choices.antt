@@ -3,14 +3,14 @@ use Rattle.std.proofs.Common.{◌≡◌, Bool, true, List, drop, Option, Some, E
 use Rattle.clap.specs.Words.{Text, takes}
 use Rattle.clap.specs.declared.error.ErrorKind.{ErrorKind}
 use Rattle.clap.specs.declared.error.ErrorKind.TheVariants.{OutOfMemory as NoMemory}
-use Rattle.reg_args.proofs.Chosen.{takes_line}
-use Rattle.reg_args.specs.Faults.{words_fault}
+use Rattle.reg_cli.proofs.Chosen.{takes_line}
+use Rattle.reg_cli.specs.Faults.{words_fault}
 use Rattle.reg_cli.specs.Lines.{IsAnswer, is_fair, line_of, name_of}
 use Rattle.reg_cli.specs.Apps.{awreg}
 use Rattle.reg_cli.proofs.Lines.{awreg_lines}
 use Rattle.reg_cli.specs.declared.words.Asked.{Asked}
-use Rattle.reg_args.specs.declared.faults.WordsFault.{WordsFault}
-use Rattle.reg_args.specs.declared.faults.WordsFault.TheVariants.{CommandLine, OutOfMemory}
+use Rattle.reg_cli.specs.declared.faults.WordsFault.{WordsFault}
+use Rattle.reg_cli.specs.declared.faults.WordsFault.TheVariants.{CommandLine, OutOfMemory}
 
 -- clap refuses the line of a command only for want of memory
 pub refused : (words : List Text) (k : ErrorKind) → (takes awreg words ≡ true → k ≡ NoMemory) → IsAnswer (drop 1 words) (Err (words_fault k))

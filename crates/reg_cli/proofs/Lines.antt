@@ -10,11 +10,11 @@ use Rattle.clap.specs.Walk.{idle, nothing_held, subcommand_met, walked}
 use Rattle.clap.specs.Faults.{built_fault, entered_fault}
 use Rattle.clap.proofs.OnLiterals.{clap_on_literals}
 use Rattle.reg_commands.specs.declared.Command.TheVariants.{Check, Play, Replay}
-use Rattle.reg_args.specs.Lines.{is_dashes}
-use Rattle.reg_args.proofs.Chosen.{TakesLines, met_at}
-use Rattle.reg_args.proofs.Strays.{some_kind}
-use Rattle.reg_args.proofs.Leaves.{fair_words, has_none, plain_words}
-use Rattle.reg_args.proofs.Programs.{at_name, below, first_turn, no_subcommand, start}
+use Rattle.reg_cli.specs.Subcommands.{is_dashes}
+use Rattle.reg_cli.proofs.Chosen.{TakesLines, met_at}
+use Rattle.reg_cli.proofs.Strays.{some_kind}
+use Rattle.reg_cli.proofs.Leaves.{fair_words, has_none, plain_words}
+use Rattle.reg_cli.proofs.Programs.{at_name, below, first_turn, no_subcommand, start}
 use Rattle.reg_cli.specs.Lines.{IsCommandLine, is_fair, line_of, name_of}
 use Rattle.reg_cli.specs.Apps.{awreg}
 use Rattle.reg_cli.specs.declared.words.Asked.{Asked}

@@ -1,7 +1,7 @@
 -- The program as clap reads it. It carries a proof: no promise speaks of it.
 use Rattle.std.specs.Prelude.{codes}
 use Rattle.clap.specs.Words.{App, new_app, with_subcommand}
-use Rattle.reg_args.specs.Lines.{fair_app}
+use Rattle.reg_cli.specs.Subcommands.{fair_app}
 
 -- the program with its subcommands, as clap's parse reads it
 abbrev pub awreg : App

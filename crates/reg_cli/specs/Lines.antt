@@ -2,11 +2,11 @@
 use Rattle.std.specs.Prelude.{ℕ, ◌≡◌, ⊤, Bool, false, List, [], ◌∷◌, ◌++◌, codes, Result, Ok, Err}
 use Rattle.clap.specs.Words.{Text}
 use Rattle.reg_commands.specs.declared.Command.TheVariants.{Check, Play, Replay}
-use Rattle.reg_args.specs.Lines.{named_line}
+use Rattle.reg_cli.specs.Subcommands.{named_line}
 use Rattle.reg_cli.specs.declared.words.Asked.{Asked}
 use Rattle.reg_cli.specs.declared.words.Asked.TheVariants.{Live, Text as OverText}
-use Rattle.reg_args.specs.declared.faults.WordsFault.{WordsFault}
-use Rattle.reg_args.specs.declared.faults.WordsFault.TheVariants.{CommandLine, OutOfMemory}
+use Rattle.reg_cli.specs.declared.faults.WordsFault.{WordsFault}
+use Rattle.reg_cli.specs.declared.faults.WordsFault.TheVariants.{CommandLine, OutOfMemory}
 
 -- the name of what is asked for
 abbrev pub name_of : Asked → Text

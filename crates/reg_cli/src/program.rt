@@ -2,16 +2,17 @@
 ghost use Rattle.std.specs.Prelude.{◌≡◌, ◌≤◌, ◌⊎◌};
 ghost use Rattle.std.specs.Io.KnownBytes.{Appends};
 ghost use Rattle.reg_text.specs.Writing.{AppendsPart};
-ghost use Rattle.reg_args.specs.Faults.{status_of};
-ghost use Rattle.reg_args.specs.Lines.{behind_name};
+ghost use Rattle.reg_cli.specs.Faults.{status_of};
+ghost use Rattle.reg_cli.specs.Subcommands.{behind_name};
 ghost use Rattle.reg_cli.specs.Lines.{IsCommandLine, line_of, refused_line};
 ghost use Rattle.reg_cli.specs.Statuses.{Obeys, Stops, Tells, memory_line};
 ghost use Rattle.reg_cli.specs.declared.words.Asked.{Asked as AnyAsked};
 
+use crate::faults::WordsFault;
 use crate::performing::run_live;
+use crate::telling::{tell, words_of};
 use crate::texts::run_text;
 use crate::words::{Asked, choose};
-use reg_args::{WordsFault, tell, words_of};
 use std::io::{self, BufWriter, Read, Write};
 use std::rt::Env;
 use std::sync::Wait;

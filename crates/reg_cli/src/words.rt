@@ -1,12 +1,13 @@
 //! The words of the command line.
 ghost use Rattle.std.specs.Prelude.{◌≡◌, IfOk};
 ghost use Rattle.clap.specs.Words.{app_of};
-ghost use Rattle.reg_args.specs.Lines.{behind_name};
+ghost use Rattle.reg_cli.specs.Subcommands.{behind_name};
 ghost use Rattle.reg_cli.specs.declared.words.Asked.{Asked};
 ghost use Rattle.reg_cli.specs.Lines.{IsAnswer, is_fair, name_of};
 ghost use Rattle.reg_cli.specs.Apps.{awreg};
 
-use reg_args::{WordsFault, has_dashes, met, with_fair};
+use crate::faults::WordsFault;
+use crate::subcommands::{has_dashes, met, with_fair};
 use reg_commands::Command;
 use std::alloc::{AllocError, Global};
 

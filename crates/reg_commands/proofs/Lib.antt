@@ -8,3 +8,8 @@ pub mod AtEvents
 pub mod Parts
 pub mod Named
 pub mod Sending
+pub mod Fits
+pub mod Held
+pub mod Joined
+pub mod Plain
+pub mod Printed

@@ -8,3 +8,4 @@ pub mod Statuses
 pub mod Works
 pub mod Lent
 pub mod Kinds
+pub mod Layout

@@ -1,4 +1,5 @@
-//! The commands over any reader and writer, and what they tell: answers, verdicts, and faults with their lines.
+//! The commands over any reader and writer, and what they tell: answers, verdicts, and faults with their lines. And the
+//! one layout of a workload, which is read and written where there is no global heap.
 //!
 //! Two things have no clause: that a command whose error stream fails has the same status, and that the table of a
 //! workload alone is kept in the global heap.
@@ -10,6 +11,7 @@ mod fault_lines;
 mod faults;
 mod input;
 mod kinds;
+mod layout;
 mod lent;
 mod output;
 mod playing;
@@ -27,6 +29,7 @@ pub use fault_lines::put_fault_text;
 pub use faults::Fault;
 pub use input::read_input;
 pub use kinds::{Kind, command_of, kind_of};
+pub use layout::{guess_workload, lay_out, read_layout};
 pub use lent::{Lengths, Response, fill, tell};
 pub use output::write_answer;
 pub use playing::{play_by, play_workload, read_workload};

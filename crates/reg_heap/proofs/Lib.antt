@@ -1,3 +1,4 @@
 pub mod Rounded
 pub mod Taken
 pub mod Walks
+mod Ticks

@@ -17,3 +17,13 @@ pub mod Locality
 pub mod Fronts
 pub mod Unexplained
 pub mod Renaming
+pub mod Lists
+pub mod Seating
+pub mod Keying
+pub mod Linking
+pub mod Agreeing
+pub mod Wholes
+pub mod Reporting
+pub mod Judging
+pub mod Answering
+pub mod Earliest

@@ -5,3 +5,11 @@ pub mod Searching
 pub mod Judging
 pub mod Parts
 pub mod Alike
+pub mod Standing
+pub mod Keys
+pub mod Rulings
+pub mod Faults
+pub mod Reported
+pub mod Answers
+pub mod Firsts
+pub mod Parting

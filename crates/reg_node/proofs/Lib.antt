@@ -4,3 +4,13 @@ pub mod Numbers
 pub mod Crashing
 pub mod Remaking
 pub mod Spelling
+pub mod Heads
+pub mod Accounts
+pub mod Signs
+pub mod Entries
+pub mod Hexes
+pub mod Written
+pub mod Sealed
+pub mod Journals
+pub mod Owned
+pub mod Fours

@@ -5,3 +5,12 @@ pub mod Crashes
 pub mod Replaying
 pub mod Meetings
 pub mod Logged
+pub mod RecordLines
+pub mod Refusals
+pub mod Stops
+pub mod Seals
+pub mod Unsealing
+pub mod LogTexts
+pub mod LogFaults
+pub mod LineFaults
+pub mod Fours

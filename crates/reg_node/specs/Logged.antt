@@ -5,9 +5,9 @@ use Rattle.reg_front.specs.declared.starts.Start.{Start}
 use Rattle.reg_process.specs.declared.steps.Step.{Step}
 use Rattle.reg_process.specs.Process.{State}
 use Rattle.reg_records.specs.declared.entries.LogEntry.{LogEntry}
-use Rattle.reg_log.specs.Logs.{Journal, grown_by, log_crc, log_text, recorded_by}
-use Rattle.reg_log.specs.RecordLines.{recorded_text}
-use Rattle.reg_log.specs.Seals.{crc_behind, sealed_line}
+use Rattle.reg_node.specs.LogTexts.{Journal, grown_by, log_crc, log_text, recorded_by}
+use Rattle.reg_node.specs.RecordLines.{recorded_text}
+use Rattle.reg_node.specs.Seals.{crc_behind, sealed_line}
 use Rattle.reg_node.specs.declared.faults.LoggedFault.{LoggedFault}
 use Rattle.reg_node.specs.declared.faults.MeetingFault.{MeetingFault}
 use Rattle.reg_node.specs.declared.faults.LoggedFault.TheVariants.{Stopped, Unspelled, OfMeeting}

@@ -1,10 +1,10 @@
-//! Laws of nodes. Each is a function that does nothing: its contract is the law.
-ghost use Rattle.std.specs.Prelude.{ℕ, ◌≡◌, ◌≢◌, ◌+◌, ◌<◌, ◌≤◌, List, Some, slice_get, take};
+//! Laws of nodes, of their logs, and of records as text. Each is a function that does nothing: its contract is the law.
+ghost use Rattle.std.specs.Prelude.{ℕ, ◌≡◌, ◌≢◌, ◌+◌, ◌<◌, ◌≤◌, List, Some, slice_get, take, ◌++◌};
 ghost use Rattle.reg_base.specs.declared.memory.Op.{Op};
 ghost use Rattle.reg_front.specs.declared.starts.Start.{Start};
 ghost use Rattle.reg_process.specs.Process.{State, next_of, peer_at};
 ghost use Rattle.reg_process.specs.declared.steps.Step.{Step};
-ghost use Rattle.reg_log.specs.Logs.{Journal};
+ghost use Rattle.reg_node.specs.LogTexts.{Journal, SpellsLog, entry_line, grown_by, log_text};
 ghost use Rattle.reg_records.specs.declared.entries.LogEntry.{LogEntry};
 ghost use Rattle.reg_node.specs.Crashes.{AreOfSteps, IsGiven};
 ghost use Rattle.reg_node.specs.Logs.{AreSteps, Outgoing, outputs_of, state_after};
@@ -13,6 +13,8 @@ ghost use Rattle.reg_node.specs.declared.faults.LoggedFault.{LoggedFault};
 ghost use Rattle.reg_node.specs.declared.faults.LoggedFault.TheVariants.{Unspelled};
 ghost use Rattle.reg_node.specs.Logged.{IsSpelled, IsSpelledOn, LoggedHandsOut, LoggedState, Writes, WritesNothing};
 ghost use Rattle.reg_node.specs.Nodes.{Lives, NodeState, Past, past_given};
+ghost use Rattle.reg_text.specs.Parts.{Lacks};
+ghost use Rattle.reg_node.specs.RecordLines.{Account, IsAccount, SpellsAccount, account_text};
 
 /// What a node handed out since it was opened went out of the entries since then: the k-th of it of the k-th of them,
 /// which is durable.
@@ -42,4 +44,20 @@ pub fn log_stays_spelled()
     ensures written { (start : Op → ℕ → Start) (first : State) (j : Journal) (past : Past) (old new : LoggedState) (e : Step) (bytes : List ℕ) → IsSpelled start first j past old → Writes start old e bytes new → IsSpelledOn start first j past bytes new }
     ensures refused { (start : Op → ℕ → Start) (first : State) (j : Journal) (past : Past) (old new : LoggedState) (e : Step) (fault : LoggedFault) → IsSpelled start first j past old → WritesNothing start old e fault new → fault ≢ Unspelled → IsSpelled start first j past new }
     ensures handed { (start : Op → ℕ → Start) (first : State) (j : Journal) (past : Past) (old new : LoggedState) (output : Outgoing) → IsSpelled start first j past old → LoggedHandsOut old output new → IsSpelled start first j (past_given past (Some output)) new }
+{}
+
+/// Each record within the limits has a text, which spells it.
+pub fn each_record_has_a_text()
+    ensures { (a : Account) → IsAccount a → SpellsAccount (account_text a) a }
+{}
+
+/// A log has a text, which spells it. It does so too with bytes behind it that have no line feed: a first part of a
+/// line that a crash tore, or zeros.
+pub fn what_a_crash_leaves_spells_the_log()
+    ensures { (j : Journal) (tail : List ℕ) → Lacks 10 tail → SpellsLog (log_text j ++ tail) j tail }
+{}
+
+/// With a further entry the text of a log grows by the line of the entry.
+pub fn a_log_grows_by_lines()
+    ensures { (j : Journal) (entry : LogEntry) → log_text (grown_by j entry) ≡ log_text j ++ entry_line j entry }
 {}

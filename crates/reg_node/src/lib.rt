@@ -1,5 +1,6 @@
 //! The deciding part of a node: one process on one machine that outlives crashes by a log. No sockets, files, clocks or
-//! threads: its owner writes the entries down, says how many of them are durable, and carries what is handed out.
+//! threads: its owner writes the entries down, says how many of them are durable, and carries what is handed out. And
+//! what processes did, as text (`transcripts`).
 #![tactic(auto)]
 
 mod faults;
@@ -9,6 +10,7 @@ mod meetings;
 mod nodes;
 mod outputs;
 mod replaying;
+mod transcripts;
 
 pub use faults::{HelloFault, LoggedFault, MeetingFault, NodeFault, NotLogged, OpenFault};
 pub use logged::LoggedNode;
@@ -17,3 +19,7 @@ pub use nodes::Node;
 pub use outputs::Output;
 pub use reg_process::{ProcessFault, Put, Reply, Step};
 pub use reg_records::LogEntry;
+pub use transcripts::{
+    LineFault, Log, LogFault, LogId, ReadLog, Record, RecordFault, Recorded, begin_log,
+    parse_record, read_log, recorded_line, sealed_entry, text_of_record,
+};

@@ -5,9 +5,9 @@ use Rattle.std.specs.List.{find}
 use Rattle.std.specs.Option.{option_map}
 use Rattle.reg_observed.specs.declared.events.Event.{Event}
 use Rattle.reg_observed.specs.declared.events.Moment.{Moment}
-use Rattle.reg_rulings.specs.declared.rows.Row.{Row}
+use Rattle.reg_judge.specs.declared.rulings.rows.Row.{Row}
 use Rattle.reg_observed.specs.Rows.{rows_from, row_before, row_of, next_of}
-use Rattle.reg_rulings.proofs.Lists.{from_here, past_end}
+use Rattle.reg_judge.proofs.Lists.{from_here, past_end}
 
 get_set_same : {X : Type 0} (xs : List X) (k : ℕ) (v d : X) → k < length xs → get_or (set xs k v) k d ≡ v
 get_set_same [] k v d lt = absurd (omega arith)

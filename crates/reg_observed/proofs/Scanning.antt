@@ -1,6 +1,6 @@
 -- Bytes of a text of EDN, one after another.
 use Rattle.std.proofs.Common.{ℕ, ◌≡◌, ◌+◌, ◌<◌, ◌≤◌, List, [], ◌∷◌, true, false, Option, Result, Ok, Err, ap, drop, get_or, length, if◌then◌else◌, sym, ◌∙◌}
-use Rattle.reg_rulings.proofs.Lists.{from_here, past_end}
+use Rattle.reg_judge.proofs.Lists.{from_here, past_end}
 use Rattle.reg_observed.specs.declared.faults.Why.{Why}
 use Rattle.reg_observed.specs.declared.faults.Why.TheVariants.{Unfinished}
 use Rattle.reg_observed.specs.Edn.{Scanned, behind, behind_blanks, byte_in, edn_from, is_blank, is_whole, line_behind, told_by}

@@ -1,7 +1,7 @@
 -- Steps of the check of turns.
 use Rattle.std.proofs.Common.{ℕ, ◌≡◌, ◌+◌, ◌<◌, ◌≤◌, List, [], ◌∷◌, length, drop, get_or, set, slice_get, Option, None, Some, refl, ap, sym, ◌∙◌, arith, zero, suc}
 use Rattle.std.proofs.lemmas.Option.{slice_get-get_or}
-use Rattle.reg_rulings.proofs.Lists.{from_here, past_end}
+use Rattle.reg_judge.proofs.Lists.{from_here, past_end}
 use Rattle.reg_observed.specs.declared.events.Event.{Event}
 use Rattle.reg_observed.specs.declared.faults.Why.{Why}
 use Rattle.reg_observed.specs.Turns.{first_wrong, found_or, running_after, wrong_turn}

@@ -3,13 +3,13 @@ use Rattle.std.proofs.Common.{◌≡◌, ◌↔◌, ℕ, ◌<◌, true, List, sl
 use Rattle.std.specs.Prelude.{Vec, is_some}
 use Rattle.reg_checkers.specs.declared.entries.Entry.{Entry}
 use Rattle.reg_checkers.specs.declared.entries.Point.{Point}
-use Rattle.reg_rulings.specs.declared.keys.Ruling.{Ruling}
-use Rattle.reg_rulings.specs.declared.keys.Ruling.TheVariants.{Linearizable}
-use Rattle.reg_rulings.specs.declared.rows.Row.{Row}
-use Rattle.reg_rulings.specs.declared.seats.Naming.TheVariants.{Any}
-use Rattle.reg_rulings.specs.Rulings.{AreRuled}
-use Rattle.reg_rulings.specs.Standing.{IsStood}
-use Rattle.reg_rulings.proofs.Wholes.{each_is, whole_is}
+use Rattle.reg_judge.specs.declared.rulings.keys.Ruling.{Ruling}
+use Rattle.reg_judge.specs.declared.rulings.keys.Ruling.TheVariants.{Linearizable}
+use Rattle.reg_judge.specs.declared.rulings.rows.Row.{Row}
+use Rattle.reg_judge.specs.declared.rulings.seats.Naming.TheVariants.{Any}
+use Rattle.reg_judge.specs.Rulings.{AreRuled}
+use Rattle.reg_judge.specs.Standing.{IsStood}
+use Rattle.reg_judge.proofs.Wholes.{each_is, whole_is}
 use Rattle.reg_observed.specs.declared.judging.Verdict.{Verdict}
 use Rattle.reg_observed.specs.Verdicts.{AreJudged, AreSought, registers_for}
 

@@ -7,7 +7,7 @@ use Rattle.reg_commands.specs.Kinds.{kind_of}
 use Rattle.reg_commands.specs.declared.kinds.Kind.{Kind}
 use Rattle.reg_commands.specs.declared.kinds.Kind.TheVariants.{Report, Schedule, Workload}
 use Rattle.reg_history.specs.Reports.{Contents, report_text}
-use Rattle.reg_rulings.specs.Reported.{IsReportOf, JudgesReport, Says}
+use Rattle.reg_judge.specs.Reported.{IsReportOf, JudgesReport, Says}
 use Rattle.reg_observed.specs.declared.flags.JudgeFlags.{JudgeFlags}
 use Rattle.reg_observed.specs.declared.heard.Heard.{Heard}
 use Rattle.reg_observed.specs.declared.judging.Verdict.{Verdict}

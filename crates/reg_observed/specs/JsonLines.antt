@@ -7,7 +7,7 @@ use Rattle.serde_json.specs.Read.{read}
 use Rattle.serde_json.specs.Find.{get, as_array, as_null, as_number, as_str, as_u64, as_i64}
 use Rattle.serde_json.specs.Written.{compact_text}
 use Rattle.reg_observed.specs.declared.events.Moment.{Moment}
-use Rattle.reg_rulings.specs.declared.rows.Act.{Act}
+use Rattle.reg_judge.specs.declared.rulings.rows.Act.{Act}
 use Rattle.reg_observed.specs.declared.faults.Why.{Why}
 use Rattle.reg_observed.specs.declared.faults.Why.TheVariants.{Form, BadProcess, BadType, BadFunction, BadKey, BadValue, BadPair, BadFirst}
 use Rattle.reg_observed.specs.Told.{Telling, is_compare_and_swap, moment_named, moment_of, act_named, with_value, ◌>>=◌}

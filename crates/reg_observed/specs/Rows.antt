@@ -7,11 +7,11 @@ use Rattle.reg_base.specs.declared.memory.Answer.TheVariants as replies
 use Rattle.reg_observed.specs.declared.events.Event.{Event}
 use Rattle.reg_observed.specs.declared.events.Moment.{Moment}
 use Rattle.reg_observed.specs.declared.events.Moment.TheVariants.{Invoke, Ok, Fail, Unequal, Info}
-use Rattle.reg_rulings.specs.declared.rows.Act.{Act}
-use Rattle.reg_rulings.specs.declared.rows.Act.TheVariants.{Read, Write, Swap, CompareAndSwap}
-use Rattle.reg_rulings.specs.declared.rows.Step.{Step}
-use Rattle.reg_rulings.specs.declared.rows.Step.TheVariants.{Call, Answer}
-use Rattle.reg_rulings.specs.declared.rows.Row.{Row}
+use Rattle.reg_judge.specs.declared.rulings.rows.Act.{Act}
+use Rattle.reg_judge.specs.declared.rulings.rows.Act.TheVariants.{Read, Write, Swap, CompareAndSwap}
+use Rattle.reg_judge.specs.declared.rulings.rows.Step.{Step}
+use Rattle.reg_judge.specs.declared.rulings.rows.Step.TheVariants.{Call, Answer}
+use Rattle.reg_judge.specs.declared.rulings.rows.Row.{Row}
 use Rattle.reg_observed.specs.Told.{is_compare_and_swap, is_invoke, is_read}
 
 abbrev pub is_ok : Moment → Bool

@@ -3,8 +3,8 @@ use Rattle.std.specs.Prelude.{ℕ, ◌≡◌, ◌&&◌, Bool, true, false, not, 
 use Rattle.std.specs.Str.{bytes_eq}
 use Rattle.reg_observed.specs.declared.events.Moment.{Moment}
 use Rattle.reg_observed.specs.declared.events.Moment.TheVariants as moments
-use Rattle.reg_rulings.specs.declared.rows.Act.{Act}
-use Rattle.reg_rulings.specs.declared.rows.Act.TheVariants.{Read, Write, Swap, CompareAndSwap}
+use Rattle.reg_judge.specs.declared.rulings.rows.Act.{Act}
+use Rattle.reg_judge.specs.declared.rulings.rows.Act.TheVariants.{Read, Write, Swap, CompareAndSwap}
 use Rattle.reg_observed.specs.declared.faults.Why.{Why}
 use Rattle.reg_observed.specs.declared.faults.Why.TheVariants.{BadFunction, NoValue}
 use Rattle.reg_observed.specs.declared.faults.Untold.{Untold}

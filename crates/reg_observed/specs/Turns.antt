@@ -3,8 +3,8 @@ use Rattle.std.specs.Prelude.{ℕ, ◌&&◌, ◌==◌, Bool, true, false, List, 
 use Rattle.reg_observed.specs.declared.events.Event.{Event}
 use Rattle.reg_observed.specs.declared.events.Moment.{Moment}
 use Rattle.reg_observed.specs.declared.events.Moment.TheVariants.{Invoke, Ok, Fail, Unequal, Info}
-use Rattle.reg_rulings.specs.declared.rows.Act.{Act}
-use Rattle.reg_rulings.specs.declared.rows.Act.TheVariants.{Read, Write, Swap, CompareAndSwap}
+use Rattle.reg_judge.specs.declared.rulings.rows.Act.{Act}
+use Rattle.reg_judge.specs.declared.rulings.rows.Act.TheVariants.{Read, Write, Swap, CompareAndSwap}
 use Rattle.reg_observed.specs.declared.faults.Why.{Why}
 use Rattle.reg_observed.specs.declared.faults.Why.TheVariants.{Idle, Busy, Other}
 

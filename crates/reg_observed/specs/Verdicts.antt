@@ -5,12 +5,12 @@ use Rattle.reg_checkers.specs.declared.entries.Entry.{Entry}
 use Rattle.reg_checkers.specs.declared.entries.Point.{Point}
 use Rattle.reg_checkers.specs.Orders.{IsPointOrder}
 use Rattle.reg_judge.specs.Judging.{HasPointOrder}
-use Rattle.reg_rulings.specs.Rulings.{AreRuled, RulesSerial}
-use Rattle.reg_rulings.specs.Standing.{IsStood}
-use Rattle.reg_rulings.specs.declared.rows.Row.{Row}
-use Rattle.reg_rulings.specs.declared.seats.Naming.TheVariants.{Any, Own}
-use Rattle.reg_rulings.specs.declared.serial.Serial.{Serial}
-use Rattle.reg_rulings.specs.declared.serial.Serial.TheVariants.{Unjudged}
+use Rattle.reg_judge.specs.Rulings.{AreRuled, RulesSerial}
+use Rattle.reg_judge.specs.Standing.{IsStood}
+use Rattle.reg_judge.specs.declared.rulings.rows.Row.{Row}
+use Rattle.reg_judge.specs.declared.rulings.seats.Naming.TheVariants.{Any, Own}
+use Rattle.reg_judge.specs.declared.rulings.serial.Serial.{Serial}
+use Rattle.reg_judge.specs.declared.rulings.serial.Serial.TheVariants.{Unjudged}
 use Rattle.reg_observed.specs.declared.judging.Verdict.{Verdict}
 use Rattle.reg_observed.specs.declared.heard.Heard.{Heard}
 use Rattle.reg_observed.specs.declared.events.Event.{Event}

@@ -4,7 +4,7 @@ ghost use Rattle.std.specs.Io.KnownBytes.{Appends};
 ghost use Rattle.reg_text.specs.Writing.{AppendsPart};
 ghost use Rattle.reg_observed.specs.Answers.{answer_text};
 ghost use Rattle.reg_observed.specs.Commands.{IsAnswer};
-ghost use Rattle.reg_rulings.specs.Reported.{Says};
+ghost use Rattle.reg_judge.specs.Reported.{Says};
 
 use crate::details::details;
 use crate::faults::JudgeFault;
@@ -13,7 +13,7 @@ use crate::judging::Verdict;
 use crate::reports::report_of;
 use reg_commands::{Fault, write_answer, write_out};
 use reg_history::Report;
-use reg_rulings::yes_or_no;
+use reg_judge::yes_or_no;
 use std::alloc::{AllocError, Allocator, Global};
 use std::io::Write;
 

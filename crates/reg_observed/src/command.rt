@@ -12,7 +12,7 @@ use crate::flags::JudgeFlags;
 use crate::judging::judge;
 use crate::reading::read_history;
 use reg_commands::{Fault, Kind, Refusal, TextCommand, kind_of, read_input};
-use reg_rulings::{JudgeReport, RuleFault, RulingFault};
+use reg_judge::{JudgeReport, RuleFault, RulingFault};
 use reg_text::write_bytes;
 use std::alloc::{AllocError, Allocator, Global};
 use std::io::{Read, Write};

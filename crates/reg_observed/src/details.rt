@@ -4,7 +4,7 @@ use crate::heard::Heard;
 use crate::judging::Verdict;
 use crate::words::Words;
 use itoa::Buffer;
-use reg_rulings::{Act, Ruling, ruling_text, serial_text};
+use reg_judge::{Act, Ruling, ruling_text, serial_text};
 use std::alloc::{AllocError, Allocator, Global};
 
 fn put_number(out: &mut String, number: u32) -> Result<(), AllocError> {

@@ -1,5 +1,5 @@
 //! What a history tells: events of calls, in the order of its lines.
-use reg_rulings::Act;
+use reg_judge::Act;
 
 /// What an event tells of a call.
 #[derive(Clone, Copy, Debug, PartialEq, Eq)]

@@ -10,7 +10,7 @@ use crate::events::{Event, Moment};
 use crate::faults::{JudgeFault, ReadFault, Untold};
 use crate::json_lines::read_value;
 use crate::words::Words;
-use reg_rulings::Act;
+use reg_judge::Act;
 use std::alloc::Global;
 
 /// Whether an answer of this kind, that the call is done, tells of a value.

@@ -1,6 +1,6 @@
 //! The history of calls and answers that were heard, and where in it something is wrong.
 ghost use Rattle.std.specs.Prelude.{◌≡◌, IfOk, length};
-ghost use Rattle.reg_rulings.specs.Standing.{IsStood};
+ghost use Rattle.reg_judge.specs.Standing.{IsStood};
 ghost use Rattle.reg_observed.specs.Verdicts.{registers_for};
 
 use crate::events::Event;
@@ -9,7 +9,7 @@ use crate::heard::Heard;
 use reg_base::Shape;
 use reg_base::limits::{MOST_PROCESSES, MOST_REGISTERS};
 use reg_checkers::History;
-use reg_rulings::{Naming, Row, RuleFault, history_of};
+use reg_judge::{Naming, Row, RuleFault, history_of};
 use std::alloc::Allocator;
 
 /// The shape of a history of so many keys.

@@ -10,7 +10,7 @@ ghost use Rattle.reg_observed.specs.JsonLines.{act_in, both_texts, call_in, item
 use crate::events::Moment;
 use crate::faults::{Untold, Why};
 use crate::told::Told;
-use reg_rulings::Act;
+use reg_judge::Act;
 use serde_json::Value;
 use std::alloc::{AllocError, Global};
 

@@ -5,8 +5,8 @@ ghost use Rattle.reg_observed.specs.Rows.{rows_from};
 ghost use Rattle.reg_observed.specs.Reading.{AreEvents};
 ghost use Rattle.reg_observed.specs.Told.{Telling};
 ghost use Rattle.reg_observed.specs.Turns.{first_wrong, none_running};
-ghost use Rattle.reg_rulings.specs.Rulings.{AreRuled, RulesSerial};
-ghost use Rattle.reg_rulings.specs.Standing.{IsStood};
+ghost use Rattle.reg_judge.specs.Rulings.{AreRuled, RulesSerial};
+ghost use Rattle.reg_judge.specs.Standing.{IsStood};
 
 use crate::faults::{JudgeFault, ReadFault};
 use crate::first_values::first_value;
@@ -16,7 +16,7 @@ use crate::rows::rows_of;
 use crate::turns::check_turns;
 use reg_base::limits::{MOST_EVENTS, MOST_REGISTERS};
 use reg_checkers::{History, Point};
-use reg_rulings::{
+use reg_judge::{
     Naming, Row, Ruling, Serial, Sought, Unseated, history_of, rule_all, seek, seek_serial,
 };
 use std::alloc::{Allocator, Global};

@@ -1,9 +1,9 @@
 //! Laws of what is found out of a history. Each is a function that does nothing: its contract is the law.
 ghost use Rattle.std.specs.Prelude.{◌≡◌, ◌<◌, ◌↔◌, ℕ, true, List, Some, is_some, slice_get};
 ghost use Rattle.reg_observed.specs.Verdicts.{AreJudged};
-ghost use Rattle.reg_rulings.specs.declared.keys.Ruling.{Ruling};
-ghost use Rattle.reg_rulings.specs.declared.keys.Ruling.TheVariants.{Linearizable};
-ghost use Rattle.reg_rulings.specs.declared.rows.Row.{Row};
+ghost use Rattle.reg_judge.specs.declared.rulings.keys.Ruling.{Ruling};
+ghost use Rattle.reg_judge.specs.declared.rulings.keys.Ruling.TheVariants.{Linearizable};
+ghost use Rattle.reg_judge.specs.declared.rulings.rows.Row.{Row};
 
 use crate::judging::Verdict;
 use std::alloc::Allocator;

@@ -1,6 +1,6 @@
 //! The report of a history that has a point order.
 ghost use Rattle.std.specs.Prelude.{◌≡◌, ◌<◌, IfOk};
-ghost use Rattle.reg_rulings.specs.Reported.{IsReportOf};
+ghost use Rattle.reg_judge.specs.Reported.{IsReportOf};
 
 use crate::faults::JudgeFault;
 use reg_base::Names;

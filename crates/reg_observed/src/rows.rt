@@ -6,7 +6,7 @@ ghost use Rattle.reg_observed.specs.declared.events.Event.{Event as AnyEvent};
 use crate::events::{Event, Moment};
 use reg_base::Answer;
 use reg_base::limits::MOST_EVENTS;
-use reg_rulings::{Act, Row, Step};
+use reg_judge::{Act, Row, Step};
 use std::alloc::{AllocError, Global};
 
 /// The number by which registers have the value of this number, where `first` is the number of their first value: that

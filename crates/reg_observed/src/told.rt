@@ -1,6 +1,6 @@
 //! What a line tells, in words of the line.
 use crate::events::Moment;
-use reg_rulings::Act;
+use reg_judge::Act;
 use std::marker::Model;
 
 /// An event of a call. Process, key and values are the texts that JSON has of them: two are the same where their texts

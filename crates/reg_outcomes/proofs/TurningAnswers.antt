@@ -30,8 +30,8 @@ use Rattle.reg_world.proofs.lists.Bodies.{place_split, place_within}
 use Rattle.reg_world.proofs.lists.Members.{in_at, map_append}
 use Rattle.reg_world.proofs.one_memory.Replicas.{memory-append}
 use Rattle.reg_world.proofs.witness.Promised.{in_place, order_right, replies_right}
-use Rattle.reg_runs.specs.Rest.{CanRest}
-use Rattle.reg_runs.proofs.Going.{at_behind}
+use Rattle.reg_records.specs.Rest.{CanRest}
+use Rattle.reg_records.proofs.GoingOn.{at_behind}
 use Rattle.reg_outcomes.specs.Turning.{MayTurn}
 use Rattle.reg_outcomes.proofs.TurningMoves.{Follows}
 use Rattle.reg_outcomes.proofs.TurningOrder.{made_as, order_kept, order_more}

@@ -13,7 +13,7 @@ use Rattle.reg_process.specs.declared.events.Event.TheVariants.{Call, Take, Tick
 use Rattle.reg_process.specs.Process.{no_peer, pending_of}
 use Rattle.reg_checkers.specs.History.{IsAt}
 use Rattle.reg_outcomes.proofs.Elements.{has_at}
-use Rattle.reg_runs.specs.Rest.{IsLater}
+use Rattle.reg_records.specs.Rest.{IsLater}
 use Rattle.reg_workload.specs.Plays.{call_at, calls_of}
 use Rattle.reg_outcomes.specs.Interleavings.{script_of}
 use Rattle.reg_outcomes.specs.Showing.{caller_in, callers}

@@ -16,9 +16,9 @@ use Rattle.reg_front.specs.declared.starts.Start.TheVariants.{Cast as Casts, Cas
 use Rattle.reg_process.specs.declared.steps.Step.TheVariants.{Call}
 use Rattle.reg_process.specs.Process.{State, Outcome, called, peer_at, pending_of, step, unsettled}
 use Rattle.reg_process.proofs.Peers.{queue_expected}
-use Rattle.reg_runs.specs.Rest.{is_cast, casts_between, casts_to, left_at, distance}
-use Rattle.reg_runs.proofs.Casts.{weight}
-use Rattle.reg_runs.proofs.Entries.{pending_queue}
+use Rattle.reg_records.specs.Rest.{is_cast, casts_between, casts_to, left_at, distance}
+use Rattle.reg_records.proofs.Casts.{weight}
+use Rattle.reg_records.proofs.EntryFacts.{pending_queue}
 use Rattle.reg_world.specs.Nodes.{Node, Nodes, put, after_step}
 use Rattle.reg_world.proofs.one_order.Acts.{put_cases}
 use Rattle.reg_world.proofs.one_order.NodeEvents.{put_same, put_other}

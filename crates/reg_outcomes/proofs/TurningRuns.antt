@@ -20,7 +20,7 @@ use Rattle.reg_world.proofs.witness.Promised.{rests}
 use Rattle.reg_workload.specs.Plays.{calls_of}
 use Rattle.reg_outcomes.specs.Told.{outcome_of}
 use Rattle.reg_outcomes.proofs.TellingHistory.{outcome_none}
-use Rattle.reg_runs.specs.Rest.{CanRest}
+use Rattle.reg_records.specs.Rest.{CanRest}
 use Rattle.reg_outcomes.specs.Finishing.{HasRoom, IsOutcome, UsesUp}
 use Rattle.reg_outcomes.specs.Interleavings.{ArePlayable, Interleaving, IsInterleaving, Leads, Nothing, Turn, Stage, first_stage, script_of, stage_after, told_after}
 use Rattle.reg_outcomes.specs.Layers.{IsReady}

@@ -27,9 +27,9 @@ use Rattle.reg_world.proofs.one_order.NodeEvents.{put_same, put_other}
 use Rattle.reg_world.proofs.one_order.NodeLaws.{inv_of}
 use Rattle.reg_world.proofs.run.Along.{one_more}
 use Rattle.reg_world.proofs.witness.Promised.{rests}
-use Rattle.reg_runs.specs.Rest.{CanRest, distance, put_for}
-use Rattle.reg_runs.proofs.Able.{can_rest}
-use Rattle.reg_runs.proofs.AtRest.{rests_at_none}
+use Rattle.reg_records.specs.Rest.{CanRest, distance, put_for}
+use Rattle.reg_records.proofs.Able.{can_rest}
+use Rattle.reg_records.proofs.AtRest.{rests_at_none}
 use Rattle.reg_outcomes.specs.Turning.{MayTurn}
 use Rattle.reg_outcomes.proofs.TurningCalls.{later_quiet}
 use Rattle.reg_outcomes.proofs.TurningFar.{distance_more}

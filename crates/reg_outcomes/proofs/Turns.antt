@@ -16,8 +16,8 @@ use Rattle.reg_checkers.specs.History.{IsAt}
 use Rattle.reg_world.specs.Laws.{AllAcknowledged, IsQuiescent}
 use Rattle.reg_world.specs.World.{whole}
 use Rattle.reg_world.specs.Worlds.{Accepts, Made, after_events, new_world, refusal, run_in, with_event}
-use Rattle.reg_runs.specs.Rest.{Settles, most_to_rest}
-use Rattle.reg_runs.specs.RestParts.{IsGoingOn}
+use Rattle.reg_records.specs.Rest.{Settles, most_to_rest}
+use Rattle.reg_records.specs.RestParts.{IsGoingOn}
 use Rattle.reg_outcomes.specs.Finishing.{HasRoom}
 use Rattle.reg_outcomes.specs.Interleavings.{ArePlayable, Interleaving, IsInterleaving, Leads, Nothing, Turn, Stage, first_stage, script_of, stage_after}
 use Rattle.reg_outcomes.specs.Showing.{IsRunOf}

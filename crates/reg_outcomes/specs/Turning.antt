@@ -8,8 +8,8 @@ use Rattle.reg_front.specs.declared.starts.Start.{Start}
 use Rattle.reg_process.specs.declared.events.Event.{Event}
 use Rattle.reg_process.specs.declared.events.Event.TheVariants.{Call}
 use Rattle.reg_checkers.specs.History.{IsAt}
-use Rattle.reg_runs.specs.Rest.{CanRest}
-use Rattle.reg_runs.specs.RestParts.{IsGoingOn}
+use Rattle.reg_records.specs.Rest.{CanRest}
+use Rattle.reg_records.specs.RestParts.{IsGoingOn}
 use Rattle.reg_world.specs.Laws.{AllAcknowledged}
 use Rattle.reg_world.specs.World.{whole}
 use Rattle.reg_world.specs.Worlds.{Made}

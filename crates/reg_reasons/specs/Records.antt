@@ -4,7 +4,7 @@ use Rattle.std.specs.List.{starts_with}
 use Rattle.reg_front.specs.Table.{front_name}
 use Rattle.reg_commands.specs.Replays.{start_of}
 use Rattle.reg_commands.specs.declared.faults.Fault.TheVariants.{Unread, TooLong, NotText, Output, Line, Event, Workload, OutOfMemory}
-use Rattle.reg_log.specs.RecordLines.{Account, IsAccount, SpellsAccount}
+use Rattle.reg_node.specs.RecordLines.{Account, IsAccount, SpellsAccount}
 use Rattle.reg_verify.specs.Verifies.{IsRefused, IsUnfaithful, Runs, verify_line}
 use Rattle.reg_verify.specs.declared.faults.VerifyFault.{VerifyFault}
 use Rattle.reg_verify.specs.declared.faults.VerifyFault.TheVariants.{Command, Unfaithful}

@@ -9,9 +9,8 @@ use crate::records::tell_record;
 use crate::refusals::{Explanation, refused, tell_load, tell_report, tell_schedule};
 use crate::stops::Steps;
 use crate::toml_values::stop_of;
-use reg_commands::{Fault, Kind, kind_of};
+use reg_commands::{Fault, Kind, kind_of, read_layout};
 use reg_inputs::WorkloadFault;
-use reg_layout::read_layout;
 use std::alloc::{AllocError, Allocator};
 
 /// The answer for a text that is meant as a workload, and for which the reader of layouts told this fault. It is told

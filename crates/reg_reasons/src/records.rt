@@ -1,6 +1,6 @@
 //! What is told of a record of processes that ran apart.
 ghost use Rattle.std.specs.Prelude.{◌≡◌, ◌≢◌, ◌++◌, ℕ, List, IfErr, IfOk, false};
-ghost use Rattle.reg_log.specs.RecordLines.{IsAccount, SpellsAccount};
+ghost use Rattle.reg_node.specs.RecordLines.{IsAccount, SpellsAccount};
 ghost use Rattle.reg_verify.specs.Verifies.{BlamesAccount, verify_line};
 ghost use Rattle.reg_reasons.specs.Records.{RefusesRecord, TellsRecord};
 ghost use Rattle.reg_reasons.specs.Tellings.{Halts};
@@ -9,7 +9,7 @@ use crate::first_lines::{Subject, line_of_fault};
 use crate::refusals::{Explanation, accepted, is_of_text, joined};
 use crate::steps::explain_record;
 use reg_commands::Fault;
-use reg_log::Record;
+use reg_node::Record;
 use reg_verify::{VerifyFault, read_record_text, report_by_front};
 use std::alloc::{AllocError, Allocator};
 

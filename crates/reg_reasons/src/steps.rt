@@ -8,7 +8,7 @@ use reg_commands::Fault;
 use reg_frames::Frame;
 use reg_front::{FrontEnd, by_front};
 use reg_history::Entry;
-use reg_log::{Record, Recorded, parse_record, recorded_line};
+use reg_node::{Record, Recorded, parse_record, recorded_line};
 use reg_process::{Reply, Step};
 use reg_records::LogEntry;
 use reg_verify::VerifyFault;

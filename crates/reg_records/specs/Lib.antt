@@ -2,3 +2,10 @@ pub mod Records
 pub mod Playing
 pub mod Receipts
 pub mod Telling
+pub mod Merges
+pub mod Placing
+pub mod Rest
+pub mod RestParts
+pub mod Overtaking
+pub mod Runs
+pub mod Steps

@@ -1,4 +1,4 @@
-//! Why a record is refused.
+//! Why a record is refused, and why a world is not brought to rest.
 use thiserror::Error;
 
 /// Why a record is refused: the first of these that applies. `OutOfMemory` may stand in place of any other, and where
@@ -13,6 +13,20 @@ pub enum CloseFault {
     #[error("mismatch {process}")]
     Mismatch { process: u8 },
     /// There was no memory.
+    #[error("out of memory")]
+    OutOfMemory,
+}
+
+/// Why a world is not brought to rest.
+#[derive(Clone, Copy, Debug, PartialEq, Eq, Error)]
+pub enum SettleFault {
+    /// The world stopped earlier: it was out of memory.
+    #[error("failed")]
+    Failed,
+    /// The world has all the events that it may have.
+    #[error("too many events")]
+    TooManyEvents,
+    /// There was no memory for an event: the world has stopped.
     #[error("out of memory")]
     OutOfMemory,
 }

@@ -2,10 +2,10 @@
 use Rattle.std.specs.Prelude.{ℕ, ◌<◌, ◌≤◌, List, ◌++◌, length, Option}
 use Rattle.reg_base.specs.declared.memory.Op.{Op}
 use Rattle.reg_commands.specs.Replays.{start_of, PointsOf}
-use Rattle.reg_data.specs.Data.{Data, IsDataOf, data_text}
+use Rattle.reg_trace.specs.Data.{Data, IsDataOf, data_text}
 use Rattle.reg_front.specs.declared.starts.Start.{Start}
 use Rattle.reg_checkers.specs.declared.entries.Point.{Point}
-use Rattle.reg_data.specs.Notes.{Notes}
+use Rattle.reg_trace.specs.Notes.{Notes}
 use Rattle.reg_inputs.specs.Schedules.{Plan}
 use Rattle.reg_show.specs.Runs.{StopsRun}
 use Rattle.reg_show.specs.declared.faults.ShowFault.{ShowFault}

@@ -4,7 +4,7 @@ use Rattle.reg_base.specs.declared.limits.TheConstants.{MOST_EVENTS}
 use Rattle.reg_base.specs.declared.memory.Op.{Op}
 use Rattle.reg_front.specs.declared.starts.Start.{Start}
 use Rattle.reg_world.specs.Worlds.{Made, after_events}
-use Rattle.reg_runs.specs.Rest.{Settles, most_to_rest}
+use Rattle.reg_records.specs.Rest.{Settles, most_to_rest}
 use Rattle.reg_inputs.specs.Schedules.{Plan}
 use Rattle.reg_commands.specs.Replays.{run_by, plan_in, BlamesRun}
 use Rattle.reg_inputs.specs.ScheduleText.{IsScheduleText, schedule_text}

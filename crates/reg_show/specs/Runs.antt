@@ -6,7 +6,7 @@ use Rattle.reg_inputs.specs.Schedules.{Plan}
 use Rattle.reg_commands.specs.Replays.{start_of, run_by, BlamesRun}
 use Rattle.reg_commands.specs.declared.faults.Fault.{Fault}
 use Rattle.reg_commands.specs.declared.faults.Fault.TheVariants.{Output}
-use Rattle.reg_drawing.specs.Drawings.{IsDrawing}
+use Rattle.reg_trace.specs.Drawings.{IsDrawing}
 use Rattle.reg_show.specs.declared.commands.TheConstants.{MOST_DRAWN}
 use Rattle.reg_trace.specs.Moments.{moments_of}
 use Rattle.reg_trace.specs.Traces.{title_line, trace_text}

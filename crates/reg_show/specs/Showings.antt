@@ -7,7 +7,7 @@ use Rattle.reg_commands.specs.Answers.{Blames as BlamesCommand}
 use Rattle.reg_commands.specs.Plays.{IsPlayBy, plan_of}
 use Rattle.reg_commands.specs.Replays.{start_of}
 use Rattle.reg_commands.specs.Works.{BlamesDocument, OfDocument}
-use Rattle.reg_data.specs.Notes.{Notes, no_notes, notes_of, titled}
+use Rattle.reg_trace.specs.Notes.{Notes, no_notes, notes_of, titled}
 use Rattle.reg_inputs.specs.Loads.{Load}
 use Rattle.reg_inputs.specs.Schedules.{Plan, IsPlan, Spells}
 use Rattle.reg_show.specs.declared.commands.TheConstants.{MOST_DRAWN}
@@ -20,8 +20,8 @@ use Rattle.reg_show.specs.declared.showing.Showing.{Showing}
 use Rattle.reg_show.specs.declared.showing.Showing.TheVariants.{Trace, Draw, DrawLarge, Data, Page, Rest}
 use Rattle.reg_show.specs.declared.showing.TheConstants.{SHORT_FORM}
 use Rattle.reg_show.specs.declared.showing.View.{View}
-use Rattle.reg_page.specs.declared.head.TheConstants.{HEAD}
-use Rattle.reg_page.specs.declared.tail.TheConstants.{TAIL}
+use Rattle.reg_show.specs.declared.page_head.TheConstants.{PAGE_HEAD}
+use Rattle.reg_show.specs.declared.page_tail.TheConstants.{PAGE_TAIL}
 use Rattle.reg_show.specs.Pages.{ShowsData}
 use Rattle.reg_show.specs.Rests.{LacksRoom, WritesRest}
 use Rattle.reg_show.specs.Runs.{DrawsRun, StopsRun, TellsRun}
@@ -37,7 +37,7 @@ ShowsPlan Trace notes Wrote p = TellsRun notes.title Wrote p
 ShowsPlan Draw notes Wrote p = DrawsRun Wrote p
 ShowsPlan DrawLarge notes Wrote p = DrawsRun Wrote p
 ShowsPlan Data notes Wrote p = ShowsData [] (10 ∷ []) notes Wrote p
-ShowsPlan Page notes Wrote p = ShowsData HEAD.now TAIL.now notes Wrote p
+ShowsPlan Page notes Wrote p = ShowsData PAGE_HEAD.now PAGE_TAIL.now notes Wrote p
 ShowsPlan Rest notes Wrote p = WritesRest (start_of p.front) Wrote p
 
 -- why nothing is written of a plan's run

@@ -3,15 +3,15 @@ ghost use Rattle.std.specs.Prelude.{◌≡◌, ◌≢◌, ◌++◌, IfOk, IfErr,
 ghost use Rattle.std.specs.Io.KnownBytes.{Appends};
 ghost use Rattle.reg_text.specs.Writing.{AppendsPart};
 ghost use Rattle.reg_commands.specs.Replays.{start_of, BlamesRun, PointsOf};
-ghost use Rattle.reg_data.specs.Data.{data_text};
+ghost use Rattle.reg_trace.specs.Data.{data_text};
 ghost use Rattle.reg_show.specs.Pages.{HasData, ShowsData};
 ghost use Rattle.reg_show.specs.Showings.{StopsShowing};
 
 use crate::faults::ShowFault;
 use crate::showing::Showing;
 use reg_commands::Fault;
-use reg_data::{Data, Notes, tell_data, write_data};
 use reg_front::by_front;
+use reg_trace::{Data, Notes, tell_data, write_data};
 use reg_workload::Schedule;
 use reg_world::NamedFront;
 use std::alloc::Allocator;

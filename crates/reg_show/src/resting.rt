@@ -10,7 +10,7 @@ use crate::faults::ShowFault;
 use crate::scheduling::{events_have_bits, send};
 use reg_commands::{Fault, Ran, run_events};
 use reg_front::{FrontEnd, by_front};
-use reg_runs::{SettleFault, settle};
+use reg_records::{SettleFault, settle};
 use reg_workload::Schedule;
 use reg_world::PackedWires;
 use std::alloc::Allocator;

@@ -9,20 +9,20 @@ ghost use Rattle.reg_show.specs.Showings.{Blames, BlamesText, Shows, ShowsPlan, 
 use crate::commands::{draw, trace};
 use crate::faults::ShowFault;
 use crate::forms::play_to_show;
+use crate::page_head::PAGE_HEAD;
+use crate::page_tail::PAGE_TAIL;
 use crate::paging::{Ends, write_run};
 use crate::resting::rest;
 use crate::showing::{Showing, View};
 use reg_commands::{Fault, Kind, TextCommand, kind_of, read_schedule, read_workload};
-use reg_data::{Notes, read_notes};
-use reg_drawing::Size;
-use reg_page::{HEAD, TAIL};
+use reg_trace::{Notes, Size, read_notes};
 use reg_workload::{Schedule, Workload};
 use std::alloc::{AllocError, Allocator, Global};
 use std::io::Write;
 
 const PAGE: Ends<'static> = Ends {
-    head: HEAD,
-    tail: TAIL,
+    head: PAGE_HEAD,
+    tail: PAGE_TAIL,
 };
 
 const LINE: Ends<'static> = Ends {

@@ -1,15 +1,15 @@
 //! What is told of the run of a schedule under a front end that need not be the one that it names.
 ghost use Rattle.std.specs.Prelude.{◌≢◌, ◌≤◌, None, IfOk, IfErr, OnOk, length};
 ghost use Rattle.reg_commands.specs.Replays.{BlamesRun};
-ghost use Rattle.reg_data.specs.Data.{IsDataOf};
+ghost use Rattle.reg_trace.specs.Data.{IsDataOf};
 ghost use Rattle.reg_show.specs.Pages.{StopsTold};
 ghost use Rattle.reg_show.specs.declared.paging.TheConstants.{MOST_TOLD};
 
 use crate::faults::ShowFault;
 use crate::paging::MOST_TOLD;
 use reg_commands::Fault;
-use reg_data::{Data, Notes, tell_data_under};
 use reg_front::FrontEnd;
+use reg_trace::{Data, Notes, tell_data_under};
 use reg_workload::Schedule;
 use std::alloc::Allocator;
 

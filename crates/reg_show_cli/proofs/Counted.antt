@@ -4,7 +4,7 @@ use Rattle.std.specs.Prelude.{option_copied, slice_get}
 use Rattle.std.specs.Str.{bytes_eq}
 use Rattle.std.proofs.lemmas.Slice.Eq.{bytes_eq-Decides}
 use Rattle.std.proofs.lemmas.Option.{same_Some}
-use Rattle.reg_args.specs.Lines.{Text}
+use Rattle.reg_cli.specs.Subcommands.{Text}
 use Rattle.reg_outcomes.specs.declared.tables.plays.TheConstants.{MOST_PLAYS}
 use Rattle.reg_show_cli.specs.declared.topics.Topic.{Topic}
 use Rattle.reg_show_cli.specs.declared.words.Asked.{Asked}

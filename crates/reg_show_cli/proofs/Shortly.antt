@@ -1,7 +1,7 @@
 -- What flags say of a short form.
 use Rattle.std.proofs.Common.{◌≡◌, inl, inr, ℕ, ◌≤◌, List, [], ◌∷◌, ◌++◌, Option, Some, None, codes, ap, sym, ◌∙◌, subst}
 use Rattle.std.specs.Prelude.{MatchOption}
-use Rattle.reg_args.specs.Lines.{Text}
+use Rattle.reg_cli.specs.Subcommands.{Text}
 use Rattle.reg_base.specs.declared.limits.TheConstants.{LAST_SEED}
 use Rattle.reg_show.specs.declared.Player.{Player}
 use Rattle.reg_show.specs.declared.Player.TheVariants.{Fair, Seeded}

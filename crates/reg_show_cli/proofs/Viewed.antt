@@ -1,7 +1,7 @@
 -- What the words ask to show: a large drawing, or something else.
 use Rattle.std.proofs.Common.{◌≡◌, List, Option, None, Some}
 use Rattle.std.specs.Prelude.{◌≢◌, MatchOption}
-use Rattle.reg_args.specs.Lines.{Text}
+use Rattle.reg_cli.specs.Subcommands.{Text}
 use Rattle.reg_show.specs.declared.showing.Form.{Form}
 use Rattle.reg_show.specs.declared.showing.View.{View}
 use Rattle.reg_show.specs.declared.Showing.{Showing}

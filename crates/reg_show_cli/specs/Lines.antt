@@ -1,7 +1,7 @@
 -- Which words ask for what.
 use Rattle.std.specs.Prelude.{ℕ, ◌≡◌, ◌≤◌, ◌⊎◌, ⊤, Bool, true, false, List, [], ◌∷◌, ◌++◌, codes, Option, Some, None, option_copied}
 use Rattle.std.specs.Fmt.{decimal}
-use Rattle.reg_args.specs.Lines.{Text}
+use Rattle.reg_cli.specs.Subcommands.{Text}
 use Rattle.reg_outcomes.specs.declared.tables.plays.TheConstants.{MOST_PLAYS}
 use Rattle.reg_commands.specs.declared.command.Command.{Command}
 use Rattle.reg_commands.specs.declared.command.Command.TheVariants.{Check, Play, Replay}

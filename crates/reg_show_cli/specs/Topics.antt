@@ -1,7 +1,7 @@
 -- The commands, as help tells of them.
 use Rattle.std.specs.Prelude.{ℕ, List, [], ◌∷◌, ◌++◌, codes, Option, Some, None}
 use Rattle.std.specs.List.{flat_map}
-use Rattle.reg_args.specs.Lines.{Text}
+use Rattle.reg_cli.specs.Subcommands.{Text}
 use Rattle.reg_show_cli.specs.declared.topics.Topic.{Topic}
 use Rattle.reg_show_cli.specs.declared.topics.Topic.TheVariants.{Replay, Check, Play, Schedule, Outcomes, Find, Trace, Draw, Page, Data, Rest, Why, Verify, Merge, Judge}
 use Rattle.reg_show_cli.specs.declared.topics.TheConstants.{REPLAY, CHECK, PLAY, SCHEDULE, OUTCOMES, FIND, TRACE, DRAW, PAGE, DATA, REST, WHY, VERIFY, MERGE, JUDGE}

@@ -1,6 +1,6 @@
 //! What the words of a command line ask for.
 ghost use Rattle.std.specs.Prelude.{◌≡◌, ◌≢◌, ◌↔◌, ◌∷◌, [], ℕ, Bool, IfSome, MatchOption, None, Option, Some, map, option_copied, true, slice_get, string_bytes};
-ghost use Rattle.reg_args.specs.Lines.{Text, behind_name};
+ghost use Rattle.reg_cli.specs.Subcommands.{Text, behind_name};
 ghost use Rattle.reg_outcomes.specs.declared.orders.kinds.OrderKind.{OrderKind as AnyKind};
 ghost use Rattle.reg_show.specs.declared.Player.{Player as AnyPlayer};
 ghost use Rattle.reg_show.specs.declared.Showing.{Showing as AnyShowing};

@@ -1,8 +1,8 @@
 //! The words of a command line, one after another: a word, or a flag with a number.
 ghost use Rattle.std.specs.Prelude.{◌≡◌, ◌≤◌, ◌↔◌, ◌∷◌, ◌++◌, [], ℕ, Bool, List, Option, Some, IfSome, IsSomeAnd, MatchOption, codes, map, option_copied, string_bytes, true};
 ghost use Rattle.std.specs.Fmt.{decimal};
-ghost use Rattle.reg_args.specs.Lines.{Text};
-ghost use Rattle.reg_args.specs.Lines.{behind_name};
+ghost use Rattle.reg_cli.specs.Subcommands.{Text};
+ghost use Rattle.reg_cli.specs.Subcommands.{behind_name};
 ghost use Rattle.reg_show.specs.Seeds.{IsSeed};
 ghost use Rattle.reg_show.specs.declared.showing.Form.{Form as AnyForm};
 ghost use Rattle.reg_show.specs.declared.Player.{Player as AnyPlayer};

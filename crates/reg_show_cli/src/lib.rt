@@ -10,7 +10,7 @@ mod words;
 pub use asking::{LAST_OUTCOME, ask};
 pub use flags::USUAL_PLAYS;
 pub use program::{refuse, run_line, run_program, run_words};
-pub use reg_args::WordsFault;
+pub use reg_cli::WordsFault;
 pub use reg_commands::Command;
 pub use reg_observed::JudgeFlags;
 pub use reg_show::{Form, Player, Showing, View};

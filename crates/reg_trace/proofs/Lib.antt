@@ -4,3 +4,12 @@ pub mod Behind
 pub mod Arrowed
 pub mod Putting
 pub mod Titled
+pub mod Cutting
+pub mod Commenting
+pub mod LookedBehind
+pub mod Joined
+pub mod Looking
+pub mod Noting
+pub mod Spelling
+pub mod Made
+pub mod Plain

@@ -3,3 +3,13 @@ pub mod Moments
 pub mod Putters
 pub mod Figures
 pub mod Traces
+pub mod Notes
+pub mod Json
+pub mod Rows
+pub mod Looks
+pub mod Noted
+pub mod Strings
+pub mod Parts
+pub mod Data
+pub mod Plain
+pub mod Drawings

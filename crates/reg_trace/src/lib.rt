@@ -1,6 +1,8 @@
-//! What each event of a run did, its text, and what a drawing joins.
+//! What is told of a run: what each event did, as text and as data; and its drawings.
 #![tactic(auto)]
 
+mod data;
+mod drawing;
 mod figures;
 pub mod laws;
 mod moments;
@@ -11,6 +13,8 @@ mod trace_text;
 mod waits;
 mod watching;
 
+pub use data::{Data, Notes, read_notes, tell_data, tell_data_under, write_data};
+pub use drawing::{Size, draw_told};
 pub use figures::{Arrow, Bar, End, arrows, bars, is_taken};
 pub use moments::{Delivery, Moment, Sent, process_of_event};
 pub use rooms::{Filled, GAP};

@@ -14,7 +14,7 @@ use Rattle.reg_front.specs.declared.starts.Start.{Start}
 use Rattle.reg_checkers.proofs.Places.{get_set_same, get_set_other, get_push_same, get_push_other}
 use Rattle.reg_records.specs.declared.entries.LogEntry.{LogEntry}
 use Rattle.reg_records.specs.Records.{FailsAt, NothingLeft, mentions}
-use Rattle.reg_log.specs.declared.recorded.Recorded.{Recorded}
+use Rattle.reg_node.specs.declared.transcripts.recorded.Recorded.{Recorded}
 use Rattle.reg_verify.specs.Adding.{IsAdded}
 use Rattle.reg_verify.specs.Logs.{AreLogs, log_of, order_of}
 use Rattle.reg_verify.specs.Verifies.{FailsFirst, line_at}

@@ -18,11 +18,11 @@ use Rattle.reg_world.specs.Worlds.{Made}
 use Rattle.reg_records.specs.declared.entries.LogEntry.{LogEntry}
 use Rattle.reg_records.specs.Playing.{AreTallied}
 use Rattle.reg_records.specs.Records.{IsFaithful, NothingLeft, Plays, Turn, entry_of, mentions}
-use Rattle.reg_merge.specs.Merges.{IsFirstLeft, IsFull, IsGreatest, NoneHasMore}
-use Rattle.reg_merge.proofs.Alone.{mention_more, mention_same}
-use Rattle.reg_merge.proofs.Verdicts.{has_log, not_full, stands_below}
-use Rattle.reg_log.specs.declared.recorded.Recorded.{Recorded}
-use Rattle.reg_log.specs.RecordLines.{EntryFits, RecordedFits}
+use Rattle.reg_records.specs.Merges.{IsFirstLeft, IsFull, IsGreatest, NoneHasMore}
+use Rattle.reg_records.proofs.Alone.{mention_more, mention_same}
+use Rattle.reg_records.proofs.MergeVerdicts.{has_log, not_full, stands_below}
+use Rattle.reg_node.specs.declared.transcripts.recorded.Recorded.{Recorded}
+use Rattle.reg_node.specs.RecordLines.{EntryFits, RecordedFits}
 use Rattle.reg_text.specs.Lines.{AllFit}
 use Rattle.reg_verify.specs.Laying.{AllStand, AllWithin, AreLaidOut, IsStepOf}
 use Rattle.reg_verify.specs.Logs.{AreLogs, log_of, order_of}

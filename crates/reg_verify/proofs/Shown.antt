@@ -10,9 +10,9 @@ use Rattle.reg_inputs.specs.Schedules.{Plan}
 use Rattle.reg_world.specs.Worlds.{Made}
 use Rattle.reg_records.proofs.Turns.{plays_shape}
 use Rattle.reg_commands.specs.Replays.{Shows, plan_in}
-use Rattle.reg_log.specs.declared.recorded.Recorded.{Recorded}
+use Rattle.reg_node.specs.declared.transcripts.recorded.Recorded.{Recorded}
 use Rattle.reg_verify.specs.Logs.{order_of}
-use Rattle.reg_log.specs.RecordLines.{Account, IsAccount}
+use Rattle.reg_node.specs.RecordLines.{Account, IsAccount}
 use Rattle.reg_verify.specs.Verifies.{Runs, ShowsAccount}
 
 -- the run has a register for each name

@@ -6,7 +6,7 @@ use Rattle.reg_front.specs.declared.starts.Start.{Start}
 use Rattle.reg_commands.specs.declared.faults.Fault.TheVariants.{OutOfMemory}
 use Rattle.reg_verify.specs.declared.faults.VerifyFault.{VerifyFault}
 use Rattle.reg_verify.specs.declared.faults.VerifyFault.TheVariants.{Command, Unfaithful}
-use Rattle.reg_log.specs.declared.recorded.Recorded.{Recorded}
+use Rattle.reg_node.specs.declared.transcripts.recorded.Recorded.{Recorded}
 use Rattle.reg_verify.specs.Verifies.{FailsFirst, line_at}
 
 -- there was no memory, or the line is that of the first step with which the steps are no run

@@ -7,10 +7,10 @@ use Rattle.reg_checkers.specs.History.{IsAt}
 use Rattle.reg_commands.specs.declared.faults.Fault.TheVariants.{OutOfMemory}
 use Rattle.reg_records.specs.declared.entries.LogEntry.{LogEntry}
 use Rattle.reg_records.specs.Records.{entry_of, mentions}
-use Rattle.reg_log.specs.declared.recorded.Recorded.{Recorded}
+use Rattle.reg_node.specs.declared.transcripts.recorded.Recorded.{Recorded}
 use Rattle.reg_verify.specs.declared.faults.VerifyFault.{VerifyFault}
 use Rattle.reg_verify.specs.declared.faults.VerifyFault.TheVariants.{Command, Unfaithful}
-use Rattle.reg_merge.specs.Merges.{NoneHasMore}
+use Rattle.reg_records.specs.Merges.{NoneHasMore}
 use Rattle.reg_verify.specs.Logs.{order_of}
 use Rattle.reg_verify.specs.declared.merging.Unordered.{Unordered}
 use Rattle.reg_verify.specs.declared.merging.Unordered.TheVariants.{Stuck, OutOfMemory as NoMemory}

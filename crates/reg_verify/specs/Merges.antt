@@ -7,12 +7,12 @@ use Rattle.reg_checkers.specs.History.{IsAt}
 use Rattle.reg_world.specs.Worlds.{Made}
 use Rattle.reg_records.specs.declared.entries.LogEntry.{LogEntry}
 use Rattle.reg_records.specs.Records.{mentions}
-use Rattle.reg_merge.specs.Merges.{NoneHasMore}
+use Rattle.reg_records.specs.Merges.{NoneHasMore}
 use Rattle.reg_commands.specs.Replays.{start_of}
 use Rattle.reg_commands.specs.declared.faults.Fault.{Fault}
 use Rattle.reg_commands.specs.declared.faults.Fault.TheVariants.{Unread, TooLong, NotText, Output, Line, Event, Workload, OutOfMemory}
-use Rattle.reg_log.specs.declared.recorded.Recorded.{Recorded}
-use Rattle.reg_log.specs.RecordLines.{Account, IsAccount, SpellsAccount, account_text}
+use Rattle.reg_node.specs.declared.transcripts.recorded.Recorded.{Recorded}
+use Rattle.reg_node.specs.RecordLines.{Account, IsAccount, SpellsAccount, account_text}
 use Rattle.reg_verify.specs.declared.faults.VerifyFault.{VerifyFault}
 use Rattle.reg_verify.specs.declared.faults.VerifyFault.TheVariants.{Command, Unfaithful}
 use Rattle.reg_verify.specs.Logs.{AreLogs, log_of, order_of}

@@ -21,10 +21,10 @@ use Rattle.reg_commands.specs.declared.faults.Fault.{Fault}
 use Rattle.reg_commands.specs.declared.faults.Fault.TheVariants.{Unread, TooLong, NotText, Output, Line, Event, Workload, OutOfMemory}
 use Rattle.reg_verify.specs.declared.faults.VerifyFault.{VerifyFault}
 use Rattle.reg_verify.specs.declared.faults.VerifyFault.TheVariants.{Command, Unfaithful}
-use Rattle.reg_log.specs.declared.recorded.Recorded.{Recorded}
+use Rattle.reg_node.specs.declared.transcripts.recorded.Recorded.{Recorded}
 use Rattle.reg_verify.specs.Logs.{AreLogs, order_of}
-use Rattle.reg_log.specs.RecordLines.{Account, IsAccount, SpellsAccount}
-use Rattle.reg_log.specs.Refusals.{RefusesAccount}
+use Rattle.reg_node.specs.RecordLines.{Account, IsAccount, SpellsAccount}
+use Rattle.reg_node.specs.Refusals.{RefusesAccount}
 
 -- The steps, in their order, are a run that gives their replies, and it ends in this world: each frame is taken from
 -- its wire.

@@ -2,12 +2,12 @@
 ghost use Rattle.std.specs.Prelude.{◌≡◌, ◌<◌, ◌≤◌, IfOk, MatchOption, length, map};
 ghost use Rattle.reg_base.specs.declared.limits.TheConstants.{MOST_EVENTS};
 ghost use Rattle.reg_checkers.specs.History.{IsAt};
-ghost use Rattle.reg_log.specs.declared.recorded.Recorded.{Recorded as AnyRecorded};
+ghost use Rattle.reg_node.specs.declared.transcripts.recorded.Recorded.{Recorded as AnyRecorded};
 ghost use Rattle.reg_records.specs.Records.{mentions};
 ghost use Rattle.reg_verify.specs.Laying.{AllStand, AllWithin, AreLaidOut, IsStepOf};
 ghost use Rattle.reg_verify.specs.Logs.{order_of};
 
-use reg_log::Recorded;
+use reg_node::Recorded;
 use reg_records::{LogEntry, bump, entry_at, no_counts};
 use std::alloc::{AllocError, Allocator};
 

@@ -10,5 +10,5 @@ mod verifying;
 
 pub use faults::VerifyFault;
 pub use merging::Merge;
-pub use reg_log::{Record, RecordFault, Recorded, parse_record};
+pub use reg_node::{Record, RecordFault, Recorded, parse_record};
 pub use verifying::{Verify, read_record_text, report_by_front};

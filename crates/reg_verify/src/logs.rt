@@ -3,7 +3,7 @@ ghost use Rattle.std.specs.Prelude.{◌≡◌, ◌<◌, [], IfOk, OnOk, map, vec
 ghost use Rattle.reg_verify.specs.Logs.{AreLogs, order_of as order_of_steps};
 ghost use Rattle.reg_verify.specs.Adding.{IsAdded};
 
-use reg_log::Recorded;
+use reg_node::Recorded;
 use reg_records::LogEntry;
 use std::alloc::{AllocError, Allocator};
 

@@ -6,7 +6,7 @@ ghost use Rattle.reg_text.specs.Writing.{AppendsPart};
 ghost use Rattle.reg_commands.specs.Replays.{PointsOf, start_of};
 ghost use Rattle.reg_records.specs.Records.{FailsAt, IsFaithful};
 ghost use Rattle.reg_verify.specs.Judging.{BlamesSteps};
-ghost use Rattle.reg_log.specs.RecordLines.{Account, IsAccount, SpellsAccount};
+ghost use Rattle.reg_node.specs.RecordLines.{Account, IsAccount, SpellsAccount};
 ghost use Rattle.reg_verify.specs.Verifies.{BlamesAccount, BlamesText, IsReportOfAccount, Runs, ShowsAccount, Verifies, line_at};
 
 use crate::faults::VerifyFault;
@@ -15,7 +15,7 @@ use reg_base::Shape;
 use reg_commands::{Fault, TextCommand, report_run, write_out};
 use reg_front::{FrontEnd, by_front};
 use reg_history::{ReadWhy, Report};
-use reg_log::{Record, RecordFault, Recorded, parse_record};
+use reg_node::{Record, RecordFault, Recorded, parse_record};
 use reg_records::{CloseFault, LogEntry, play};
 use reg_world::{NamedFront, PackedWires, World};
 use std::alloc::Allocator;

@@ -7,7 +7,7 @@ use Rattle.reg_commands.specs.declared.faults.Fault.{Fault}
 use Rattle.reg_commands.specs.declared.faults.Fault.TheVariants.{Output, Workload, OutOfMemory}
 use Rattle.reg_history.specs.Reports.{Contents, report_text}
 use Rattle.reg_inputs.specs.Loads.{IsLoad, Load}
-use Rattle.reg_layout.specs.Layout.{load_text}
+use Rattle.reg_commands.specs.Layout.{load_text}
 
 -- the fault is one of a workload, of which nothing is said, or want of memory
 abbrev pub IsLayoutFault : Fault → Type 0

@@ -8,8 +8,8 @@ use Rattle.reg_commands.specs.declared.command.Command.{Command}
 use Rattle.reg_commands.specs.declared.command.Command.TheVariants.{Check, Replay}
 use Rattle.reg_commands.specs.declared.faults.Fault.{Fault}
 use Rattle.reg_commands.specs.declared.faults.Fault.TheVariants.{Unread, TooLong, NotText, Output, Line, Event, Workload, OutOfMemory}
-use Rattle.reg_data.specs.Data.{Data, IsDataOf, data_text}
-use Rattle.reg_data.specs.Notes.{Notes, notes_of}
+use Rattle.reg_trace.specs.Data.{Data, IsDataOf, data_text}
+use Rattle.reg_trace.specs.Notes.{Notes, notes_of}
 use Rattle.reg_front.specs.declared.starts.Start.{Start}
 use Rattle.reg_history.specs.Reports.{Contents, report_text}
 use Rattle.reg_inputs.specs.Schedules.{IsPlan, Plan, Spells}

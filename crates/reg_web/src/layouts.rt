@@ -3,12 +3,14 @@
 ghost use Rattle.std.specs.Prelude.{◌≡◌, IfOk, IfErr};
 ghost use Rattle.reg_commands.specs.Plays.{Holds};
 ghost use Rattle.reg_inputs.specs.Loads.{IsLoad, Load};
-ghost use Rattle.reg_layout.specs.Layout.{load_text};
+ghost use Rattle.reg_commands.specs.Layout.{load_text};
 ghost use Rattle.reg_web.specs.Layouts.{IsLayoutFault};
 
-use reg_commands::{Fault, TextCommand, WorkCommand, play_workload, write_answer, write_out};
+use reg_commands::{
+    Fault, TextCommand, WorkCommand, guess_workload, lay_out, play_workload, read_layout,
+    write_answer, write_out,
+};
 use reg_inputs::{Workload, WorkloadFault};
-use reg_layout::{guess_workload, lay_out, read_layout};
 use std::alloc::Allocator;
 use std::io::Write;
 

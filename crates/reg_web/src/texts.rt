@@ -15,9 +15,9 @@ use crate::telling::tell_in;
 use crate::under::{DataUnder, ReplayUnder};
 use reg_commands::{Kind, Lengths, kind_of};
 use reg_heap::Room;
+use reg_judge::JudgeReport;
 use reg_outcomes::OrderKind;
 use reg_reasons::ExplainLent;
-use reg_rulings::JudgeReport;
 use reg_show::{FindOrder, Showing};
 use reg_verify::{Merge, Verify};
 

@@ -2,9 +2,9 @@
 use crate::answers::{shown, unless_memory};
 use crate::world_rows::Row;
 use crate::worlds::runs_of;
-use refusing::{Trial, refusals};
 use reg_base::Shape;
 use reg_front::{Front, FrontEnd, Linear, LocalRead, LocalWrite};
+use reg_heap::{Trial, refusals};
 use reg_history::{History, check_serial};
 use reg_world::{Event, First, RunFault, World, WorldFault};
 use std::alloc::{Allocator, Global};

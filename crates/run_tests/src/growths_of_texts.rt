@@ -1,8 +1,8 @@
 //! Each growth of what is read and played refused in turn: the answer is out of memory, or the one with ample memory.
 use crate::answers::{shown, unless_memory};
 use crate::plays::{LOSSY, small_with};
-use refusing::{Trial, refusals};
 use reg_front::LocalWrite;
+use reg_heap::{Trial, refusals};
 use reg_inputs::read_table;
 use reg_workload::{
     Play, Schedule, ScheduleFault, SeedWords, Workload, WorkloadFault, parse_schedule, play_fair,

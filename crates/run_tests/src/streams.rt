@@ -3,8 +3,8 @@ use crate::commands::{Given, gives_from, is_given};
 use crate::replays::ONE_PROCESS_SCHEDULE;
 use crate::report_texts::ONE_PROCESS_NOW;
 use crate::sources::{Source, Spaces, whole};
-use refusing::Refusing;
 use reg_commands::{Command, OverText, run_command};
+use reg_heap::Refusing;
 use std::alloc::Global;
 use std::process::Abort;
 

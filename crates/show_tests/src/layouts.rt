@@ -1,7 +1,7 @@
 //! Documents read with no heap but the reader's own, as a page has it, beside the kit's reader of documents: both tell
 //! the same workload, or the same fault.
+use reg_commands::{guess_workload, lay_out};
 use reg_inputs::{Workload, WorkloadFault};
-use reg_layout::{guess_workload, lay_out};
 use std::alloc::Global;
 use std::test::Fail;
 

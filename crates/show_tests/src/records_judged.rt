@@ -1,7 +1,7 @@
 //! Records judged: one that is worked out by hand, and what is told of others.
 use crate::given::{Task, answer_of, tells};
-use refusing::{Trial, refusals};
 use reg_commands::run_command;
+use reg_heap::{Trial, refusals};
 use reg_verify::Verify;
 use std::alloc::{AllocError, Allocator, Global};
 use std::test::Fail;

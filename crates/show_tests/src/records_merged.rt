@@ -1,8 +1,8 @@
 //! Steps of two processes put into an order that is a run, and what is told where there is none.
 use crate::given::{Row, Task, answer_of, demand};
 use crate::records_judged::WRITE;
-use refusing::{Trial, refusals};
 use reg_commands::run_command;
+use reg_heap::{Trial, refusals};
 use reg_verify::Merge;
 use std::alloc::{Allocator, Global};
 use std::test::Fail;

@@ -2,9 +2,9 @@
 //! points are of no account.
 use crate::given::answer_of;
 use crate::histories_judged::{Row, gives};
-use refusing::{Trial, refusals};
 use reg_commands::run_command;
-use reg_rulings::JudgeReport;
+use reg_heap::{Trial, refusals};
+use reg_judge::JudgeReport;
 use std::alloc::{Allocator, Global};
 use std::test::Fail;
 

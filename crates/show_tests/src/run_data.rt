@@ -2,8 +2,7 @@
 use crate::given::tells;
 use crate::shown::{DATA, WRITE};
 use crate::values::shown;
-use reg_page::{HEAD, TAIL};
-use reg_show::Showing;
+use reg_show::{PAGE_HEAD, PAGE_TAIL, Showing};
 use serde_json::Value;
 use std::alloc::Global;
 
@@ -204,11 +203,11 @@ fn a_json_reader_reads_the_comments(rt: HostRuntime) {
 
 /// Whether the page is its head, the data without its last line feed, and its tail.
 fn is_page(page: &[u8], data_text: &str) -> bool {
-    let behind_head = page.strip_prefix(HEAD.as_bytes()).unwrap_or(&[]);
+    let behind_head = page.strip_prefix(PAGE_HEAD.as_bytes()).unwrap_or(&[]);
     let behind_data = behind_head
         .strip_prefix(data_text.trim_end().as_bytes())
         .unwrap_or(&[]);
-    behind_data == TAIL.as_bytes()
+    behind_data == PAGE_TAIL.as_bytes()
 }
 
 /// Whether the page of a text has this data.

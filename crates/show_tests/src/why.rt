@@ -1,8 +1,8 @@
 //! How it is told what is wrong with a text: all of the answer, and nothing where there is no memory.
 use crate::given::{Task, answer_of, tells};
 use crate::{why_reports, why_schedules, why_workloads};
-use refusing::{Trial, refusals};
 use reg_commands::run_command;
+use reg_heap::{Trial, refusals};
 use reg_reasons::{Explain, ExplainLent};
 use std::alloc::{Allocator, Global};
 use std::process::Abort;

@@ -25,7 +25,7 @@ pub use reg_live::{
     run_scripts, run_scripts_in, set_up, start, verify, verify_in,
 };
 pub use reg_process::{Reply, Step};
-pub use reg_runs::{SettleFault, settle};
+pub use reg_records::{SettleFault, settle};
 pub use reg_workload::{
     Key, Play, Schedule, ScheduleFault, SeedWords, Words, Workload, WorkloadFault, parse_schedule,
     play_fair, play_fair_in, play_seeded, play_seeded_in,

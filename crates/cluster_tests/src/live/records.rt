@@ -1,10 +1,10 @@
 //! Records worked by hand, with each kind of damage.
 use crate::live::crews::shape_of;
 use crate::values::{receipt, write};
-use refusing::Refusing;
 use reg_base::{Answer, Op, Shape};
 use reg_frames::Frame;
 use reg_front::Linear;
+use reg_heap::Refusing;
 use reg_live::{CloseFault, LogEntry, Receipt, Reply, Step, verify, verify_in};
 use reg_world::{PackedWires, WireStore, World};
 use std::alloc::{AllocError, Allocator, Global};

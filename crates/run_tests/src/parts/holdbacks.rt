@@ -1,7 +1,7 @@
 //! The hold-back queue, as worked by hand.
 use crate::values::{READ, WRITE_FIVE};
-use refusing::Refusing;
 use reg_base::{Op, Shape, Stamp};
+use reg_heap::Refusing;
 use reg_holdback::{HoldFault, Holdback};
 use std::alloc::Allocator;
 

@@ -1,6 +1,6 @@
 //! Worked examples of both ends of a link, and of the links of one process together.
-use refusing::Refusing;
 use reg_frames::{Body, Frame};
+use reg_heap::Refusing;
 use reg_links::{Ahead, Inbox, LinkFault, Outbox, Outboxes};
 use std::alloc::Allocator;
 

@@ -3,12 +3,14 @@ use crate::answers::{shown, unless_memory};
 use crate::demands::demand;
 use crate::parts::nodes::{ACKNOWLEDGED, CALL_READ, CALL_WRITE, TAKE_ACK, WROTE};
 use crate::parts::texts::names_of;
-use refusing::{Trial, refusals};
 use reg_base::{Names, Op, Shape};
 use reg_frames::{Body, Frame};
 use reg_front::{Front, Linear};
-use reg_log::{LineFault, LogFault, LogId, ReadLog, Recorded, begin_log, read_log, sealed_entry};
-use reg_node::{LogEntry, LoggedFault, LoggedNode, MeetingFault, OpenFault, Step};
+use reg_heap::{Trial, refusals};
+use reg_node::{
+    LineFault, LogEntry, LogFault, LogId, LoggedFault, LoggedNode, MeetingFault, OpenFault,
+    ReadLog, Recorded, Step, begin_log, read_log, sealed_entry,
+};
 use std::alloc::{AllocError, Allocator, Global};
 use std::test::Fail;
 

@@ -1,5 +1,5 @@
 //! The allocator of tests that refuses one allocation.
-use refusing::Refusing;
+use reg_heap::Refusing;
 use std::alloc::Global;
 
 /// Whether a byte is pushed where memory is expected, and there alone, and the refusal is then still to come, or not.

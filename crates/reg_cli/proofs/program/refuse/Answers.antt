@@ -1,6 +1,6 @@
 use Rattle.std.proofs.Common.{sym, ◌∙◌}
 use Rattle.reg_text.specs.Writing.{AppendsPart}
-use Rattle.reg_args.proofs.Told.{refused_told}
+use Rattle.reg_cli.proofs.Told.{refused_told}
 use Rattle.reg_cli.specs.Lines.{refused_line}
 use Rattle.reg_cli.proofs.program.refuse.Goals as goal
 

@@ -1,8 +1,8 @@
 use Rattle.std.proofs.Common.{◌∙◌, Some, None, map, string_bytes, drop, refl, sym, ap}
 use Rattle.std.proofs.lemmas.Result.{err_from_is_err_and}
 use Rattle.clap.specs.Words.{app_of, kind_of, subcommand_rows_of, takes}
-use Rattle.reg_args.specs.Lines.{seen}
-use Rattle.reg_args.proofs.Chosen.{no_fault, none_met, one_met, rows_found}
+use Rattle.reg_cli.specs.Subcommands.{seen}
+use Rattle.reg_cli.proofs.Chosen.{no_fault, none_met, one_met, rows_found}
 use Rattle.reg_cli.specs.Lines.{is_fair, name_of}
 use Rattle.reg_cli.specs.Apps.{awreg}
 use Rattle.reg_cli.proofs.Lines.{awreg_lines}

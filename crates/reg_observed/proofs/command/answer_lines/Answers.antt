@@ -1,5 +1,5 @@
 use Rattle.std.proofs.Common.{sym}
-use Rattle.reg_rulings.proofs.Answering.{sent_as}
+use Rattle.reg_judge.proofs.Answering.{sent_as}
 use Rattle.reg_observed.proofs.Answering.{judged_as}
 use Rattle.reg_observed.proofs.command.answer_lines.Goals as goal
 

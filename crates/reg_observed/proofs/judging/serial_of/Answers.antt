@@ -1,5 +1,5 @@
 use Rattle.std.proofs.Common.{ℕ, subst, inr}
-use Rattle.reg_rulings.specs.Rulings.{RulesSerial}
+use Rattle.reg_judge.specs.Rulings.{RulesSerial}
 use Rattle.reg_observed.proofs.judging.serial_of.Goals as goal
 
 pub returns-in_ok-seek_serial-in-Some : goal.returns-in_ok-seek_serial-in-Some

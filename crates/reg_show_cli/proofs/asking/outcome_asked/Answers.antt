@@ -1,5 +1,5 @@
 use Rattle.std.proofs.Common.{◌∙◌, map, string_bytes, sym}
-use Rattle.reg_args.specs.Lines.{behind_name}
+use Rattle.reg_cli.specs.Subcommands.{behind_name}
 use Rattle.reg_show_cli.proofs.Flagged.{no_outcome}
 use Rattle.reg_show_cli.proofs.asking.outcome_asked.Goals as goal
 

@@ -1,5 +1,5 @@
 use Rattle.std.proofs.Common.{◌∙◌, map, string_bytes, sym}
-use Rattle.reg_args.specs.Lines.{behind_name}
+use Rattle.reg_cli.specs.Subcommands.{behind_name}
 use Rattle.reg_show_cli.proofs.Shortly.{asked_short}
 use Rattle.reg_show_cli.proofs.asking.short_asked.Goals as goal
 

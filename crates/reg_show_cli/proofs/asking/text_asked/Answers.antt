@@ -1,5 +1,5 @@
 use Rattle.std.proofs.lemmas.Bool.{false≢true}
-use Rattle.reg_args.specs.Lines.{behind_name}
+use Rattle.reg_cli.specs.Subcommands.{behind_name}
 use Rattle.reg_show_cli.proofs.Counted.{no_text}
 use Rattle.reg_show_cli.proofs.asking.text_asked.Goals as goal
 

@@ -1,4 +1,4 @@
-use Rattle.reg_args.specs.Lines.{behind_name}
+use Rattle.reg_cli.specs.Subcommands.{behind_name}
 use Rattle.reg_show_cli.proofs.Viewed.{all_views}
 use Rattle.reg_show_cli.proofs.asking.view_asked.Goals as goal
 

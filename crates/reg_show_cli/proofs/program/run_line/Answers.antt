@@ -1,4 +1,4 @@
-use Rattle.reg_args.specs.Lines.{behind_name}
+use Rattle.reg_cli.specs.Subcommands.{behind_name}
 use Rattle.reg_show_cli.proofs.Counted.{numbers_fit}
 use Rattle.reg_show_cli.proofs.program.run_line.Goals as goal
 

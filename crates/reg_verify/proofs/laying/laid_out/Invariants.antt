@@ -1,6 +1,6 @@
 use Rattle.std.proofs.Common.{◌≡◌, ℕ, length, map, take, Some}
 use Rattle.reg_checkers.specs.History.{IsAt}
-use Rattle.reg_log.specs.declared.recorded.Recorded.{Recorded}
+use Rattle.reg_node.specs.declared.transcripts.recorded.Recorded.{Recorded}
 use Rattle.reg_records.specs.Playing.{AreTallied}
 use Rattle.reg_records.specs.Records.{entry_of, mentions}
 use Rattle.reg_verify.specs.Logs.{order_of}

@@ -1,5 +1,5 @@
 use Rattle.std.proofs.Common.{ℕ, List, sym, subst}
-use Rattle.reg_log.specs.RecordLines.{RecordedFits}
+use Rattle.reg_node.specs.RecordLines.{RecordedFits}
 use Rattle.reg_text.specs.Lines.{AllFit}
 use Rattle.reg_verify.proofs.Merged.{fits_ordered}
 use Rattle.reg_verify.proofs.merging.merged_text.Goals as goal

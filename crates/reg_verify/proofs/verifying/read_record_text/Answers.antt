@@ -1,7 +1,7 @@
 use Rattle.std.proofs.Common.{ℕ, ◌≡◌, ◌⊎◌, inl, inr, List, sym, subst, arith}
 use Rattle.reg_text.specs.declared.faults.TextFault.TheVariants.{Line, OutOfMemory}
 use Rattle.reg_text.specs.declared.faults.Why.{Why}
-use Rattle.reg_log.specs.Refusals.{RefusesAccount}
+use Rattle.reg_node.specs.Refusals.{RefusesAccount}
 use Rattle.reg_verify.proofs.verifying.read_record_text.Goals as goal
 
 -- the line that is told is the one that is refused

@@ -1,6 +1,6 @@
 use Rattle.std.proofs.Common.{ap}
 use Rattle.reg_commands.specs.Replays.{PointsOf}
-use Rattle.reg_log.specs.RecordLines.{Account}
+use Rattle.reg_node.specs.RecordLines.{Account}
 use Rattle.reg_verify.proofs.Shown.{as_many_registers, shown}
 use Rattle.reg_verify.proofs.verifying.report_of.Goals as goal
 

@@ -1,6 +1,0 @@
-pub mod Strays
-pub mod Leaves
-pub mod Programs
-pub mod Getters
-pub mod Chosen
-pub mod Told

@@ -1,0 +1,8 @@
+use Rattle.std.proofs.Common.{map, take}
+use Rattle.reg_text.specs.Writing.{Puts}
+use Rattle.reg_commands.specs.Layout.{joined, script_array}
+use Rattle.reg_commands.proofs.layout.laying.put_scripts_joined.Given as goal
+
+-- the items so far
+abbrev pub invariant-loop-place : goal.invariant-loop-place
+invariant-loop-place g l = Puts g.W.Write.contents l.initial.sink l.sink (joined (map (λ script. script_array l.names script.items) (take l.place l.scripts)))

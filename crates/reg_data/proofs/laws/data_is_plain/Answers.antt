@@ -1,5 +1,0 @@
-use Rattle.reg_data.proofs.Plain.{data_plain}
-use Rattle.reg_data.proofs.laws.data_is_plain.Goals as goal
-
-pub returns : goal.returns
-returns c = data_plain

@@ -1,7 +1,0 @@
-use Rattle.std.proofs.Common.{◌≡◌}
-use Rattle.reg_data.specs.Looks.{peers_of}
-use Rattle.reg_data.proofs.looks.peers.Given as goal
-
--- those of the processes so far
-abbrev pub invariant-loop-other : goal.invariant-loop-other
-invariant-loop-other g l = l.peers.items ≡ peers_of l.process.state l.other

@@ -1,6 +1,0 @@
-use Rattle.reg_data.proofs.Behind.{◌▸◌}
-use Rattle.reg_data.proofs.parts.BarPart.put.Goals as goal
-
-pub returns : goal.returns
-returns g c =
-    c.put_number.ensures ▸ (c.put_number-2.ensures ▸ (c.put.ensures ▸ (c.put_quoted_op.ensures ▸ (c.put_number-3.ensures ▸ (c.put-2.ensures ▸ (c.put_end.ensures ▸ c.put-3.ensures))))))

@@ -1,5 +1,0 @@
-use Rattle.reg_data.proofs.Behind.{◌▸◌}
-use Rattle.reg_data.proofs.parts.put_quoted_op.Goals as goal
-
-pub returns : goal.returns
-returns g c = c.put.ensures ▸ (c.put_op.ensures ▸ c.put-2.ensures)

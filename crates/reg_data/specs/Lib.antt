@@ -1,9 +1,0 @@
-pub mod Notes
-pub mod Json
-pub mod Rows
-pub mod Looks
-pub mod Noted
-pub mod Strings
-pub mod Parts
-pub mod Data
-pub mod Plain

@@ -1,5 +1,0 @@
-use Rattle.reg_log.proofs.Written.{written}
-use Rattle.reg_log.proofs.laws.each_record_has_a_text.Goals as goal
-
-pub returns : goal.returns
-returns c = written

@@ -1,9 +1,0 @@
-pub mod RecordLines
-pub mod Refusals
-pub mod Stops
-pub mod Seals
-pub mod Unsealing
-pub mod Logs
-pub mod LogFaults
-pub mod LineFaults
-pub mod Fours

@@ -1,5 +1,0 @@
-pub mod Alone
-pub mod Further
-pub mod Counts
-pub mod Verdicts
-pub mod Placed

@@ -1,5 +1,0 @@
-use Rattle.reg_merge.proofs.Verdicts.{fault_is_no_order as the_lemma}
-use Rattle.reg_merge.proofs.laws.fault_is_no_order.Goals as goal
-
-pub returns : goal.returns
-returns c = the_lemma

@@ -1,2 +1,0 @@
-pub mod Merges
-pub mod Placing

@@ -1,0 +1,5 @@
+use Rattle.reg_records.proofs.Overtaken.{new_then_old_overtaken}
+use Rattle.reg_records.proofs.overtaking.local_read_read_then_read.Goals as goal
+
+pub returns-clause-overtaken : goal.returns-clause-overtaken
+returns-clause-overtaken c = new_then_old_overtaken

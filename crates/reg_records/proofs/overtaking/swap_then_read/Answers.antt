@@ -1,0 +1,5 @@
+use Rattle.reg_records.proofs.Overtaken.{stale_after_swap_overtaken}
+use Rattle.reg_records.proofs.overtaking.swap_then_read.Goals as goal
+
+pub returns-clause-overtaken : goal.returns-clause-overtaken
+returns-clause-overtaken c = stale_after_swap_overtaken

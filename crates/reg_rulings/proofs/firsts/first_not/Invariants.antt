@@ -1,5 +1,0 @@
-use Rattle.reg_rulings.specs.Firsts.{IsFirstTo}
-use Rattle.reg_rulings.proofs.firsts.first_not.Given as goal
-
-abbrev pub invariant-loop-ruling : goal.invariant-loop-ruling
-invariant-loop-ruling l = IsFirstTo l.ruling-index l.rulings l.found

@@ -1,6 +1,0 @@
-use Rattle.std.proofs.Common.{[]}
-use Rattle.reg_rulings.specs.Parting.{AreParts}
-use Rattle.reg_rulings.proofs.keys.empty_parts.Given as goal
-
-abbrev pub invariant-loop-key : goal.invariant-loop-key
-invariant-loop-key g l = AreParts l._key [] l.parts.items

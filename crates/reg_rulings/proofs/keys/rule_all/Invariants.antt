@@ -1,5 +1,0 @@
-use Rattle.reg_rulings.specs.Rulings.{AreRuled}
-use Rattle.reg_rulings.proofs.keys.rule_all.Given as goal
-
-abbrev pub invariant-loop-part : goal.invariant-loop-part
-invariant-loop-part g l = AreRuled l.processes l.part-index l.rows l.rulings.items

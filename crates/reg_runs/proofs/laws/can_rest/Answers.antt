@@ -1,5 +1,0 @@
-use Rattle.reg_runs.proofs.Able.{can_rest}
-use Rattle.reg_runs.proofs.laws.can_rest.Goals as goal
-
-pub returns : goal.returns
-returns c = λ start n registers events. can_rest start n registers events

@@ -1,5 +1,0 @@
-use Rattle.reg_runs.proofs.AtRest.{rests_at_none}
-use Rattle.reg_runs.proofs.laws.rests_at_no_distance.Goals as goal
-
-pub returns : goal.returns
-returns c = λ start n registers events. rests_at_none start n registers events
