@@ -75,10 +75,11 @@ none_is : (o : Option Running) → is_none o ≡ true → o ≡ None
 none_is None h = refl
 none_is (Some run) h = absurd cc
 
-pub call_iff : (count registers : ℕ) (es : List Entry) → IsHistory count registers es → (g : Progress) (at : ℕ) (id : OpId) (op : Op) (b : Bool) → IsProgressOf es id.process g
-    → at ≤ LAST_EVENT → id.process < count → register_of op < registers → IsBehindLast es at → id.number ≡ g.next → id.number < MOST_OPERATIONS → b ≡ is_none g.running
-    → (IsTrue b → MayCall count registers es at id op) × (MayCall count registers es at id op → IsTrue b)
-call_iff count registers es good g at id op b kept event process register later number small is = (
+-- whether a call is in place, of any operation of one of the memory's registers
+pub call_iff : (count registers : ℕ) (es : List Entry) → IsHistory count registers es → (g : Progress) (at : ℕ) (id : OpId) (b : Bool) → IsProgressOf es id.process g
+    → at ≤ LAST_EVENT → IsBehindLast es at → id.number ≡ g.next → id.number < MOST_OPERATIONS → b ≡ is_none g.running
+    → (n most : ℕ) (op : Op) → id.process < n → register_of op < most → (IsTrue b → MayCall n most es at id op) × (MayCall n most es at id op → IsTrue b)
+call_iff count registers es good g at id b kept event later number small is n most op process register = (
   λ t. record {
     event = event;
     process = process;

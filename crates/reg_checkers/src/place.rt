@@ -1,8 +1,9 @@
 //! Whether an entry is in place, by what is kept of its process.
-ghost use Rattle.std.specs.Prelude.{◌≡◌, ◌<◌, ◌↔◌, Some, IsTrue, length, slice_index_or, slice_set};
+ghost use Rattle.std.specs.Prelude.{ℕ, ◌≡◌, ◌<◌, ◌↔◌, Some, IsTrue, length, slice_index_or, slice_set};
 ghost use Rattle.reg_checkers.specs.History.{event_of, IsHistory, MayCall, MayAnswer, IsInPlace};
 ghost use Rattle.reg_checkers.specs.Progress.{last_of, IsBehindLast, IsProgressOf, IsKept, IsNumbered, id_of as id_of_entry, progress_after};
 ghost use Rattle.reg_base.specs.declared.memory.Op.{Op};
+ghost use Rattle.reg_base.specs.Memory.{register_of};
 ghost use Rattle.reg_checkers.specs.declared.entries.Entry.TheVariants.{Called};
 
 use crate::entries::Entry;
@@ -115,17 +116,20 @@ fn last_is_call(entries: &[Entry], at: u32, id: OpId) -> bool
     }
 }
 
-/// Whether a call is in place.
-fn may_call(shape: Shape, entries: &[Entry], progress: Progress, at: u32, id: OpId, op: Op) -> bool
-    requires history { IsHistory shape.processes shape.registers entries.now }
-    requires process { id.process < shape.processes }
+/// Whether the operation is of one of the memory's registers.
+fn is_of_a_register(shape: Shape, op: Op) -> bool
+    ensures { IsTrue result ↔ (register_of op < shape.registers) }
+{
+    u32::from(op.register()) < shape.registers()
+}
+
+/// Whether a call under this id is in place, of any operation of one of the memory's registers.
+fn may_call(entries: &[Entry], progress: Progress, at: u32, id: OpId) -> bool
+    requires history { (n : ℕ) × (registers : ℕ) × IsHistory n registers entries.now }
     requires progress { IsProgressOf entries.now id.process progress }
-    ensures { IsTrue result ↔ MayCall shape.processes shape.registers entries.now at id op }
+    ensures { (n registers : ℕ) (op : Op) → id.process < n → register_of op < registers → IsTrue result ↔ MayCall n registers entries.now at id op }
 {
     if at > LAST_EVENT || id.number >= MOST_OPERATIONS {
-        return false;
-    }
-    if u32::from(op.register()) >= shape.registers() {
         return false;
     }
     if !is_later(entries, at) {
@@ -138,15 +142,8 @@ fn may_call(shape: Shape, entries: &[Entry], progress: Progress, at: u32, id: Op
 }
 
 /// Whether an answer is in place.
-fn may_answer(
-    shape: Shape,
-    entries: &[Entry],
-    progress: Progress,
-    at: u32,
-    id: OpId,
-    answer: Answer,
-) -> bool
-    requires history { IsHistory shape.processes shape.registers entries.now }
+fn may_answer(entries: &[Entry], progress: Progress, at: u32, id: OpId, answer: Answer) -> bool
+    requires history { (n : ℕ) × (registers : ℕ) × IsHistory n registers entries.now }
     requires progress { IsProgressOf entries.now id.process progress }
     ensures { IsTrue result ↔ MayAnswer entries.now at id answer }
 {
@@ -173,17 +170,17 @@ pub fn is_in_place(shape: Shape, entries: &[Entry], progress: &[Progress], entry
     match entry {
         Entry::Called { at, id, op } => {
             let process = usize::from(id.process);
-            if process >= progress.len() {
+            if process >= progress.len() || !is_of_a_register(shape, op) {
                 return false;
             }
-            may_call(shape, entries, progress[process], at, id, op)
+            may_call(entries, progress[process], at, id)
         }
         Entry::Answered { at, id, answer } => {
             let process = usize::from(id.process);
             if process >= progress.len() {
                 return false;
             }
-            may_answer(shape, entries, progress[process], at, id, answer)
+            may_answer(entries, progress[process], at, id, answer)
         }
     }
 }

@@ -6,15 +6,15 @@ use Rattle.reg_checkers.proofs.place.may_call.Goals as goal
 
 pub returns-then-id-progress : goal.returns-then-id-progress
 returns-then-id-progress c =
-    refuse (MayCall c.args.shape.processes c.args.shape.registers c.args.entries.now c.args.at c.args.id c.args.op)
+    λ n registers op _ _. refuse (MayCall n registers c.args.entries.now c.args.at c.args.id op)
     (λ may. c.if-id-progress.true (next_is c.args.entries.now c.args.id c.args.progress c.requires.progress may.next))
 
 pub returns-then-not-is_later : goal.returns-then-not-is_later
 returns-then-not-is_later c =
-    refuse (MayCall c.args.shape.processes c.args.shape.registers c.args.entries.now c.args.at c.args.id c.args.op)
-    (λ may. no_truth (c.if-not-is_later.ensures.1 (behind_last c.args.shape.processes c.args.shape.registers c.args.entries.now c.requires.history c.args.at may.later)))
+    λ n registers op _ _. refuse (MayCall n registers c.args.entries.now c.args.at c.args.id op)
+    (λ may. no_truth (c.if-not-is_later.ensures.1 (behind_last c.requires.history.0 c.requires.history.1 c.args.entries.now c.requires.history.2 c.args.at may.later)))
 
 pub returns : goal.returns
 returns c =
-    call_iff c.args.shape.processes c.args.shape.registers c.args.entries.now c.requires.history c.args.progress c.args.at c.args.id c.args.op c.is_none.result c.requires.progress
-    (omega arith) c.requires.process (omega (arith, c.register.ensures)) (c.if-not-is_later.ensures.0 refl) c.if-id-progress.false (omega arith) (not_back (is_some c.args.progress.running) c.is_none.result c.is_none.ensures)
+    call_iff c.requires.history.0 c.requires.history.1 c.args.entries.now c.requires.history.2 c.args.progress c.args.at c.args.id c.is_none.result c.requires.progress
+    (omega arith) (c.if-not-is_later.ensures.0 refl) c.if-id-progress.false (omega arith) (not_back (is_some c.args.progress.running) c.is_none.result c.is_none.ensures)
