@@ -28,10 +28,9 @@ pub(crate) fn advance<F: FrontEnd, A: Allocator + Copy, W: WireStore<A>>(
     ensures ahead { OnOk result (book.new.ahead ≡ drop 1 book.old.ahead) }
 {
     let member = &mut members[usize::from(process)];
-    let effect = member.act(step)?;
-    let runs = member.process().busy();
-    book.enter(event, process, step, runs, &effect)?;
-    Ok(effect.reply)
+    let made = member.act(step)?;
+    book.enter(event, process, step, &made)?;
+    Ok(made.effect.reply)
 }
 
 /// Makes an event, or tells why it is refused.

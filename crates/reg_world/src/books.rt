@@ -10,11 +10,12 @@ ghost use Rattle.reg_world.specs.Pages.{entered, copied_in, tallies_after, tally
 
 use crate::accepted::Accepted;
 use crate::callers::Caller;
+use crate::members::StepEffect;
 use crate::order::{CopyRead, First};
 use crate::witnesses::{is_after, last_stamp};
 use reg_base::{Delivered, OpId, Shape, Stamp};
 use reg_checkers::{Entry, History};
-use reg_process::{Effect, Event, Reply, Step};
+use reg_process::{Event, Reply, Step};
 use std::alloc::{AllocError, Allocator, Global};
 use std::marker::Model;
 
@@ -296,12 +297,12 @@ impl<A: Allocator + Copy> Book<A> {
         event: Event,
         process: u8,
         step: &Step,
-        runs: bool,
-        effect: &Effect<A>,
+        made: &StepEffect<A>,
     ) -> Result<(), AllocError>
-        requires { MayEnter self.old process step.now runs effect.now.cast effect.now.delivered.items effect.now.reply }
-        ensures { MatchResult result (λ _. self.new ≡ entered self.old event process step.now runs effect.now.cast effect.now.delivered.items effect.now.reply) (λ _. self.new ≡ self.old) }
+        requires { MayEnter self.old process step.now made.now.runs made.now.effect.cast made.now.effect.delivered.items made.now.effect.reply }
+        ensures { MatchResult result (λ _. self.new ≡ entered self.old event process step.now made.now.runs made.now.effect.cast made.now.effect.delivered.items made.now.effect.reply) (λ _. self.new ≡ self.old) }
     {
+        let effect = &made.effect;
         let at = self.accepted.len() as u32;
         reserve_all(
             &mut self.accepted,
@@ -310,7 +311,7 @@ impl<A: Allocator + Copy> Book<A> {
             &mut self.reads,
             effect.delivered.len(),
         )?;
-        let ids = enter_caller(&mut self.callers, process, step, runs, effect.cast)?;
+        let ids = enter_caller(&mut self.callers, process, step, made.runs, effect.cast)?;
         push_call(&mut self.history, at, ids.called, step);
         push_answer(&mut self.history, at, ids.answered, effect.reply);
         push_read(&mut self.reads, ids.answered, ids.is_copied, effect.reply);

@@ -1,5 +1,5 @@
 //! One process with its wires.
-ghost use Rattle.std.specs.Prelude.{◌≡◌, ◌<◌, ◌≤◌, [], length, replicate, false, Ok, IfOk, OnOk, IfErr, slice_get, slice_index_or};
+ghost use Rattle.std.specs.Prelude.{◌≡◌, ◌<◌, ◌≤◌, [], length, replicate, false, is_some, Ok, IfOk, OnOk, IfErr, slice_get, slice_index_or};
 ghost use Rattle.reg_process.specs.Parts.{state_of, first_parts};
 ghost use Rattle.reg_process.specs.Sending.{puts_of};
 ghost use Rattle.reg_frames.specs.declared.puts.Put.{Put};
@@ -16,8 +16,17 @@ use reg_base::Shape;
 use reg_frames::Frame;
 use reg_front::FrontEnd;
 use reg_process::{Brief, Effect, Process, ProcessFault, Step};
-use std::alloc::{AllocError, Allocator};
+use std::alloc::{AllocError, Allocator, Global};
 use std::marker::Model;
+
+/// What a step did, but for its frames, which were put on their wires.
+#[derive(Drop)]
+pub(crate) struct StepEffect<A: Allocator + Copy = Global> {
+    /// What goes out of it.
+    pub(crate) effect: Effect<A>,
+    /// Whether the process runs an operation after it.
+    pub(crate) runs: bool,
+}
 
 /// One process, and all frames that it ever put for each process.
 #[derive(Drop)]
@@ -74,7 +83,22 @@ impl<F: FrontEnd, A: Allocator + Copy, W: WireStore<A>> Member<F, A, W> {
     /// refused; nothing is claimed of the member then.
     // (in line: it runs at each event, and what a call hands back would be copied once more)
     #[inline(always)]
-    pub(crate) fn act(&mut self, step: &Step) -> Result<Effect<A>, AllocError>
+    pub(crate) fn act(&mut self, step: &Step) -> Result<StepEffect<A>, AllocError>
+        requires { MayAct F.start self.old step.now }
+        ensures made { IfOk result (λ o. Acts F.start self.old step.now o.effect.cast o.effect.delivered.items o.effect.reply self.new) }
+        ensures runs { IfOk result (λ o. o.runs ≡ is_some self.new.state.running) }
+    {
+        let effect = self.make(step)?;
+        Ok(StepEffect {
+            effect,
+            runs: self.process.busy(),
+        })
+    }
+
+    /// Makes a step, and hands over what goes out of it but for its frames, which are put on their wires.
+    // (in line: it runs at each event, and what a call hands back would be copied once more)
+    #[inline(always)]
+    fn make(&mut self, step: &Step) -> Result<Effect<A>, AllocError>
         requires { MayAct F.start self.old step.now }
         ensures { IfOk result (λ o. Acts F.start self.old step.now o.cast o.delivered.items o.reply self.new) }
     {

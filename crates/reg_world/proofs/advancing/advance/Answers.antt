@@ -1,6 +1,3 @@
-use Rattle.std.proofs.Common.{◌∙◌, ap}
-use Rattle.std.specs.Option.{is_some}
-use Rattle.reg_process.specs.Process.{State}
 use Rattle.reg_world.proofs.code.Stepping.{act_ok, enter_ok, advances}
 use Rattle.reg_world.proofs.advancing.advance.Goals as goal
 
@@ -10,8 +7,8 @@ act-requires g c =
 
 pub enter-requires : goal.enter-requires
 enter-requires g c =
-    enter_ok g.F.FrontEnd.start g.met.F.FrontEnd.lawful c.args.book.now c.args.members.now.items c.requires.world c.args.event c.args.process c.args.step.now c.requires.moves c.from.result c.index_mut-member.result.now c.act.new.self c.in_ok-effect.effect.cast c.in_ok-effect.effect.delivered.items c.in_ok-effect.effect.reply c.busy-runs.result c.from.ensures c.index_mut-member.ensures.value c.in_ok-effect.ensures (c.busy-runs.ensures ∙ ap (λ (s : State). is_some s.running) c.process.ensures.state)
+    enter_ok g.F.FrontEnd.start g.met.F.FrontEnd.lawful c.args.book.now c.args.members.now.items c.requires.world c.args.event c.args.process c.args.step.now c.requires.moves c.from.result c.index_mut-member.result.now c.act.new.self c.in_ok-made.made.effect.cast c.in_ok-made.made.effect.delivered.items c.in_ok-made.made.effect.reply c.in_ok-made.made.runs c.from.ensures c.index_mut-member.ensures.value c.in_ok-made.ensures.made c.in_ok-made.ensures.runs
 
 pub returns-clause-made : goal.returns-clause-made
 returns-clause-made g c =
-    advances g.F.FrontEnd.start g.met.F.FrontEnd.lawful c.args.book.now c.args.members.now.items c.requires.world c.args.event c.args.process c.args.step.now c.requires.moves c.from.result c.index_mut-member.result.now c.act.new.self c.in_ok-effect.effect.cast c.in_ok-effect.effect.delivered.items c.in_ok-effect.effect.reply c.busy-runs.result c.from.ensures c.index_mut-member.ensures.value c.in_ok-effect.ensures (c.busy-runs.ensures ∙ ap (λ (s : State). is_some s.running) c.process.ensures.state) c.enter.new.self c.in_ok-enter.ensures
+    advances g.F.FrontEnd.start g.met.F.FrontEnd.lawful c.args.book.now c.args.members.now.items c.requires.world c.args.event c.args.process c.args.step.now c.requires.moves c.from.result c.index_mut-member.result.now c.act.new.self c.in_ok-made.made.effect.cast c.in_ok-made.made.effect.delivered.items c.in_ok-made.made.effect.reply c.in_ok-made.made.runs c.from.ensures c.index_mut-member.ensures.value c.in_ok-made.ensures.made c.in_ok-made.ensures.runs c.enter.new.self c.in_ok-enter.ensures

@@ -6,7 +6,7 @@ use Rattle.std.specs.Prelude.{IfOk, MatchResult}
 use Rattle.reg_process.specs.declared.steps.Step.{Step}
 use Rattle.reg_process.specs.declared.steps.Step.TheVariants.{Call, Take}
 use Rattle.reg_world.proofs.code.Briefly.{brief_is, only_memory, frames_within, acted}
-use Rattle.reg_world.proofs.members.Member.act.Goals as goal
+use Rattle.reg_world.proofs.members.Member.make.Goals as goal
 
 pub allocated-requires : goal.allocated-requires
 allocated-requires g c =
