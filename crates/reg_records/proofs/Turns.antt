@@ -14,7 +14,7 @@ use Rattle.reg_world.specs.declared.faults.WorldFault.TheVariants.{Failed, TooMa
 use Rattle.reg_world.specs.Worlds.{Made, run_in, reply_in, refusal, Accepts, Refuses}
 use Rattle.reg_records.specs.declared.entries.LogEntry.{LogEntry}
 use Rattle.reg_records.specs.Records.{Plays, FailsAt, NothingLeft, entry_of, mentions}
-use Rattle.reg_records.specs.Playing.{IsEventOf, Moves, IsMade, IsTurn, AreTallied}
+use Rattle.reg_records.specs.Playing.{IsEventOf, Moves, IsMade, IsTurn, AreTallied, StandsForNone}
 use Rattle.reg_records.proofs.Steps.{moves, no_move, same_reply}
 use Rattle.reg_records.proofs.Alike.{no_turn}
 
@@ -69,6 +69,10 @@ module _ (start : Op → ℕ → Start) (order : List ℕ) (logs : List (List Lo
           let same : t.entry ≡ entry = same_Some t.entry entry (sym t.stands ∙ (ap (λ (q : ℕ). entry_of logs q (mentions q (take place order))) process ∙ stands)) in
           let move : Moves start w p entry.step t.event = t.move ∙ (ap (λ (q : ℕ). Some (q, t.entry.step)) process ∙ ap (λ (x : LogEntry). Some (p, x.step)) same) in
           none t.event (record { move = move; reply = t.reply ∙ ap (λ (x : LogEntry). x.reply) same })
+
+  -- a mention that stands for no entry isn't played
+  pub none_turns : (new : Made) → StandsForNone order logs place → IsTurn start order logs place w false new
+  none_turns new none next t = none t.process t.entry (t.mention, t.stands)
 
 -- the first place that can't be played
 pub fails_in : (start : Op → ℕ → Start) (shape : Extent) (order : List ℕ) (logs : List (List LogEntry)) (place : ℕ) (u new : Made) → place < length order → Plays start shape order logs place u → IsTurn start order logs place u false new → FailsAt start shape order logs place

@@ -12,7 +12,7 @@ use Rattle.reg_world.specs.Nodes.{Nodes}
 use Rattle.reg_world.specs.World.{move_of}
 use Rattle.reg_world.specs.Worlds.{Made, run_in, with_event, reply_in}
 use Rattle.reg_records.specs.declared.entries.LogEntry.{LogEntry}
-use Rattle.reg_records.specs.Records.{Turn, mentions}
+use Rattle.reg_records.specs.Records.{Turn, entry_of, mentions}
 
 -- two processes of the world, between which there is a wire
 abbrev pub AreTwo : Made → ℕ → ℕ → Type 0
@@ -54,3 +54,11 @@ IsTurn start order logs place old false new = (w : Made) → Turn start order lo
 -- how often each process is mentioned before a place
 abbrev pub AreTallied : List ℕ → List ℕ → ℕ → Type 0
 AreTallied counts order place = (p : ℕ) → p < length counts → slice_index counts p ≡ mentions p (take place order)
+
+-- the mention at a place is of this process, and stands for this entry of its log
+abbrev pub StandsFor : List ℕ → List (List LogEntry) → ℕ → ℕ → LogEntry → Type 0
+StandsFor order logs place p entry = IsAt order place p × (entry_of logs p (mentions p (take place order)) ≡ Some entry)
+
+-- the mention at a place stands for no entry
+abbrev pub StandsForNone : List ℕ → List (List LogEntry) → ℕ → Type 0
+StandsForNone order logs place = (p : ℕ) (entry : LogEntry) → StandsFor order logs place p entry → ⊥

@@ -83,10 +83,10 @@ fn hinted_take<F: FrontEnd, A: Allocator + Copy, W: WireStore<A>>(
     requires { world.now.failed ≡ false }
     ensures { IfOk result (λ found. MatchOption found ⊤ (λ event. IsEventOf (run_in F.start world.now).nodes to (Take from frame.now) event)) }
 {
-    let Some(count) = count_on(world, from, to) else {
+    if count_on(world, from, to).is_none() {
         return Ok(None);
-    };
-    let Some(number) = hints.guess(world, from, to, count, frame)? else {
+    }
+    let Some(number) = hints.guess(world, from, to, frame)? else {
         return Ok(None);
     };
     if stands_at(world, from, to, number, frame) {

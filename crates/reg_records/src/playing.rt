@@ -1,8 +1,8 @@
 //! A record played as a run.
-ghost use Rattle.std.specs.Prelude.{◌≡◌, ◌<◌, ◌+◌, length, map, false, true, MatchResult, IfOk, IsTrue, ◌↔◌};
+ghost use Rattle.std.specs.Prelude.{◌≡◌, ◌<◌, ◌+◌, length, map, false, true, MatchOption, MatchResult, IfOk, IsTrue, ◌↔◌};
 ghost use Rattle.reg_records.specs.Records.{IsFaithful};
 ghost use Rattle.reg_world.specs.Worlds.{run_in};
-ghost use Rattle.reg_records.specs.Playing.{AreTallied, IsEventOf, IsMade, IsTurn};
+ghost use Rattle.reg_records.specs.Playing.{AreTallied, IsEventOf, IsMade, StandsFor, StandsForNone};
 ghost use Rattle.reg_records.specs.Receipts.{IsPlayFault};
 
 use crate::entries::LogEntry;
@@ -71,32 +71,26 @@ fn make<F: FrontEnd, A: Allocator + Copy, W: WireStore<A>>(
     make_event(world, &event, process, entry)
 }
 
-/// Plays one more mention, and tells whether it stands for an entry that comes next in a run. Where it doesn't, nothing
-/// is claimed of the world.
-fn turn<F: FrontEnd, A: Allocator + Copy, W: WireStore<A>>(
-    world: &mut World<F, A, W>,
-    hints: &mut Hints<A>,
+/// The process that this place of the order mentions, and the entry of its log that the mention stands for. None where
+/// its log has no such entry.
+fn next_entry<A: Allocator + Copy>(
     counts: &[usize],
     order: &[u8],
     place: usize,
     logs: &[Vec<LogEntry, A>],
-) -> Result<bool, AllocError>
-    requires going { world.old.failed ≡ false }
+) -> Option<(u8, LogEntry)>
     requires within { place < length order.now }
     requires tallied { AreTallied counts.now order.now place }
     requires len { length counts.now ≡ length logs.now }
-    ensures { IfOk result (λ made. IsTurn F.start order.now (map (λ v. v.items) logs.now) place world.old made world.new) }
+    ensures { MatchOption result (StandsForNone order.now (map (λ v. v.items) logs.now) place) (λ next. StandsFor order.now (map (λ v. v.items) logs.now) place next.0 next.1) }
 {
     let by = order[place];
     let process = usize::from(by);
     if process >= counts.len() {
-        return Ok(false);
+        return None;
     }
-    let Some(entry) = entry_at(logs, process, counts[process]) else {
-        return Ok(false);
-    };
-    let made = make(world, hints, by, &entry)?;
-    Ok(made)
+    let entry = entry_at(logs, process, counts[process])?;
+    Some((by, entry))
 }
 
 fn unfaithful(place: usize) -> CloseFault
@@ -133,7 +127,10 @@ pub fn play<F: FrontEnd, A: Allocator + Copy, W: WireStore<A>>(
         return Err(CloseFault::OutOfMemory);
     };
     for place in 0..order.len() {
-        match turn(&mut world, &mut hints, &counts, order, place, logs) {
+        let Some((process, entry)) = next_entry(&counts, order, place, logs) else {
+            return Err(unfaithful(place));
+        };
+        match make(&mut world, &mut hints, process, &entry) {
             Ok(true) => bump(&mut counts, order, place),
             Ok(false) => return Err(unfaithful(place)),
             Err(_) => return Err(CloseFault::OutOfMemory),

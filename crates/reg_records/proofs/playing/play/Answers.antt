@@ -1,10 +1,10 @@
-use Rattle.std.proofs.Common.{arith, ◌≡◌, ap, sym, subst, List, length, map, ℕ, add-one, refl, ◌∙◌}
+use Rattle.std.proofs.Common.{arith, true, false, ◌≡◌, ap, sym, subst, List, length, map, ℕ, add-one, refl, ◌∙◌}
 use Rattle.reg_world.specs.Worlds.{Made}
 use Rattle.reg_records.specs.Records.{Plays}
 use Rattle.reg_records.specs.Playing.{AreTallied}
 use Rattle.reg_records.specs.Receipts.{IsPlayFault}
 use Rattle.reg_records.specs.declared.faults.CloseFault.{CloseFault}
-use Rattle.reg_records.proofs.Turns.{fails_in, fails_behind}
+use Rattle.reg_records.proofs.Turns.{turns, none_turns, fails_in, fails_behind}
 use Rattle.reg_records.proofs.playing.play.Goals as goal
 
 pub loop-place-init : goal.loop-place-init
@@ -15,20 +15,30 @@ loop-place-init g c = record {
   len = c.in-Ok-no_counts.ensures.len;
 }
 
-pub turn-requires-clause-tallied : goal.turn-requires-clause-tallied
-turn-requires-clause-tallied g c = subst (λ (counts : List ℕ). AreTallied counts c.args.order.now c.loop-place.place) (sym c.deref.ensures.value) c.loop-place.invariant.tallied
+pub next_entry-requires-clause-tallied : goal.next_entry-requires-clause-tallied
+next_entry-requires-clause-tallied g c = subst (λ (counts : List ℕ). AreTallied counts c.args.order.now c.loop-place.place) (sym c.deref.ensures.value) c.loop-place.invariant.tallied
+
+pub returns-in_default-next_entry : goal.returns-in_default-next_entry
+returns-in_default-next_entry g c =
+    subst (λ (f : CloseFault). IsPlayFault g.F.FrontEnd.start c.args.shape c.args.order.now (map (λ v. v.items) c.args.logs.now) f) (sym c.unfaithful.ensures)
+    (fails_in g.F.FrontEnd.start c.args.shape c.args.order.now (map (λ v. v.items) c.args.logs.now) c.loop-place.place c.loop-place.world c.loop-place.world c.loop-place-test.true c.loop-place.invariant.plays
+    (none_turns g.F.FrontEnd.start c.args.order.now (map (λ v. v.items) c.args.logs.now) c.loop-place.place c.loop-place.world c.loop-place.world c.in_default-next_entry.ensures))
 
 pub returns-in-Ok-false : goal.returns-in-Ok-false
 returns-in-Ok-false g c =
-    subst (λ (f : CloseFault). IsPlayFault g.F.FrontEnd.start c.args.shape c.args.order.now (map (λ v. v.items) c.args.logs.now) f) (sym c.unfaithful.ensures)
-    (fails_in g.F.FrontEnd.start c.args.shape c.args.order.now (map (λ v. v.items) c.args.logs.now) c.loop-place.place c.loop-place.world c.turn.new.world c.loop-place-test.true c.loop-place.invariant.plays (rw c.in-Ok-false.field-0-test at c.in-Ok-false.ensures))
+    let off = rw c.in-Ok-false.field-0-test at c.in-Ok-false.ensures in
+    subst (λ (f : CloseFault). IsPlayFault g.F.FrontEnd.start c.args.shape c.args.order.now (map (λ v. v.items) c.args.logs.now) f) (sym c.unfaithful-in-Ok-false.ensures)
+    (fails_in g.F.FrontEnd.start c.args.shape c.args.order.now (map (λ v. v.items) c.args.logs.now) c.loop-place.place c.loop-place.world c.make.new.world c.loop-place-test.true c.loop-place.invariant.plays
+    (turns g.F.FrontEnd.start c.args.order.now (map (λ v. v.items) c.args.logs.now) c.loop-place.place c.loop-place.world c.in-Some.process c.in-Some.entry c.make.new.world false c.in-Some.ensures.0 c.in-Some.ensures.1 off))
 
 pub loop-place-preserved : goal.loop-place-preserved
 loop-place-preserved g c =
-    let turn = rw c.in-Ok-true.field-0-test at c.in-Ok-true.ensures in
+    let made = rw c.in-Ok-true.field-0-test at c.in-Ok-true.ensures in
+    let turn = turns g.F.FrontEnd.start c.args.order.now (map (λ v. v.items) c.args.logs.now) c.loop-place.place c.loop-place.world c.in-Some.process c.in-Some.entry c.make.new.world true c.in-Some.ensures.0 c.in-Some.ensures.1 made in
+    let failed : c.make.new.world.failed ≡ c.loop-place.world.failed = ap (λ (w : Made). w.failed) turn.then in
     record {
       plays = rw add-one (c.loop-place.world, c.loop-place.invariant.plays, turn);
-      going = ap (λ (w : Made). w.failed) turn.then ∙ c.loop-place.invariant.going;
+      going = failed ∙ c.loop-place.invariant.going;
       tallied = c.bump.ensures.tallied;
       len = c.bump.ensures.len ∙ c.loop-place.invariant.len;
     }
