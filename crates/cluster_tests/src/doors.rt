@@ -11,9 +11,7 @@ use reg_history::{
 };
 use reg_holdback::Holdback;
 use reg_links::{Inbox, Outbox};
-use reg_live::{
-    LiveFault, LogEntry, NoGate, Parts, Pass, Receipt, Reply, Step, close, set_up, verify,
-};
+use reg_live::{LiveFault, LogEntry, NoGate, Pass, Receipt, Reply, Step, close, set_up, verify};
 use reg_process::{Process, ProcessFault};
 use reg_workload::{
     Key, Schedule, ScheduleFault, SeedWords, Why, Words, Workload, WorkloadFault, parse_schedule,
@@ -358,14 +356,9 @@ fn performs_the_write(rt: &impl Wait, passes: &mut [Pass<Linear, NoGate>]) -> bo
 #[test]
 fn clusters(rt: HostRuntime) {
     let made = set_up::<Linear, NoGate>(&rt, rt.alloc(), shape(&rt, 1), NoGate);
-    let Parts {
-        cluster,
-        mut passes,
-        couriers,
-        pacer,
-    } = made.expect(&rt, "a cluster");
-    let is_performed = performs_the_write(&rt, passes.as_mut_slice());
-    let is_closed = close(&rt, rt.alloc(), cluster, passes, couriers, pacer).is_ok();
+    let mut parts = made.expect(&rt, "a cluster");
+    let is_performed = performs_the_write(&rt, parts.passes.as_mut_slice());
+    let is_closed = close(&rt, rt.alloc(), parts).is_ok();
     assert!(rt; is_performed && is_closed);
 }
 

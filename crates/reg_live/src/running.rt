@@ -105,12 +105,18 @@ impl<F: FrontEnd, G: Gate + Drop> Running<F, G> {
         let halted = halt(rt, &cluster);
         halted.join_all(rt, couriers);
         let pacer = halted.join(rt, pacer);
-        close_in(rt, alloc, cluster, passes, Vec::new(alloc), pacer)
+        let parts = Parts {
+            cluster,
+            passes,
+            couriers: Vec::new(alloc),
+            pacer,
+        };
+        close_in(rt, alloc, parts)
     }
 }
 
-/// Starts the threads of a cluster, the pacer's first. Where one can't be made, those that were are stopped, and have
-/// ended.
+/// Starts the threads of a cluster, the pacer's first, and hands on its passes. Where one can't be made, those that were
+/// are stopped, and have ended.
 fn run_parts<
     F: FrontEnd + Send + Sync + 'static,
     G: Gate + Drop + Send + Sync + 'static,
@@ -119,13 +125,18 @@ fn run_parts<
 >(
     rt: R,
     alloc: Global,
-    cluster: Cluster<F, G>,
-    couriers: Vec<Courier<F, G>>,
-    pacer: Pacer<F, G>,
+    parts: Parts<F, G>,
     road: &Arc<P>,
-) -> Result<Running<F, G>, StartFault>
-    ensures { IfOk result (λ running. running ≡ cluster) }
+) -> Result<(Running<F, G>, Vec<Pass<F, G>>), StartFault>
+    ensures cluster { IfOk result (λ started. started.0 ≡ parts.cluster) }
+    ensures passes { IfOk result (λ started. started.1 ≡ parts.passes) }
 {
+    let Parts {
+        cluster,
+        passes,
+        couriers,
+        pacer,
+    } = parts;
     let mut crew = Crew {
         couriers: Vec::new(alloc),
         pacer: pace(rt, pacer)?,
@@ -135,11 +146,12 @@ fn run_parts<
         return Err(StartFault::OutOfMemory);
     }
     let Crew { couriers, pacer } = crew;
-    Ok(Running {
+    let running = Running {
         cluster,
         couriers,
         pacer,
-    })
+    };
+    Ok((running, passes))
 }
 
 /// Sets up a cluster, and starts a thread for each courier, all over one road, and one for the pacer. The passes are
@@ -166,12 +178,5 @@ pub fn start<
     let Ok(parts) = set_up::<F, G>(&rt, alloc, shape, gate) else {
         return Err(StartFault::OutOfMemory);
     };
-    let Parts {
-        cluster,
-        passes,
-        couriers,
-        pacer,
-    } = parts;
-    let running = run_parts(rt, alloc, cluster, couriers, pacer, &road)?;
-    Ok((running, passes))
+    run_parts(rt, alloc, parts, &road)
 }

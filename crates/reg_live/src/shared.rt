@@ -4,7 +4,7 @@ ghost use Rattle.reg_live.specs.Stations.{IsRefusal};
 
 use crate::faults::LiveFault;
 use crate::gates::Gate;
-use crate::journals::Journal;
+use crate::journals::{GatedJournal, Journal};
 use crate::stations::{Request, Section, Station};
 use reg_base::Shape;
 use reg_front::FrontEnd;
@@ -22,8 +22,7 @@ pub(crate) struct Desk<F: FrontEnd> {
 #[derive(Drop)]
 pub(crate) struct Shared<F: FrontEnd, G> {
     pub(crate) desks: Vec<Desk<F>>,
-    pub(crate) journal: Mutex<Journal>,
-    gate: G,
+    pub(crate) gated: GatedJournal<G>,
     pub(crate) shape: Shape,
     ghost one_each: { vec_len desks ≡ shape.processes },
 }
@@ -51,10 +50,13 @@ pub(crate) fn new_shared<F: FrontEnd, G: Drop>(
     ensures { IfOk result (λ s. s.shape ≡ shape) }
 {
     let desks = new_desks(alloc, shape)?;
+    let gated = GatedJournal {
+        gate,
+        journal: Mutex::new(Journal::new(alloc)),
+    };
     Ok(Shared {
         desks,
-        journal: Mutex::new(Journal::new(alloc)),
-        gate,
+        gated,
         shape,
     })
 }
@@ -94,7 +96,7 @@ impl<F: FrontEnd, G: Gate> Shared<F, G> {
     {
         let mut station = station;
         let registers = self.shape.registers();
-        let made = station.section(rt, &self.journal, &self.gate, registers, request);
+        let made = station.section(rt, &self.gated, registers, request);
         let ends = station.ends_waiting();
         drop(station);
         if is_answered(&made) {

@@ -1,8 +1,8 @@
 //! Clusters closed with passes that aren't theirs, one for each process.
-use crate::live::crews::{answered, close_parts, last_of, parts_of, put_back};
+use crate::live::crews::{answered, last_of, parts_of, put_back};
 use crate::values::write;
 use reg_front::LocalWrite;
-use reg_live::{CloseFault, NoGate, Pass};
+use reg_live::{CloseFault, NoGate, Pass, close};
 use std::alloc::Global;
 use std::process::Abort;
 use std::sync::Wait;
@@ -36,7 +36,7 @@ fn fault_of(rt: &(impl Wait + Abort), alloc: Global, row: &Row) -> Option<CloseF
     for other in others {
         put_back(rt, &mut parts.passes, foreign(rt, alloc, *other, busy));
     }
-    close_parts(rt, alloc, parts).err()
+    close(rt, alloc, parts).err()
 }
 
 /// Demands the fault of each row.

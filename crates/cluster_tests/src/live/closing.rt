@@ -1,11 +1,9 @@
 //! A cluster that is closed while a station makes a section.
-use crate::live::crews::{
-    LONG, answered, call_back, close_parts, join_all, parts_of, pass_of, send_off, wait,
-};
+use crate::live::crews::{LONG, answered, call_back, join_all, parts_of, pass_of, send_off, wait};
 use crate::live::holds::{Hold, release_later};
 use crate::values::write;
 use reg_front::LocalWrite;
-use reg_live::{Gate, Parcel, Parts, Posts, Road};
+use reg_live::{Gate, Parcel, Parts, Posts, Road, close};
 use std::alloc::Global;
 use std::process::Abort;
 use std::sync::atomic::{AtomicBool, Ordering};
@@ -41,7 +39,7 @@ impl Road for Telling {
 
 /// How many events the closed cluster has.
 fn events_of(rt: &impl Wait, alloc: Global, parts: Parts<LocalWrite, Holding>) -> Option<u32> {
-    match close_parts(rt, alloc, parts) {
+    match close(rt, alloc, parts) {
         Ok(closed) => Some(closed.world.events()),
         Err(_) => None,
     }

@@ -4,8 +4,7 @@ use crate::values::{read, write};
 use reg_base::{Answer, Op, Shape};
 use reg_front::FrontEnd;
 use reg_live::{
-    CloseFault, Closed, Cluster, Courier, Gate, LiveFault, Pacer, Parts, Pass, Receipt, Road,
-    close, set_up,
+    Closed, Cluster, Courier, Gate, LiveFault, Pacer, Parts, Pass, Receipt, Road, close, set_up,
 };
 use std::alloc::Global;
 use std::process::Abort;
@@ -309,26 +308,11 @@ pub fn end<
     shut(rt, alloc, parts)
 }
 
-/// Closes a cluster none of whose threads runs.
-pub fn close_parts<F: FrontEnd, G: Gate + Drop>(
-    rt: &impl Wait,
-    alloc: Global,
-    parts: Parts<F, G>,
-) -> Result<Closed<F>, CloseFault> {
-    let Parts {
-        cluster,
-        passes,
-        couriers,
-        pacer,
-    } = parts;
-    close(rt, alloc, cluster, passes, couriers, pacer)
-}
-
 /// Closes a cluster none of whose threads runs, and whose record is to be faithful.
 pub fn shut<F: FrontEnd, G: Gate + Drop>(
     rt: &(impl Wait + Abort),
     alloc: Global,
     parts: Parts<F, G>,
 ) -> Closed<F> {
-    close_parts(rt, alloc, parts).expect(rt, "a faithful record")
+    close(rt, alloc, parts).expect(rt, "a faithful record")
 }

@@ -1,7 +1,7 @@
 //! Stations that stop, and frames that were changed on their way.
 use crate::live::crews::{
-    LONG, call_back, close_parts, end, last_of, parts_of, pass_of, perform_apart, put_back,
-    send_off, shut, size_of, start, told, told_apart, wait,
+    LONG, call_back, end, last_of, parts_of, pass_of, perform_apart, put_back, send_off, shut,
+    size_of, start, told, told_apart, wait,
 };
 use crate::live::watches::Watch;
 use crate::values::{read, write};
@@ -10,7 +10,7 @@ use reg_base::{Op, OpId};
 use reg_frames::{Body, Frame, decode, encode};
 use reg_front::{Linear, LocalWrite};
 use reg_live::{
-    CloseFault, Closed, Gate, LiveFault, NoGate, Parcel, Parts, Pass, Posts, Receipt, Road,
+    CloseFault, Closed, Gate, LiveFault, NoGate, Parcel, Parts, Pass, Posts, Receipt, Road, close,
 };
 use std::alloc::Global;
 use std::process::Abort;
@@ -176,7 +176,7 @@ fn fault_of_change<R: Threads + Wait + Clock + Abort + Copy + Send + Sync + 'sta
     if less {
         drop(last_of(&rt, &mut parts.passes));
     }
-    let fault = close_parts(&rt, alloc, parts).err();
+    let fault = close(&rt, alloc, parts).err();
     watch.end(&rt);
     assert!(rt; written && stopped);
     fault
