@@ -1,5 +1,5 @@
 -- What is known to come before each operation of a history, as it grows.
-use Rattle.std.proofs.Common.{◌≡◌, ◌≢◌, inl, inr, ℕ, zero, suc, ◌+◌, ◌<◌, ◌≤◌, Bool, true, false, cond, List, [], ◌∷◌, ◌++◌, length, Option, Some, None, IfSome, MatchOption, option_and_then, replicate, slice_get, refl, ap, ap₂, sym, ◌∙◌, subst, arith}
+use Rattle.std.proofs.Common.{◌≡◌, ◌≢◌, inl, inr, ◌⊎◌, ℕ, zero, suc, ◌+◌, ◌*◌, ◌<◌, ◌≤◌, Bool, true, false, cond, List, [], ◌∷◌, ◌++◌, length, get_or, Option, Some, None, IfSome, IsSome, MatchOption, option_and_then, replicate, set, slice_get, Vec, refl, ap, ap₂, sym, ◌∙◌, subst, arith, rules}
 use Rattle.std.specs.Prelude.{◌==◌, ◌&&◌, slice_index}
 use Rattle.std.specs.BTreeMap.{Updates, get, is_at}
 use Rattle.std.specs.declared.cmp.Ordering.{Ordering}
@@ -7,7 +7,8 @@ use Rattle.std.specs.declared.cmp.Ordering.TheVariants.{Less, Equal, Greater}
 use Rattle.std.specs.Ordering.{is_eq, nat_cmp}
 use Rattle.std.proofs.lemmas.Bool.{cases_Bool, cases_eq, eq-eqb}
 use Rattle.std.proofs.lemmas.Map.Lookups.{exact_unsigned, exact_pairs}
-use Rattle.std.proofs.lemmas.Option.{get_or_from_slice_get, none-some, same_Some}
+use Rattle.std.proofs.lemmas.Nat.{same_from_place}
+use Rattle.std.proofs.lemmas.Option.{get_or_from_slice_get, none-some, same_Some, slice_get-get_or, slice_get_within}
 use Rattle.reg_base.specs.declared.memory.OpId.{OpId}
 use Rattle.reg_base.specs.declared.memory.Answer.{Answer}
 use Rattle.reg_base.specs.Memory.{Memory, after, answer_of, register_of}
@@ -18,10 +19,11 @@ use Rattle.reg_checkers.specs.declared.facts.Given.{Given}
 use Rattle.reg_checkers.specs.Facts.{IsFactOf}
 use Rattle.reg_checkers.specs.History.{IsAnswered, IsAt, IsFinished}
 use Rattle.reg_checkers.specs.Progress.{op_of}
-use Rattle.reg_checkers.proofs.Places.{same_at, within}
+use Rattle.reg_checkers.proofs.Places.{get_set_other, get_set_same, same_at, within}
+use Rattle.reg_outcomes.specs.declared.orders.before.Before.{Before}
 use Rattle.reg_outcomes.specs.declared.orders.sources.Maker.{Maker}
 use Rattle.reg_outcomes.specs.declared.orders.sources.Reader.{Reader}
-use Rattle.reg_outcomes.specs.Forced.{AreCalledTo, AreForced, AreMakers, AreNone, Comes, Counts, Covers, HasMaker, IsMaker, IsMakerCalled, IsOnlyMaker, IsReader, Makers, Overwrites}
+use Rattle.reg_outcomes.specs.Forced.{AreCalledTo, AreForced, AreMakers, AreNone, Comes, Counts, Covers, HasMaker, IsCount, IsMaker, IsMakerCalled, IsOnlyMaker, IsReader, Makers, Overwrites, count_at, word_at}
 use Rattle.reg_outcomes.specs.Losing.{IsAsker, value_cmp}
 use Rattle.reg_outcomes.specs.Sought.{Sought}
 use Rattle.reg_outcomes.proofs.Elements.{none_at_first}
@@ -43,8 +45,70 @@ pub none_pushed : {X : Type 0} (f : X → Option ℕ) (xs ys : List X) (x : X) (
     → (k : ℕ) → option_and_then f (slice_get ys p) ≡ Some k → k ≡ 0
 none_pushed {X = X} f xs ys x p is here all k read = none_more f xs x p here all k (subst (λ (l : List X). option_and_then f (slice_get l p) ≡ Some k) is read)
 
-pub none_forced : {A : Type 0} (s : Sought) (counts : Counts A) → AreNone counts → AreForced s counts
-none_forced s counts none id p m k is lt = let e : k ≡ 0 = none id p k is in absurd (omega (arith, e, lt))
+pub none_forced : {A : Type 0} (s : Sought) (before : Before A) → AreNone before.counts.items → AreForced s before
+none_forced s before none id p m k is lt = let e : k ≡ 0 = none id.process (id.number * before.processes + p) k is.1 in absurd (omega (arith, e, lt))
+
+pub is_count : {A : Type 0} (before : Before A) (id : OpId) (p place : ℕ) (o : Option ℕ) → p < before.processes → place ≡ id.number * before.processes + p → o ≡ count_at place id.process before.counts.items → IfSome o (IsCount before id p)
+is_count before id p place (Some k) lt at is = (lt, ap (λ n. count_at n id.process before.counts.items) (sym at) ∙ sym is)
+is_count before id p place None lt at is = tt
+
+-- where something is read, there is something
+some_within : {X : Type 0} (f : X → Option ℕ) (xs : List X) (k : ℕ) → IsSome (option_and_then f (slice_get xs k)) → k < length xs
+some_within f [] k h = search rules
+some_within f (x ∷ xs) zero h = omega arith
+some_within f (x ∷ xs) (suc k) h = omega (arith, some_within f xs k h)
+
+-- the row of a count that is there, and its place in it
+pub row_of_count : {A : Type 0} (rows : Counts A) (q at : ℕ) (row : Vec ℕ A) → row ≡ get_or rows q row → IsSome (count_at at q rows) → (slice_get rows q ≡ Some row) × (at < length row.items)
+row_of_count {A = A} rows q at row is some =
+    let there : slice_get rows q ≡ Some row = slice_get-get_or rows q row (some_within (word_at at) rows q some) ∙ ap Some (sym is) in
+    (there, some_within Some row.items at (and_some (slice_get row.items at) (subst (λ (o : Option (Vec ℕ A)). IsSome (option_and_then (word_at at) o)) there some)))
+  where
+    and_some : (o : Option ℕ) → IsSome o → IsSome (option_and_then Some o)
+    and_some (Some k) h = h
+    and_some None h = h
+
+-- one count replaced
+pub count_replaced : {A : Type 0} (rows : Counts A) (q : ℕ) (row new : Vec ℕ A) (at count : ℕ) → slice_get rows q ≡ Some row → new.items ≡ set row.items at count → at < length row.items → (place p k : ℕ)
+    → count_at place p (set rows q new) ≡ Some k → (count_at place p rows ≡ Some k) ⊎ ((place ≡ at) × (p ≡ q) × (k ≡ count))
+count_replaced rows q row new at count there is inside place p k read = elim (cases_eq p q) [
+  | inr other ↦ inl (ap (option_and_then (word_at place)) (sym (get_set_other rows q p new other)) ∙ read)
+  | inl same ↦
+      let now : slice_get (set rows q new) p ≡ Some new = ap (slice_get (set rows q new)) same ∙ get_set_same rows q new (slice_get_within rows q row there) in
+      let here : slice_get (set row.items at count) place ≡ Some k = ap (λ (l : List ℕ). slice_get l place) (sym is) ∙ (ap (option_and_then (word_at place)) (sym now) ∙ read) in
+      elim (cases_eq place at) [
+        | inr apart ↦ inl (ap (option_and_then (word_at place)) (ap (slice_get rows) same ∙ there) ∙ (sym (get_set_other row.items at place count apart) ∙ here))
+        | inl in_place ↦ inr (in_place, same, same_Some k count (sym here ∙ (ap (slice_get (set row.items at count)) in_place ∙ get_set_same row.items at count inside)))
+      ]
+]
+
+-- a count is one of those before, or the one that was replaced
+pub count_is_one_of : {A : Type 0} (old new : Before A) (id : OpId) (process count q at : ℕ) → new.processes ≡ old.processes → process < old.processes → q ≡ id.process → at ≡ id.number * old.processes + process
+    → ((place p k : ℕ) → count_at place p new.counts.items ≡ Some k → (count_at place p old.counts.items ≡ Some k) ⊎ ((place ≡ at) × (p ≡ q) × (k ≡ count))) → (x : OpId) (p k : ℕ) → IsCount new x p k
+    → IsCount old x p k ⊎ ((x ≡ id) × (p ≡ process) × (k ≡ count))
+count_is_one_of old new id process count q at same less own in_place replaced x p k (lt, is) =
+    let lt_old : p < old.processes = subst (λ (n : ℕ). p < n) same lt in
+    let is_old : count_at (x.number * old.processes + p) x.process new.counts.items ≡ Some k = subst (λ (n : ℕ). count_at (x.number * n + p) x.process new.counts.items ≡ Some k) same is in
+    elim (replaced (x.number * old.processes + p) x.process k is_old) [
+      | inl was ↦ inl (lt_old, was)
+      | inr (place, of, now) ↦
+          let both = same_from_place x.number p id.number process old.processes lt_old less (place ∙ in_place) in
+          inr (ap₂ op_of (of ∙ own) both.0, both.1, now)
+    ]
+
+pub same_counts : {A : Type 0} (old new : Before A) → new.processes ≡ old.processes → new.counts ≡ old.counts → (x : OpId) (p k : ℕ) → IsCount new x p k → IsCount old x p k
+same_counts {A = A} old new processes counts x p k (lt, is) = (
+  subst (λ (n : ℕ). p < n) processes lt,
+  subst (λ (n : ℕ). count_at (x.number * n + p) x.process old.counts.items ≡ Some k) processes (subst (λ (rows : Vec (Vec ℕ A) A). count_at (x.number * new.processes + p) x.process rows.items ≡ Some k) counts is),
+)
+
+-- a count that was raised tells what comes before, too
+pub raised_forced : {A : Type 0} (s : Sought) (old new : Before A) (id : OpId) (process count : ℕ) → ((x : OpId) (p k : ℕ) → IsCount new x p k → IsCount old x p k ⊎ ((x ≡ id) × (p ≡ process) × (k ≡ count)))
+    → AreForced s old → ((m : ℕ) → m < count → Comes s (op_of process m) id) → AreForced s new
+raised_forced s old new id process count one_of forced comes x p m k is lt = elim (one_of x p k is) [
+  | inl was ↦ forced x p m k was lt
+  | inr (same, own, now) ↦ subst (λ (q : ℕ). Comes s (op_of q m) x) (sym own) (subst (λ (y : OpId). Comes s (op_of process m) y) (sym same) (comes m (omega (arith, lt, now))))
+]
 
 -- an operation, and those of its process before it, come before what it comes before
 pub comes_with_own : (s : Sought) (a b : OpId) (n : ℕ) → IsFinished s.entries a → Comes s a b → n ≤ a.number + 1 → (m : ℕ) → m < n → Comes s (op_of a.process m) b

@@ -1,5 +1,5 @@
 -- What has to come before what in each serial order of a history. They carry a proof: no promise speaks of them.
-use Rattle.std.specs.Prelude.{ℕ, ◌≡◌, ◌≢◌, ◌<◌, List, length, slice_get, slice_index, Option, Some, option_and_then, Vec}
+use Rattle.std.specs.Prelude.{ℕ, ◌≡◌, ◌≢◌, ◌<◌, ◌+◌, ◌*◌, List, length, slice_get, slice_index, Option, Some, option_and_then, Vec}
 use Rattle.std.specs.BTreeMap.{BTreeMap, get}
 use Rattle.reg_base.specs.declared.memory.Answer.{Answer}
 use Rattle.reg_base.specs.declared.memory.Op.{Op}
@@ -10,6 +10,7 @@ use Rattle.reg_checkers.specs.declared.entries.Entry.TheVariants.{Answered, Call
 use Rattle.reg_checkers.specs.History.{IsAnswered, IsAt, IsCalled}
 use Rattle.reg_checkers.specs.Orders.{IsSerial}
 use Rattle.reg_checkers.specs.Progress.{op_of}
+use Rattle.reg_outcomes.specs.declared.orders.before.Before.{Before}
 use Rattle.reg_outcomes.specs.declared.orders.sources.Maker.{Maker}
 use Rattle.reg_outcomes.specs.declared.orders.sources.Maker.TheVariants.{Only, Several}
 use Rattle.reg_outcomes.specs.declared.orders.sources.Reader.{Reader}
@@ -20,33 +21,35 @@ use Rattle.reg_outcomes.specs.Sought.{Sought}
 abbrev pub Comes : Sought → OpId → OpId → Type 0
 Comes s a b = (ids : List OpId) (i j : ℕ) → IsSerial s.shape.registers s.entries ids → IsAt ids i a → IsAt ids j b → i < j
 
--- by process, by an earlier process, and by number: how many first operations of the earlier process come before
+-- by process: of each of its operations in turn, and of each process, how many of its first operations come before
 abbrev pub Counts : Type 0 → Type 0
-Counts A = List (Vec (Vec ℕ A) A)
+Counts A = List (Vec ℕ A)
 
-abbrev pub column_at : {A : Type 0} → ℕ → Vec ℕ A → Option ℕ
-column_at n column = slice_get column.items n
+abbrev pub word_at : {A : Type 0} → ℕ → Vec ℕ A → Option ℕ
+word_at place row = slice_get row.items place
 
-abbrev pub row_at : {A : Type 0} → ℕ → ℕ → Vec (Vec ℕ A) A → Option ℕ
-row_at p n row = option_and_then (column_at n) (slice_get row.items p)
+-- the count at a place among those of a process
+abbrev pub count_at : {A : Type 0} → ℕ → ℕ → Counts A → Option ℕ
+count_at place process counts = option_and_then (word_at place) (slice_get counts process)
+
+-- the count of the process at the operation
+abbrev pub count_in : {A : Type 0} → Before A → OpId → ℕ → Option ℕ
+count_in before id p = count_at (id.number * before.processes + p) id.process before.counts.items
 
 -- how many first operations of the process come before the operation
-abbrev pub count_in : {A : Type 0} → Counts A → OpId → ℕ → Option ℕ
-count_in counts id p = option_and_then (row_at p id.number) (slice_get counts id.process)
+abbrev pub IsCount : {A : Type 0} → Before A → OpId → ℕ → ℕ → Type 0
+IsCount before id p k = (p < before.processes) × (count_in before id p ≡ Some k)
 
 -- nothing comes before any operation
-abbrev pub IsNoneColumn : {A : Type 0} → Vec ℕ A → Type 0
-IsNoneColumn column = (n k : ℕ) → column_at n column ≡ Some k → k ≡ 0
-
-abbrev pub IsNoneRow : {A : Type 0} → Vec (Vec ℕ A) A → Type 0
-IsNoneRow row = (p n k : ℕ) → row_at p n row ≡ Some k → k ≡ 0
+abbrev pub IsNoneRow : {A : Type 0} → Vec ℕ A → Type 0
+IsNoneRow row = (place k : ℕ) → word_at place row ≡ Some k → k ≡ 0
 
 abbrev pub AreNone : {A : Type 0} → Counts A → Type 0
-AreNone counts = (id : OpId) (p k : ℕ) → count_in counts id p ≡ Some k → k ≡ 0
+AreNone counts = (process place k : ℕ) → count_at place process counts ≡ Some k → k ≡ 0
 
 -- what is told to come before an operation does
-abbrev pub AreForced : {A : Type 0} → Sought → Counts A → Type 0
-AreForced s counts = (id : OpId) (p m k : ℕ) → count_in counts id p ≡ Some k → m < k → Comes s (op_of p m) id
+abbrev pub AreForced : {A : Type 0} → Sought → Before A → Type 0
+AreForced s before = (id : OpId) (p m k : ℕ) → IsCount before id p k → m < k → Comes s (op_of p m) id
 
 -- the operation may leave this value in this register
 abbrev pub IsMaker : List Entry → ℕ × ℕ → OpId → Type 0

@@ -20,9 +20,9 @@ pub record IsBlocked (s : Sought) (next : List ℕ) (id : OpId) : Type 0 where
 -- what the guide holds is so in the history
 pub record IsGuide {A : Type 0} (s : Sought) (guide : Guide A) : Type 0 where
   pub uses : AreUses s.entries guide.uses
-  pub before : IfSome guide.before (λ b. AreForced s b.counts.items)
+  pub before : IfSome guide.before (λ b. AreForced s b)
 
 -- what is known of the serial orders is so
 abbrev pub IsOutlook : {A : Type 0} → Sought → Outlook A → Type 0
 IsOutlook s Torn = (ids : List OpId) → ¬ IsSerial s.shape.registers s.entries ids
-IsOutlook s (Open before) = IfSome before (λ b. AreForced s b.counts.items)
+IsOutlook s (Open before) = IfSome before (λ b. AreForced s b)

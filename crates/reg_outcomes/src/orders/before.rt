@@ -1,62 +1,53 @@
 //! What has to come before each operation of a history.
-ghost use Rattle.std.specs.Prelude.{◌≡◌, ◌<◌, ◌⊎◌, ℕ, IfOk, IsSome, IsTrue, Some, option_and_then, slice_get};
+ghost use Rattle.std.specs.Prelude.{◌≡◌, ◌<◌, ◌+◌, ◌*◌, ◌⊎◌, ℕ, IfOk, IfSome, IsSome, IsTrue, slice_get};
 ghost use Rattle.reg_base.specs.declared.memory.OpId.{OpId as AnyId};
 ghost use Rattle.reg_checkers.specs.History.{IsFinished};
 ghost use Rattle.reg_checkers.specs.Progress.{op_of};
-ghost use Rattle.reg_outcomes.specs.Forced.{AreForced, AreNone, Comes, IsNoneColumn, IsNoneRow, column_at, count_in};
+ghost use Rattle.reg_outcomes.specs.Forced.{AreForced, AreNone, Comes, IsCount, IsNoneRow, count_at, count_in};
 ghost use Rattle.reg_outcomes.specs.Sought.{Sought as AnySought};
 
 use crate::orders::finder::Finder;
 use reg_base::OpId;
 use std::alloc::{AllocError, Allocator, Global};
 
-/// By process, by an earlier process, and by number: how many first operations of the earlier process come before the
-/// operation.
-pub(crate) type Counts<A> = Vec<Vec<Vec<u32, A>, A>, A>;
+/// By process: of each of its operations in turn, and of each process, how many first operations of that process come
+/// before the operation. So the counts of one operation stand side by side.
+pub(crate) type Counts<A> = Vec<Vec<u32, A>, A>;
 
 /// What has to come before each operation: of each process so many first ones.
 #[derive(Drop)]
 pub(crate) struct Before<A: Allocator + Copy = Global> {
+    /// How many processes there are: each operation has so many counts.
+    pub(crate) processes: u8,
     pub(crate) counts: Counts<A>,
+    /// Of each process, how many first operations hold all of which something is known. So the others need not be looked
+    /// at, which takes long where there are many.
+    noted: Vec<u32, A>,
 }
 
-/// A count of none for each operation of a process.
-fn column_of<A: Allocator + Copy>(alloc: A, calls: usize) -> Result<Vec<u32, A>, AllocError>
-    ensures { IfOk result IsNoneColumn }
+/// The place of an operation's count of a process, among the counts of the operations of its own process.
+fn place_of(processes: u8, number: u32, process: u8) -> usize
+    ensures { result ≡ number * processes + process }
 {
-    vec![in alloc; 0; calls]
+    number as usize * usize::from(processes) + usize::from(process)
 }
 
-/// The counts of none of a process.
+/// The counts of the operations of a process, each of none.
 fn row_of<A: Allocator + Copy>(
     alloc: A,
     processes: u8,
     calls: usize,
-) -> Result<Vec<Vec<u32, A>, A>, AllocError>
+) -> Result<Vec<u32, A>, AllocError>
     ensures { IfOk result IsNoneRow }
 {
-    let mut row = Vec::new(alloc);
-    for _earlier in 0..processes {
-        row.push(column_of(alloc, calls)?)?;
-    }
-    Ok(row)
+    vec![in alloc; 0; calls.saturating_mul(usize::from(processes))]
 }
 
-/// The count of this number in a column, None where it has none.
-fn count_at(column: &[u32], number: u32) -> Option<u32>
-    ensures { result ≡ slice_get column.now number }
+/// The count at a place, None where there is none.
+fn word_at(row: &[u32], place: usize) -> Option<u32>
+    ensures { result ≡ slice_get row.now place }
 {
-    column.get(number as usize).copied()
-}
-
-/// The count of this process and number in a row, None where it has none.
-fn count_of<A: Allocator + Copy>(row: &[Vec<u32, A>], process: u8, number: u32) -> Option<u32>
-    ensures { result ≡ option_and_then (column_at number) (slice_get row.now process) }
-{
-    match row.get(usize::from(process)) {
-        Some(column) => count_at(column, number),
-        None => None,
-    }
+    row.get(place).copied()
 }
 
 impl<A: Allocator + Copy> Before<A> {
@@ -69,22 +60,37 @@ impl<A: Allocator + Copy> Before<A> {
         for process in 0..processes {
             counts.push(row_of(alloc, processes, finder.calls(process))?)?;
         }
-        Ok(Before { counts })
+        let noted = vec![in alloc; 0; usize::from(processes)]?;
+        Ok(Before {
+            processes,
+            counts,
+            noted,
+        })
     }
 
-    /// How many first operations of a process come before an operation.
-    fn count(&self, id: OpId, process: u8) -> Option<u32>
-        ensures { result ≡ count_in self.now.counts.items id process }
+    /// The count at a place among those of a process, None where there is none.
+    fn at(&self, process: u8, place: usize) -> Option<u32>
+        ensures { result ≡ count_at place process self.now.counts.items }
     {
-        match self.counts.get(usize::from(id.process)) {
-            Some(row) => count_of(row, process, id.number),
+        match self.counts.get(usize::from(process)) {
+            Some(row) => word_at(row, place),
             None => None,
         }
     }
 
+    /// How many first operations of a process come before an operation.
+    fn count(&self, id: OpId, process: u8) -> Option<u32>
+        ensures { IfSome result (IsCount self.now id process) }
+    {
+        if process >= self.processes {
+            return None;
+        }
+        self.at(id.process, place_of(self.processes, id.number, process))
+    }
+
     /// How many first operations of a process are known to come before an operation.
     pub(crate) fn known(&self, id: OpId, process: u8) -> u32
-        ensures { (s : AnySought) (m : ℕ) → AreForced s self.now.counts.items → m < result → Comes s (op_of process m) id }
+        ensures { (s : AnySought) (m : ℕ) → AreForced s self.now → m < result → Comes s (op_of process m) id }
     {
         match self.count(id, process) {
             Some(count) => count,
@@ -94,26 +100,47 @@ impl<A: Allocator + Copy> Before<A> {
 
     /// Whether an operation is known to come before another.
     pub(crate) fn has(&self, earlier: OpId, later: OpId) -> bool
-        ensures { (s : AnySought) → IsTrue result → AreForced s self.now.counts.items → Comes s earlier later }
+        ensures { (s : AnySought) → IsTrue result → AreForced s self.now → Comes s earlier later }
     {
         earlier.number < self.known(later, earlier.process)
     }
 
     /// Replaces a count.
     fn set(&mut self, id: OpId, process: u8, count: u32)
-        requires { IsSome (count_in self.old.counts.items id process) }
-        ensures { (x : AnyId) (p k : ℕ) → count_in self.new.counts.items x p ≡ Some k → (count_in self.old.counts.items x p ≡ Some k) ⊎ ((x ≡ id) × (p ≡ process) × (k ≡ count)) }
+        requires process { process < self.old.processes }
+        requires there { IsSome (count_in self.old id process) }
+        ensures { (x : AnyId) (p k : ℕ) → IsCount self.new x p k → IsCount self.old x p k ⊎ ((x ≡ id) × (p ≡ process) × (k ≡ count)) }
     {
-        self.counts[usize::from(id.process)][usize::from(process)][id.number as usize] = count;
+        let place = place_of(self.processes, id.number, process);
+        self.counts[usize::from(id.process)][place] = count;
+    }
+
+    /// Whether something may be known of an operation. If not, none is known to come before it.
+    pub(crate) fn is_noted(&self, id: OpId) -> bool {
+        match self.noted.get(usize::from(id.process)) {
+            Some(noted) => id.number < *noted,
+            None => false,
+        }
+    }
+
+    /// Notes that something is known of an operation.
+    fn note(&mut self, id: OpId)
+        ensures processes { self.new.processes ≡ self.old.processes }
+        ensures counts { self.new.counts ≡ self.old.counts }
+    {
+        if let Some(noted) = self.noted.get_mut(usize::from(id.process)) {
+            *noted = (*noted).max(id.number.saturating_add(1));
+        }
     }
 
     /// Notes that so many first operations of a process come before an operation. Whether that are more than before.
     pub(crate) fn raise(&mut self, id: OpId, process: u8, count: u32) -> bool
-        ensures { (s : AnySought) → AreForced s self.old.counts.items → ((m : ℕ) → m < count → Comes s (op_of process m) id) → AreForced s self.new.counts.items }
+        ensures { (s : AnySought) → AreForced s self.old → ((m : ℕ) → m < count → Comes s (op_of process m) id) → AreForced s self.new }
     {
         match self.count(id, process) {
             Some(known) if known < count => {
                 self.set(id, process, count);
+                self.note(id);
                 true
             }
             _ => false,
@@ -128,10 +155,10 @@ pub(crate) fn join<A: Allocator + Copy>(
     earlier: OpId,
     later: OpId,
 ) -> bool
-    requires forced { AreForced finder.now before.old.counts.items }
+    requires forced { AreForced finder.now before.old }
     requires finished { IsFinished finder.now.entries earlier }
     requires comes { Comes finder.now earlier later }
-    ensures { AreForced finder.now before.new.counts.items }
+    ensures { AreForced finder.now before.new }
 {
     let mut news = before.raise(later, earlier.process, earlier.number.saturating_add(1));
     let processes = finder.shape().processes() as u8;

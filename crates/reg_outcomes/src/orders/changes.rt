@@ -136,7 +136,8 @@ pub(crate) fn first_change(numbers: &[u32], process: u8) -> Option<OpId> {
 }
 
 /// The first of these operations of a process that comes after an operation. It comes behind those that come before the
-/// operation, and mostly soon: so it is looked for from there on, in steps that grow.
+/// operation, and mostly soon: so it is looked for from there on, in steps that grow. Of those of which nothing is known
+/// yet none is looked at.
 pub(crate) fn change_after<A: Allocator + Copy>(
     numbers: &[u32],
     before: &Before<A>,
@@ -148,13 +149,19 @@ pub(crate) fn change_after<A: Allocator + Copy>(
     let mut reach: usize = 0;
     while low < high {
         let middle = low + reach.min((high - low) / 2);
-        let number = numbers[middle];
-        if before.has(id, OpId { process, number }) {
+        let change = OpId {
+            process,
+            number: numbers[middle],
+        };
+        if !before.is_noted(change) || before.has(id, change) {
             high = middle;
         } else {
             low = middle + 1;
             reach = reach.saturating_mul(2).saturating_add(1);
         }
     }
-    change_at(numbers, process, low)
+    match change_at(numbers, process, low) {
+        Some(change) if before.is_noted(change) => Some(change),
+        _ => None,
+    }
 }

@@ -205,7 +205,7 @@ fn ids_found<A: Allocator + Copy>(
     before: Option<Before<A>>,
 ) -> Result<Option<Vec<OpId, A>>, InterleavingFault>
     requires history { IsHistory finder.now.shape.processes finder.now.shape.registers finder.now.entries }
-    requires before { IfSome before (λ b. AreForced finder.now b.counts.items) }
+    requires before { IfSome before (λ b. AreForced finder.now b) }
     ensures found { IfOk result (λ o. MatchOption o ((ids : List AnyId) → ¬ IsOrder finder.now.kind finder.now.shape.registers finder.now.entries ids) (λ v. IsOrder finder.now.kind finder.now.shape.registers finder.now.entries v.items)) }
     ensures refused { IfErr result (IsFindFault finder.now.kind finder.now.shape.processes finder.now.shape.registers finder.now.entries finder.now.limit) }
 {

@@ -68,8 +68,8 @@ pub(crate) fn put_source<A: Allocator + Copy>(
 ) -> bool
     requires history { IsHistory finder.now.shape.processes finder.now.shape.registers finder.now.entries }
     requires reader { IsReader finder.now.entries reader }
-    requires forced { AreForced finder.now before.old.counts.items }
-    ensures { AreForced finder.now before.new.counts.items }
+    requires forced { AreForced finder.now before.old }
+    ensures { AreForced finder.now before.new }
 {
     let Some(source) = source_of(reader) else {
         return false;
@@ -93,8 +93,8 @@ pub(crate) fn put_before_source<A: Allocator + Copy>(
 ) -> bool
     requires history { IsHistory finder.now.shape.processes finder.now.shape.registers finder.now.entries }
     requires reader { IsReader finder.now.entries reader }
-    requires forced { AreForced finder.now before.old.counts.items }
-    ensures { AreForced finder.now before.new.counts.items }
+    requires forced { AreForced finder.now before.old }
+    ensures { AreForced finder.now before.new }
 {
     let Some(source) = source_of(reader) else {
         return false;
@@ -116,7 +116,7 @@ pub(crate) fn put_before_source<A: Allocator + Copy>(
 
 /// Whether all these makers come before an operation.
 fn is_behind<A: Allocator + Copy>(before: &Before<A>, maker: Maker, other: OpId) -> bool
-    ensures { (s : AnySought) → IsTrue result → AreForced s before.now.counts.items → (x : AnyId) → Covers maker x → Comes s x other }
+    ensures { (s : AnySought) → IsTrue result → AreForced s before.now → (x : AnyId) → Covers maker x → Comes s x other }
 {
     match maker {
         Maker::Only(source) => before.has(source, other),
@@ -126,7 +126,7 @@ fn is_behind<A: Allocator + Copy>(before: &Before<A>, maker: Maker, other: OpId)
 
 /// Whether all that may leave what a reader finds comes before an operation.
 fn is_behind_source<A: Allocator + Copy>(before: &Before<A>, reader: Reader, other: OpId) -> bool
-    ensures { (s : AnySought) → IsTrue result → IsReader s.entries reader → AreForced s before.now.counts.items → (x : AnyId) → IsMaker s.entries reader.value x → Comes s x other }
+    ensures { (s : AnySought) → IsTrue result → IsReader s.entries reader → AreForced s before.now → (x : AnyId) → IsMaker s.entries reader.value x → Comes s x other }
 {
     match reader.source {
         Some(maker) => is_behind(before, maker, other),
@@ -144,8 +144,8 @@ pub(crate) fn put_behind_reader<A: Allocator + Copy>(
 ) -> bool
     requires history { IsHistory finder.now.shape.processes finder.now.shape.registers finder.now.entries }
     requires reader { IsReader finder.now.entries reader }
-    requires forced { AreForced finder.now before.old.counts.items }
-    ensures { AreForced finder.now before.new.counts.items }
+    requires forced { AreForced finder.now before.old }
+    ensures { AreForced finder.now before.new }
 {
     if other == reader.id {
         return false;
@@ -169,8 +169,8 @@ pub(crate) fn put_known<A: Allocator + Copy>(
     id: OpId,
     process: u8,
 ) -> bool
-    requires forced { AreForced finder.now before.old.counts.items }
-    ensures { AreForced finder.now before.new.counts.items }
+    requires forced { AreForced finder.now before.old }
+    ensures { AreForced finder.now before.new }
 {
     let last = OpId {
         process,

@@ -19,7 +19,7 @@ fn is_owed<A: Allocator + Copy>(
     earlier: OpId,
     later: OpId,
 ) -> bool
-    requires { AreForced finder.now before.now.counts.items }
+    requires { AreForced finder.now before.now }
     ensures finished { IsTrue result → IsFinished finder.now.entries earlier }
     ensures comes { IsTrue result → Comes finder.now earlier later }
 {
@@ -37,7 +37,7 @@ fn is_blocked<A: Allocator + Copy>(
     next: &[u32],
     id: OpId,
 ) -> bool
-    requires { AreForced finder.now before.now.counts.items }
+    requires { AreForced finder.now before.now }
     ensures { IsTrue result → IsBlocked finder.now next.now id }
 {
     let processes = finder.shape().processes() as u8;

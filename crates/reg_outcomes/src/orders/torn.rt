@@ -36,8 +36,8 @@ fn put_last_change<A: Allocator + Copy>(
 ) -> bool
     requires history { IsHistory finder.now.shape.processes finder.now.shape.registers finder.now.entries }
     requires reader { IsReader finder.now.entries reader }
-    requires forced { AreForced finder.now before.old.counts.items }
-    ensures { AreForced finder.now before.new.counts.items }
+    requires forced { AreForced finder.now before.old }
+    ensures { AreForced finder.now before.new }
 {
     let known = before.known(reader.id, process);
     match last_change(numbers, process, known) {
@@ -71,8 +71,8 @@ fn put_next_change<A: Allocator + Copy>(
 ) -> bool
     requires history { IsHistory finder.now.shape.processes finder.now.shape.registers finder.now.entries }
     requires reader { IsReader finder.now.entries reader }
-    requires forced { AreForced finder.now before.old.counts.items }
-    ensures { AreForced finder.now before.new.counts.items }
+    requires forced { AreForced finder.now before.old }
+    ensures { AreForced finder.now before.new }
 {
     match next_change(numbers, before, reader, process) {
         Some(other) => put_behind_reader(finder, before, reader, other),
@@ -90,8 +90,8 @@ fn put_reader<A: Allocator + Copy>(
 ) -> bool
     requires history { IsHistory finder.now.shape.processes finder.now.shape.registers finder.now.entries }
     requires makers { AreMakers finder.now.entries makers.now }
-    requires forced { AreForced finder.now before.old.counts.items }
-    ensures { AreForced finder.now before.new.counts.items }
+    requires forced { AreForced finder.now before.old }
+    ensures { AreForced finder.now before.new }
 {
     let Some(reader) = reader_of(finder, makers, id) else {
         return false;
@@ -122,8 +122,8 @@ fn put_all_known<A: Allocator + Copy>(
     before: &mut Before<A>,
     id: OpId,
 ) -> bool
-    requires { AreForced finder.now before.old.counts.items }
-    ensures { AreForced finder.now before.new.counts.items }
+    requires { AreForced finder.now before.old }
+    ensures { AreForced finder.now before.new }
 {
     let mut news = before.raise(id, id.process, id.number);
     let processes = finder.shape().processes() as u8;
@@ -145,8 +145,8 @@ fn put_entry<A: Allocator + Copy>(
 ) -> bool
     requires history { IsHistory finder.now.shape.processes finder.now.shape.registers finder.now.entries }
     requires makers { AreMakers finder.now.entries makers.now }
-    requires forced { AreForced finder.now before.old.counts.items }
-    ensures { AreForced finder.now before.new.counts.items }
+    requires forced { AreForced finder.now before.old }
+    ensures { AreForced finder.now before.new }
 {
     let Entry::Answered { id, .. } = entry else {
         return false;
@@ -164,8 +164,8 @@ fn go_over<A: Allocator + Copy>(
 ) -> bool
     requires history { IsHistory finder.now.shape.processes finder.now.shape.registers finder.now.entries }
     requires makers { AreMakers finder.now.entries makers.now }
-    requires forced { AreForced finder.now before.old.counts.items }
-    ensures { AreForced finder.now before.new.counts.items }
+    requires forced { AreForced finder.now before.old }
+    ensures { AreForced finder.now before.new }
 {
     let mut news = false;
     for entry in finder.entries() {
@@ -176,7 +176,7 @@ fn go_over<A: Allocator + Copy>(
 
 /// Whether the operation of an entry is finished, and comes before itself.
 fn is_circle<A: Allocator + Copy>(finder: &Finder<'_, A>, before: &Before<A>, entry: Entry) -> bool
-    requires { AreForced finder.now before.now.counts.items }
+    requires { AreForced finder.now before.now }
     ensures { IsTrue result → (ids : List AnyId) → ¬ IsSerial finder.now.shape.registers finder.now.entries ids }
 {
     let Entry::Answered { id, .. } = entry else {
@@ -190,7 +190,7 @@ fn is_circle<A: Allocator + Copy>(finder: &Finder<'_, A>, before: &Before<A>, en
 
 /// Whether some finished operation comes before itself.
 fn has_circle<A: Allocator + Copy>(finder: &Finder<'_, A>, before: &Before<A>) -> bool
-    requires { AreForced finder.now before.now.counts.items }
+    requires { AreForced finder.now before.now }
     ensures { IsTrue result → (ids : List AnyId) → ¬ IsSerial finder.now.shape.registers finder.now.entries ids }
 {
     for entry in finder.entries() {
@@ -227,9 +227,9 @@ fn is_torn<A: Allocator + Copy>(
 ) -> bool
     requires history { IsHistory finder.now.shape.processes finder.now.shape.registers finder.now.entries }
     requires makers { AreMakers finder.now.entries makers.now }
-    requires forced { AreForced finder.now before.old.counts.items }
+    requires forced { AreForced finder.now before.old }
     ensures torn { IsTrue result → (ids : List AnyId) → ¬ IsSerial finder.now.shape.registers finder.now.entries ids }
-    ensures forced { AreForced finder.now before.new.counts.items }
+    ensures forced { AreForced finder.now before.new }
 {
     for _pass in 0..passes {
         let news = go_over(finder, makers, changes, before);

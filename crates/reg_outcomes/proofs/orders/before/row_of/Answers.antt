@@ -1,6 +1,8 @@
-use Rattle.reg_outcomes.specs.Forced.{column_at}
-use Rattle.reg_outcomes.proofs.Known.{none_pushed}
+use Rattle.std.proofs.Common.{◌≡◌, ℕ, replicate}
+use Rattle.std.proofs.lemmas.Result.{IfOk-weaker}
+use Rattle.reg_outcomes.specs.Forced.{IsNoneRow}
+use Rattle.reg_outcomes.proofs.Known.{noughts}
 use Rattle.reg_outcomes.proofs.orders.before.row_of.Goals as goal
 
-pub loop-earlier-preserved : goal.loop-earlier-preserved
-loop-earlier-preserved g c = λ p n. none_pushed (column_at n) c.loop-earlier.row.items c.push.new.self.items c.in_ok-column_of.field-0 p c.in_ok-push.ensures.items (c.in_ok-column_of.ensures n) (c.loop-earlier.invariant p n)
+pub returns : goal.returns
+returns g c = IfOk-weaker c.vec.result (λ v. ((y : ℕ) → y ≡ 0 → y ≡ 0) → v.items ≡ replicate c.saturating_mul.result 0) IsNoneRow (λ v is. noughts c.saturating_mul.result v.items (is (λ y h. h))) c.vec.ensures.items_if_clones_equal
