@@ -9,18 +9,40 @@ use reg_base::OpId;
 use reg_checkers::Entry;
 use std::alloc::{AllocError, Allocator, Global};
 
+/// The operations of a process that change a register.
+#[derive(Drop)]
+struct List<A: Allocator + Copy = Global> {
+    /// Their numbers, in order.
+    numbers: Vec<u32, A>,
+    /// How many were below the number that was looked for last: mostly as many are below the next one.
+    near: usize,
+}
+
+impl<A: Allocator + Copy> List<A> {
+    /// The numbers that are not below this one, in order.
+    fn from(&mut self, least: u32) -> &[u32] {
+        if !are_below(&self.numbers, self.near, least) {
+            self.near = count_below(&self.numbers, least);
+        }
+        match self.numbers.get(self.near..) {
+            Some(numbers) => numbers,
+            None => &[],
+        }
+    }
+}
+
 /// The operations that change a register. So that a search goes over those of one process and register alone, each of
 /// these has a list of its own.
 #[derive(Drop)]
 pub(crate) struct Changes<A: Allocator + Copy = Global> {
-    registers: u16,
-    /// Of each process, register by register: the numbers of the operations, in order.
-    numbers: Vec<Vec<u32, A>, A>,
+    processes: u8,
+    /// Of each register, process by process.
+    lists: Vec<List<A>, A>,
 }
 
-/// The place of a process's register among those of all processes.
-fn place_of(process: u8, register: u16, registers: u16) -> usize {
-    usize::from(process) * usize::from(registers) + usize::from(register)
+/// The place of a process's list for a register: those of one register stand side by side.
+fn place_of(processes: u8, register: u16, process: u8) -> usize {
+    usize::from(register) * usize::from(processes) + usize::from(process)
 }
 
 impl<A: Allocator + Copy> Changes<A> {
@@ -29,28 +51,32 @@ impl<A: Allocator + Copy> Changes<A> {
         let shape = finder.shape();
         let processes = shape.processes() as u8;
         let registers = shape.registers() as u16;
-        let lists = place_of(processes, 0, registers);
-        let mut numbers = Vec::with_capacity(alloc, lists)?;
-        for _list in 0..lists {
-            numbers.push(Vec::new(alloc))?;
+        let count = place_of(processes, registers, 0);
+        let mut lists = Vec::with_capacity(alloc, count)?;
+        for _list in 0..count {
+            lists.push(List {
+                numbers: Vec::new(alloc),
+                near: 0,
+            })?;
         }
-        Ok(Changes { registers, numbers })
+        Ok(Changes { processes, lists })
     }
 
     /// Notes that an operation changes a register, later than those of its process that are noted.
     fn note(&mut self, id: OpId, register: u16) -> Result<(), AllocError> {
-        let place = place_of(id.process, register, self.registers);
-        if let Some(numbers) = self.numbers.get_mut(place) {
-            numbers.push(id.number)?;
+        let place = place_of(self.processes, register, id.process);
+        if let Some(list) = self.lists.get_mut(place) {
+            list.numbers.push(id.number)?;
         }
         Ok(())
     }
 
-    /// The numbers of the operations of a process that change a register, in order.
-    pub(crate) fn of(&self, process: u8, register: u16) -> &[u32] {
-        let place = place_of(process, register, self.registers);
-        match self.numbers.get(place) {
-            Some(numbers) => numbers,
+    /// The numbers of the operations of a process that change a register, in order, but for the first ones, which are
+    /// below a number.
+    pub(crate) fn from(&mut self, process: u8, register: u16, least: u32) -> &[u32] {
+        let place = place_of(self.processes, register, process);
+        match self.lists.get_mut(place) {
+            Some(list) => list.from(least),
             None => &[],
         }
     }
@@ -94,16 +120,29 @@ pub(crate) fn changes_of<A: Allocator + Copy>(
     Ok(changes)
 }
 
-/// How many of the numbers, in order, are less than this one.
+/// Whether just so many of the numbers, in order, are less than this one.
+fn are_below(numbers: &[u32], count: usize, bound: u32) -> bool {
+    let before = match count.checked_sub(1) {
+        Some(last) => numbers.get(last).copied(),
+        None => None,
+    };
+    let next = numbers.get(count).copied();
+    before.is_none_or(|number| number < bound) && next.is_none_or(|number| number >= bound)
+}
+
+/// How many of the numbers, in order, are less than this one. Mostly they are few, and the numbers many: so it is looked
+/// for in steps that grow.
 fn count_below(numbers: &[u32], bound: u32) -> usize
     ensures { result ≤ length numbers.now }
 {
     let mut low = 0;
     let mut high = numbers.len();
+    let mut reach: usize = 0;
     while low < high {
-        let middle = low + (high - low) / 2;
+        let middle = low + reach.min((high - low) / 2);
         if numbers[middle] < bound {
             low = middle + 1;
+            reach = reach.saturating_mul(2).saturating_add(1);
         } else {
             high = middle;
         }
@@ -135,16 +174,16 @@ pub(crate) fn first_change(numbers: &[u32], process: u8) -> Option<OpId> {
     change_at(numbers, process, 0)
 }
 
-/// The first of these operations of a process that comes after an operation. It comes behind those that come before the
-/// operation, and mostly soon: so it is looked for from there on, in steps that grow. Of those of which nothing is known
-/// yet none is looked at.
+/// The first of these operations of a process that comes after an operation, where those that come before it are left
+/// out. It comes mostly soon: so it is looked for in steps that grow. Of those of which nothing is known yet none is
+/// looked at.
 pub(crate) fn change_after<A: Allocator + Copy>(
     numbers: &[u32],
     before: &Before<A>,
     process: u8,
     id: OpId,
 ) -> Option<OpId> {
-    let mut low = count_below(numbers, before.known(id, process));
+    let mut low = 0;
     let mut high = numbers.len();
     let mut reach: usize = 0;
     while low < high {

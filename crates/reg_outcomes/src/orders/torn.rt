@@ -80,11 +80,20 @@ fn put_next_change<A: Allocator + Copy>(
     }
 }
 
-/// Goes by what an operation finds. Whether that is news.
+/// How many first operations of a process are known to come before the one that may leave what the reader finds.
+fn known_of_source<A: Allocator + Copy>(before: &Before<A>, reader: Reader, process: u8) -> u32 {
+    match reader.source {
+        Some(Maker::Only(source)) => before.known(source, process),
+        Some(Maker::Several) | None => 0,
+    }
+}
+
+/// Goes by what an operation finds, unless several may leave that. Whether that is news. Changes that come before the
+/// source are passed over.
 fn put_reader<A: Allocator + Copy>(
     finder: &Finder<'_, A>,
     makers: &Makers<A>,
-    changes: &Changes<A>,
+    changes: &mut Changes<A>,
     before: &mut Before<A>,
     id: OpId,
 ) -> bool
@@ -96,10 +105,14 @@ fn put_reader<A: Allocator + Copy>(
     let Some(reader) = reader_of(finder, makers, id) else {
         return false;
     };
+    if let Some(Maker::Several) = reader.source {
+        return false;
+    }
     let mut news = put_source(finder, before, reader);
     let processes = finder.shape().processes() as u8;
     for process in 0..processes {
-        let numbers = changes.of(process, reader.value.0);
+        let known = known_of_source(before, reader, process);
+        let numbers = changes.from(process, reader.value.0, known);
         news = put_last_change(finder, numbers, before, reader, process) || news;
         news = put_next_change(finder, numbers, before, reader, process) || news;
     }
@@ -139,7 +152,7 @@ fn put_all_known<A: Allocator + Copy>(
 fn put_entry<A: Allocator + Copy>(
     finder: &Finder<'_, A>,
     makers: &Makers<A>,
-    changes: &Changes<A>,
+    changes: &mut Changes<A>,
     before: &mut Before<A>,
     entry: Entry,
 ) -> bool
@@ -159,7 +172,7 @@ fn put_entry<A: Allocator + Copy>(
 fn go_over<A: Allocator + Copy>(
     finder: &Finder<'_, A>,
     makers: &Makers<A>,
-    changes: &Changes<A>,
+    changes: &mut Changes<A>,
     before: &mut Before<A>,
 ) -> bool
     requires history { IsHistory finder.now.shape.processes finder.now.shape.registers finder.now.entries }
@@ -221,7 +234,7 @@ fn most_passes<A: Allocator + Copy>(finder: &Finder<'_, A>) -> usize {
 fn is_torn<A: Allocator + Copy>(
     finder: &Finder<'_, A>,
     makers: &Makers<A>,
-    changes: &Changes<A>,
+    changes: &mut Changes<A>,
     before: &mut Before<A>,
     passes: usize,
 ) -> bool
@@ -258,9 +271,9 @@ pub(crate) fn outlook_of<A: Allocator + Copy>(
         return Ok(Outlook::Open(None));
     }
     let makers = makers_of(alloc, finder)?;
-    let changes = changes_of(alloc, finder)?;
+    let mut changes = changes_of(alloc, finder)?;
     let mut before = Before::new(alloc, finder)?;
-    if is_torn(finder, &makers, &changes, &mut before, passes) {
+    if is_torn(finder, &makers, &mut changes, &mut before, passes) {
         Ok(Outlook::Torn)
     } else {
         Ok(Outlook::Open(Some(before)))
