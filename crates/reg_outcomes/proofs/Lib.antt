@@ -21,6 +21,7 @@ pub mod Walking
 pub mod Losing
 pub mod Forced
 pub mod Known
+pub mod Raising
 pub mod Guiding
 pub mod Searching
 pub mod MissingTold

@@ -1,5 +1,5 @@
 -- What has to come before what in each serial order of a history. They carry a proof: no promise speaks of them.
-use Rattle.std.specs.Prelude.{ℕ, ◌≡◌, ◌≢◌, ◌<◌, ◌+◌, ◌*◌, List, length, slice_get, slice_index, Option, Some, option_and_then, Vec}
+use Rattle.std.specs.Prelude.{ℕ, ◌≡◌, ◌≢◌, ◌<◌, ◌+◌, ◌*◌, ◌⊎◌, List, length, slice_get, slice_index, Option, Some, option_and_then, Vec}
 use Rattle.std.specs.BTreeMap.{BTreeMap, get}
 use Rattle.reg_base.specs.declared.memory.Answer.{Answer}
 use Rattle.reg_base.specs.declared.memory.Op.{Op}
@@ -39,6 +39,10 @@ count_in before id p = count_at (id.number * before.processes + p) id.process be
 -- how many first operations of the process come before the operation
 abbrev pub IsCount : {A : Type 0} → Before A → OpId → ℕ → ℕ → Type 0
 IsCount before id p k = (p < before.processes) × (count_in before id p ≡ Some k)
+
+-- each count is one of these, or as it was
+abbrev pub AreRaised : List ℕ → List ℕ → List ℕ → Type 0
+AreRaised others old new = (p k : ℕ) → slice_get new p ≡ Some k → (slice_get old p ≡ Some k) ⊎ (slice_get others p ≡ Some k)
 
 -- nothing comes before any operation
 abbrev pub IsNoneRow : {A : Type 0} → Vec ℕ A → Type 0

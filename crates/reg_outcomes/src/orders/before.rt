@@ -3,7 +3,7 @@ ghost use Rattle.std.specs.Prelude.{◌≡◌, ◌<◌, ◌+◌, ◌*◌, ◌⊎
 ghost use Rattle.reg_base.specs.declared.memory.OpId.{OpId as AnyId};
 ghost use Rattle.reg_checkers.specs.History.{IsFinished};
 ghost use Rattle.reg_checkers.specs.Progress.{op_of};
-ghost use Rattle.reg_outcomes.specs.Forced.{AreForced, AreNone, Comes, IsCount, IsNoneRow, count_at, count_in};
+ghost use Rattle.reg_outcomes.specs.Forced.{AreForced, AreNone, AreRaised, Comes, IsCount, IsNoneRow, count_at, count_in};
 ghost use Rattle.reg_outcomes.specs.Sought.{Sought as AnySought};
 
 use crate::orders::finder::Finder;
@@ -23,6 +23,8 @@ pub(crate) struct Before<A: Allocator + Copy = Global> {
     /// Of each process, how many first operations hold all of which something is known. So the others need not be looked
     /// at, which takes long where there are many.
     noted: Vec<u32, A>,
+    /// Room for the counts of one operation, which are copied so that those of another are raised to them at once.
+    copied: Vec<u32, A>,
 }
 
 /// The place of an operation's count of a process, among the counts of the operations of its own process.
@@ -50,6 +52,30 @@ fn word_at(row: &[u32], place: usize) -> Option<u32>
     row.get(place).copied()
 }
 
+/// The counts of an operation, by process, None where it has none.
+fn counts_of<A: Allocator + Copy>(counts: &Counts<A>, processes: u8, id: OpId) -> Option<&[u32]>
+    ensures { IfSome result (λ own. (p k : ℕ) → slice_get own.now p ≡ Some k → (p < processes) × (count_at (id.number * processes + p) id.process counts.now.items ≡ Some k)) }
+{
+    let Some(row) = counts.get(usize::from(id.process)) else {
+        return None;
+    };
+    let start = place_of(processes, id.number, 0);
+    row.get(start..start + usize::from(processes))
+}
+
+/// Raises counts to others, each where it is less. Whether one was.
+fn raise_to(counts: &mut [u32], others: &[u32]) -> bool
+    ensures { AreRaised others.now counts.old counts.new }
+{
+    let mut news = false;
+    for place in 0..counts.len().min(others.len()) {
+        let (count, other) = (counts[place], others[place]);
+        news |= count < other;
+        counts[place] = count.max(other);
+    }
+    news
+}
+
 impl<A: Allocator + Copy> Before<A> {
     /// Nothing comes before any operation.
     pub(crate) fn new(alloc: A, finder: &Finder<'_, A>) -> Result<Before<A>, AllocError>
@@ -65,6 +91,7 @@ impl<A: Allocator + Copy> Before<A> {
             processes,
             counts,
             noted,
+            copied: vec![in alloc; 0; usize::from(processes)]?,
         })
     }
 
@@ -146,6 +173,50 @@ impl<A: Allocator + Copy> Before<A> {
             _ => false,
         }
     }
+
+    /// Copies the counts of an operation. Whether it has some.
+    fn copy(&mut self, id: OpId) -> bool
+        ensures processes { self.new.processes ≡ self.old.processes }
+        ensures counts { self.new.counts ≡ self.old.counts }
+        ensures copied { IsTrue result → (p k : ℕ) → slice_get self.new.copied.items p ≡ Some k → IsCount self.old id p k }
+    {
+        let Some(counts) = counts_of(&self.counts, self.processes, id) else {
+            return false;
+        };
+        if counts.len() != self.copied.len() {
+            return false;
+        }
+        self.copied.copy_from_slice(counts);
+        true
+    }
+
+    /// Raises the counts of an operation to those that were copied. Whether one was less.
+    fn raise_to_copied(&mut self, id: OpId) -> bool
+        ensures { (x : AnyId) (p k : ℕ) → IsCount self.new x p k → IsCount self.old x p k ⊎ ((x ≡ id) × (slice_get self.old.copied.items p ≡ Some k)) }
+    {
+        let process = usize::from(id.process);
+        if process >= self.counts.len() {
+            return false;
+        }
+        let row = &mut self.counts[process];
+        let start = place_of(self.processes, id.number, 0);
+        let end = start + usize::from(self.processes);
+        if end > row.len() {
+            return false;
+        }
+        raise_to(&mut row[start..end], &self.copied)
+    }
+
+    /// Raises the counts of an operation to those of another, whose counts tell what comes before it. Whether one was
+    /// less.
+    fn raise_all(&mut self, id: OpId, other: OpId) -> bool
+        ensures { (x : AnyId) (p k : ℕ) → IsCount self.new x p k → IsCount self.old x p k ⊎ ((x ≡ id) × IsCount self.old other p k) }
+    {
+        if !self.copy(other) {
+            return false;
+        }
+        self.raise_to_copied(id)
+    }
 }
 
 /// Notes that an operation comes before another, with all that comes before it. Whether that is news.
@@ -160,11 +231,6 @@ pub(crate) fn join<A: Allocator + Copy>(
     requires comes { Comes finder.now earlier later }
     ensures { AreForced finder.now before.new }
 {
-    let mut news = before.raise(later, earlier.process, earlier.number.saturating_add(1));
-    let processes = finder.shape().processes() as u8;
-    for process in 0..processes {
-        let known = before.known(earlier, process);
-        news = before.raise(later, process, known) || news;
-    }
-    news
+    let news = before.raise(later, earlier.process, earlier.number.saturating_add(1));
+    before.raise_all(later, earlier) || news
 }

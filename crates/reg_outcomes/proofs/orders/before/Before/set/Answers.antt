@@ -15,5 +15,5 @@ returns g c =
     let own : c.from.result ≡ id.process = c.from.ensures in
     let some : IsSome (count_at at c.from.result rows) = subst (λ (q : ℕ). IsSome (count_at at q rows)) (sym own) (subst (λ (n : ℕ). IsSome (count_at n id.process rows)) (sym c.place_of-place.ensures) c.requires.there) in
     let there = row_of_count rows c.from.result at row c.index_mut.ensures.value some in
-    let new : Before g.row.A.Denot = record { processes = old.processes; counts = with_item old.counts c.from.result (with_item row at c.args.count); noted = old.noted } in
+    let new : Before g.row.A.Denot = record { processes = old.processes; counts = with_item old.counts c.from.result (with_item row at c.args.count); noted = old.noted; copied = old.copied } in
     count_is_one_of old new id c.args.process c.args.count c.from.result at refl c.requires.process own c.place_of-place.ensures (count_replaced rows c.from.result row (with_item row at c.args.count) at c.args.count there.0 refl there.1)
