@@ -115,8 +115,8 @@ impl<F: FrontEnd, G: Gate + Drop> Running<F, G> {
     }
 }
 
-/// Starts the threads of a cluster, the pacer's first, and hands on its passes. Where one can't be made, those that were
-/// are stopped, and have ended.
+/// Starts the threads of a cluster, the pacer's first, and hands on its passes. Where one can't be made, those that
+/// were are stopped, and have ended.
 fn run_parts<
     F: FrontEnd + Send + Sync + 'static,
     G: Gate + Drop + Send + Sync + 'static,

@@ -20,8 +20,8 @@ pub(crate) struct Before<A: Allocator + Copy = Global> {
     /// How many processes there are: each operation has so many counts.
     pub(crate) processes: u8,
     pub(crate) counts: Counts<A>,
-    /// Of each process, how many first operations hold all of which something is known. So the others need not be looked
-    /// at, which takes long where there are many.
+    /// Of each process, how many first operations hold all of which something is known. So the others need not be
+    /// looked at, which takes long where there are many.
     noted: Vec<u32, A>,
     /// Room for the counts of one operation, which are copied so that those of another are raised to them at once.
     copied: Vec<u32, A>,

@@ -130,8 +130,8 @@ fn are_below(numbers: &[u32], count: usize, bound: u32) -> bool {
     before.is_none_or(|number| number < bound) && next.is_none_or(|number| number >= bound)
 }
 
-/// How many of the numbers, in order, are less than this one. Mostly they are few, and the numbers many: so it is looked
-/// for in steps that grow.
+/// How many of the numbers, in order, are less than this one. Mostly they are few, and the numbers many: so it is
+/// looked for in steps that grow.
 fn count_below(numbers: &[u32], bound: u32) -> usize
     ensures { result ≤ length numbers.now }
 {
