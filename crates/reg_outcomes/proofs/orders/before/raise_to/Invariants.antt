@@ -1,4 +1,3 @@
-use Rattle.std.proofs.Common.{◌≡◌, length}
 use Rattle.reg_outcomes.specs.Forced.{AreRaised}
 use Rattle.reg_outcomes.proofs.orders.before.raise_to.Given as goal
 

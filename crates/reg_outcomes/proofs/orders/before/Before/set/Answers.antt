@@ -1,4 +1,4 @@
-use Rattle.std.proofs.Common.{◌≡◌, ◌+◌, ◌*◌, IsSome, Some, ap, refl, set, slice_get, subst, sym, ◌∙◌, ℕ}
+use Rattle.std.proofs.Common.{◌≡◌, IsSome, refl, subst, sym, ℕ}
 use Rattle.std.specs.Vec.{with_item}
 use Rattle.reg_outcomes.specs.declared.orders.before.Before.{Before}
 use Rattle.reg_outcomes.specs.Forced.{count_at}
