@@ -233,6 +233,28 @@ mod tests {
     }
 
     #[test]
+    fn what_is_no_object_is_refused() {
+        for text in ["", "[]", "1", "{} {}", "{}x", "{", "\u{feff}{}", "{1: 2}", "{\"a\": 01}", "{\"a\": 1,}", "{'a': 1}"] {
+            assert!(object(text).is_none(), "{text}");
+        }
+    }
+
+    #[test]
+    fn members_stay_as_often_as_they_stand() {
+        let members = object(" {\"a\": 1, \"b\": [null], \"a\": 18446744073709551615}\r\n").expect("an object");
+        let of = |name| members.iter().filter(|it| it.0 == name).map(|it| &it.1).collect::<Vec<_>>();
+        assert_eq!(of("a"), [&Value::Number(1), &Value::Number(u64::MAX)]);
+        assert!(of("c").is_empty());
+    }
+
+    #[test]
+    fn brackets_stand_within_one_another_up_to_the_depth_of_the_judge() {
+        let nested = |count| object(&format!("{{\"it\": {}{}}}", "[".repeat(count), "]".repeat(count)));
+        assert!(nested(126).is_some());
+        assert!(nested(127).is_none());
+    }
+
+    #[test]
     fn brackets_stand_within_one_another_up_to_a_depth() {
         let nested = |count| format!("{}{}", "[".repeat(count), "]".repeat(count));
         assert!(value(&nested(126)).is_some());
