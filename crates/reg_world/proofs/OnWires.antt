@@ -1,13 +1,19 @@
 -- What an event puts goes to its wires.
-use Rattle.std.proofs.Common.{◌≡◌, ◌≢◌, ℕ, zero, suc, ◌+◌, ◌<◌, ◌≤◌, List, [], ◌∷◌, ◌++◌, map, length, take, get_or, set, Option, Some, None, refl, sym, ap, subst, ◌∙◌, inl, inr, arith, add-one, length-set}
-use Rattle.std.specs.Prelude.{slice_get}
-use Rattle.std.proofs.lemmas.Bool.{cases_lt}
-use Rattle.std.proofs.lemmas.List.{map-append}
+use Rattle.std.proofs.Common.{◌≡◌, ◌≢◌, ℕ, zero, suc, ◌+◌, ◌<◌, List, [], ◌∷◌, ◌++◌, map, length, take, min, get_or, set, Option, Some, None, refl, sym, ap, subst, ◌∙◌, inl, inr, arith, add-one, length-set, set-set, ◌-◌, true, false}
+use Rattle.std.specs.Prelude.{slice_get, ◌==◌}
+use Rattle.std.proofs.lemmas.Bool.{cases_lt, cond_both}
+use Rattle.std.proofs.lemmas.List.{map-append, append-nil, append_assoc, set-get_or, get_or-set_same, length-take}
+use Rattle.std.specs.Option.{is_some}
+use Rattle.reg_base.specs.declared.limits.TheConstants.{MOST_RESENT}
 use Rattle.reg_base.specs.Order.{In}
+use Rattle.reg_frames.specs.declared.bodies.Body.{Body}
 use Rattle.reg_frames.specs.declared.bodies.Frame.{Frame}
 use Rattle.reg_frames.specs.declared.puts.Put.{Put}
+use Rattle.reg_process.specs.Process.{State, peer_at, numbered_from, resent}
 use Rattle.reg_process.specs.Puts.{puts, put_to}
-use Rattle.reg_world.specs.Sent.{sent}
+use Rattle.reg_process.specs.declared.known.Known.{Known}
+use Rattle.reg_process.specs.Known.{known_of}
+use Rattle.reg_world.specs.Sent.{sent, AreOn}
 use Rattle.reg_world.proofs.code.Sending.{sent_both}
 use Rattle.reg_base.proofs.Lists.{in_left, in_right}
 use Rattle.reg_world.proofs.lists.Members.{in_map}
@@ -69,3 +75,49 @@ all_again [] zero h = refl
 all_again [] (suc i) h = refl
 all_again (x ∷ xs) zero h = absurd cc
 all_again (x ∷ xs) (suc i) h = ap (λ l. x ∷ l) (all_again xs i h)
+
+-- a frame stays on its wire
+still_on_one : (wires : List (List Frame)) (q : ℕ) (g : Frame) (r : ℕ) (f : Frame) → In f (get_or wires r []) → In f (get_or (set wires q (get_or wires q [] ++ g ∷ [])) r [])
+still_on_one [] q g r f i = absurd i
+still_on_one (w ∷ ws) zero g zero f i = in_left f w (g ∷ []) i
+still_on_one (w ∷ ws) zero g (suc r) f i = i
+still_on_one (w ∷ ws) (suc q) g zero f i = i
+still_on_one (w ∷ ws) (suc q) g (suc r) f i = still_on_one ws q g r f i
+
+pub still_on : (ps : List Put) (wires : List (List Frame)) (r : ℕ) (f : Frame) → In f (get_or wires r []) → In f (get_or (sent ps wires) r [])
+still_on [] wires r f i = i
+still_on (p ∷ ps) wires r f i = still_on ps (set wires p.to (get_or wires p.to [] ++ p.frame ∷ [])) r f (still_on_one wires p.to p.frame r f i)
+
+-- frames for one process, all at once
+pub all_sent : (wires : List (List Frame)) (r : ℕ) (fs : List Frame) → r < length wires → sent (map (put_to r) fs) wires ≡ set wires r (get_or wires r [] ++ fs)
+all_sent wires r [] l = sym (ap (set wires r) (append-nil (get_or wires r [])) ∙ set-get_or wires r [])
+all_sent wires r (f ∷ fs) l =
+    let one = set wires r (get_or wires r [] ++ f ∷ []) in
+    let same : get_or one r [] ≡ get_or wires r [] ++ f ∷ [] = get_or-set_same wires r (get_or wires r [] ++ f ∷ []) [] l in
+    all_sent one r fs (let z = length-set wires r (get_or wires r [] ++ f ∷ []) in omega (arith, z, l))
+    ∙ (ap (λ z. set one r (z ++ fs)) same
+    ∙ (set-set wires r (get_or wires r [] ++ f ∷ []) ((get_or wires r [] ++ f ∷ []) ++ fs)
+    ∙ ap (set wires r) (append_assoc (get_or wires r []) (f ∷ []) fs)))
+
+-- what a tick puts again for a process for which it puts some
+pub resent_is : (s : State) (r : ℕ) (o : Option Frame) → o ≡ slice_get (resent s r) 0 → is_some o ≡ true → resent s r ≡ numbered_from (peer_at s r).first (take MOST_RESENT (peer_at s r).pending)
+resent_is s r o at some =
+    cond_both (r == s.me) [] (numbered_from (peer_at s r).first (take MOST_RESENT (peer_at s r).pending)) (λ fs. o ≡ slice_get fs 0 → fs ≡ numbered_from (peer_at s r).first (take MOST_RESENT (peer_at s r).pending))
+    (λ _ h. absurd (let bad : false ≡ true = sym (ap is_some h) ∙ some in let e : ⊥ = cc in e))
+    (λ _ h. refl)
+    at
+
+-- what the wires put again at once is all that a tick puts for the process
+pub all_at_once : (s : State) (r count : ℕ) (known : Known) (wires wires1 : List (List Frame)) → resent s r ≡ numbered_from (peer_at s r).first (take MOST_RESENT (peer_at s r).pending) → known ≡ known_of (peer_at s r) → count ≡ min (known.next - known.first) MOST_RESENT
+    → r < length wires → AreOn (get_or wires r []) (resent s r)
+    → ((bodies : List Body) → length bodies ≡ count → AreOn (get_or wires r []) (numbered_from known.first bodies) → wires1 ≡ set wires r (get_or wires r [] ++ numbered_from known.first bodies))
+    → wires1 ≡ sent (map (put_to r) (resent s r)) wires
+all_at_once s r count known wires wires1 is told many l on again =
+    let p = peer_at s r in
+    let bodies = take MOST_RESENT p.pending in
+    let from : known.first ≡ p.first = ap (λ (k : Known). k.first) told in
+    let next : known.next ≡ p.first + length p.pending = ap (λ (k : Known). k.next) told in
+    let size = length-take MOST_RESENT p.pending in
+    let frames : numbered_from known.first bodies ≡ resent s r = ap (λ i. numbered_from i bodies) from ∙ sym is in
+    again bodies (omega (arith, size, many, from, next)) (subst (AreOn (get_or wires r [])) (sym frames) on)
+    ∙ (ap (λ fs. set wires r (get_or wires r [] ++ fs)) frames ∙ sym (all_sent wires r (resent s r) l))

@@ -2,7 +2,7 @@
 use Rattle.std.proofs.Common.{◌≡◌, ℕ, zero, suc, ◌<◌, List, [], ◌∷◌, ◌++◌, map, length, get_or, set, replicate, Some, None, Result, Ok, Err, refl, sym, ap, ◌∙◌, subst, inl, inr, arith}
 use Rattle.std.specs.Prelude.{slice_get, option_map, OnOk, OnErr}
 use Rattle.std.proofs.lemmas.Bool.{cases_eq}
-use Rattle.std.proofs.lemmas.List.{get_or-take, map-set, map_push, get_or-map, get_or-set_same, get_or-set_other, length-map}
+use Rattle.std.proofs.lemmas.List.{get_or-take, map-set, map-append, get_or-map, get_or-set_same, get_or-set_other, length-map}
 use Rattle.reg_base.specs.Order.{In}
 use Rattle.reg_base.proofs.Lists.{in_cases}
 use Rattle.reg_frames.specs.declared.bodies.Body.TheVariants.{Ack}
@@ -11,7 +11,7 @@ use Rattle.reg_frames.specs.declared.bodies.Frame.TheVariants.{Numbered, Got}
 use Rattle.reg_world.specs.declared.words.Slot.{Slot}
 use Rattle.reg_world.specs.declared.words.Slot.TheVariants.{Data, Count, Other}
 use Rattle.reg_world.specs.Sharing.{IsLonger}
-use Rattle.reg_world.specs.Packed.{Kept, frame_of, IsKept, Says, Grows, frames_on, AreKept}
+use Rattle.reg_world.specs.Packed.{Kept, frame_of, IsKept, Grows, frames_on, AreKept}
 use Rattle.reg_world.proofs.Sharing.{longer_length}
 
 longer_at : {X : Type 0} (old new : List X) (n : ℕ) (d : X) → IsLonger old new → n < length old → get_or new n d ≡ get_or old n d
@@ -42,31 +42,31 @@ all_stay old new (s ∷ ss) G k =
 pub all_kept : (old new : Kept) (strips : List (List Slot)) → Grows old new → AreKept old strips → AreKept new strips
 all_kept old new strips G k = λ r s i. kept_stays old new s G (k r s i)
 
--- a frame is put on one wire
-pub put_on_one : (old new : Kept) (strips : List (List Slot)) (r : ℕ) (strip : List Slot) (s : Slot) (f : Frame) → Grows old new → AreKept old strips → r < length strips → Says new s f
-    → strip ≡ get_or strips r [] ++ s ∷ []
-    → frames_on new (set strips r strip) ≡ set (frames_on old strips) r (get_or (frames_on old strips) r [] ++ f ∷ [])
-put_on_one old new strips r strip s f G k l S pushed =
+-- frames are put on one wire
+pub put_on_one : (old new : Kept) (strips : List (List Slot)) (r : ℕ) (strip more : List Slot) (frames : List Frame) → Grows old new → AreKept old strips → r < length strips → map (frame_of new) more ≡ frames
+    → strip ≡ get_or strips r [] ++ more
+    → frames_on new (set strips r strip) ≡ set (frames_on old strips) r (get_or (frames_on old strips) r [] ++ frames)
+put_on_one old new strips r strip more frames G k l say pushed =
     map-set (map (frame_of new)) strips r strip
     ∙ (ap (λ z. set z r (map (frame_of new) strip)) (all_stay old new strips G k)
     ∙ ap (set (frames_on old strips) r)
     (ap (map (frame_of new)) pushed
-    ∙ (map_push (frame_of new) (get_or strips r []) s
-    ∙ (ap (λ z. map (frame_of new) (get_or strips r []) ++ z ∷ []) S.is
-    ∙ ap (λ z. z ++ f ∷ []) (strip_stays old new (get_or strips r []) G (k r) ∙ sym (get_or-map (map (frame_of old)) strips r [] [] l))))))
+    ∙ (map-append (frame_of new) (get_or strips r []) more
+    ∙ (ap (λ z. map (frame_of new) (get_or strips r []) ++ z) say
+    ∙ ap (λ z. z ++ frames) (strip_stays old new (get_or strips r []) G (k r) ∙ sym (get_or-map (map (frame_of old)) strips r [] [] l))))))
 
-only_in : {X : Type 0} (x y : X) → In x (y ∷ []) → x ≡ y
+pub only_in : {X : Type 0} (x y : X) → In x (y ∷ []) → x ≡ y
 only_in x y (inl e) = e
 only_in x y (inr h) = absurd h
 
-pub still_kept : (old new : Kept) (strips : List (List Slot)) (r : ℕ) (strip : List Slot) (s : Slot) → Grows old new → AreKept old strips → r < length strips → IsKept new s
-    → strip ≡ get_or strips r [] ++ s ∷ [] → AreKept new (set strips r strip)
-still_kept old new strips r strip s G k l now pushed = λ q x i. elim (cases_eq q r) [
+pub still_kept : (old new : Kept) (strips : List (List Slot)) (r : ℕ) (strip more : List Slot) → Grows old new → AreKept old strips → r < length strips → ((s : Slot) → In s more → IsKept new s)
+    → strip ≡ get_or strips r [] ++ more → AreKept new (set strips r strip)
+still_kept old new strips r strip more G k l now pushed = λ q x i. elim (cases_eq q r) [
   | inl e ↦
-      let here : get_or (set strips r strip) q [] ≡ get_or strips r [] ++ s ∷ [] = ap (λ z. get_or (set strips r strip) z []) e ∙ (get_or-set_same strips r strip [] l ∙ pushed) in
-      elim (in_cases x (get_or strips r []) (s ∷ []) (subst (In x) here i)) [
+      let here : get_or (set strips r strip) q [] ≡ get_or strips r [] ++ more = ap (λ z. get_or (set strips r strip) z []) e ∙ (get_or-set_same strips r strip [] l ∙ pushed) in
+      elim (in_cases x (get_or strips r []) more (subst (In x) here i)) [
         | inl j ↦ kept_stays old new x G (k r x j)
-        | inr j ↦ subst (IsKept new) (sym (only_in x s j)) now
+        | inr j ↦ now x j
       ]
   | inr ne ↦ kept_stays old new x G (k q x (subst (In x) (get_or-set_other strips r q strip [] ne) i))
 ]
@@ -109,12 +109,12 @@ none_found k strips wires r to number view same at =
     ∙ (ap (λ z. slice_get z number) (sym (wire_at k strips r))
     ∙ (ap (λ z. slice_get (get_or z r []) number) view ∙ ap (λ z. slice_get (get_or wires z []) number) same)))
 
--- a word is pushed, or memory is refused
-pub after_push : {T E : Type 0} (res : Result T E) (old new : Kept) (strips strips1 : List (List Slot)) (r : ℕ) (s : Slot) → Grows old new → AreKept old strips → r < length strips → IsKept new s
-    → OnOk res (strips1 ≡ set strips r (get_or strips r [] ++ s ∷ [])) → OnErr res (strips1 ≡ strips) → AreKept new strips1
-after_push (Ok u) old new strips strips1 r s G k l now pushed kept =
-    subst (AreKept new) (sym pushed) (still_kept old new strips r (get_or strips r [] ++ s ∷ []) s G k l now refl)
-after_push (Err e) old new strips strips1 r s G k l now pushed kept = subst (AreKept new) (sym kept) (all_kept old new strips G k)
+-- words are pushed, or memory is refused
+pub after_push : {T E : Type 0} (res : Result T E) (old new : Kept) (strips strips1 : List (List Slot)) (r : ℕ) (more : List Slot) → Grows old new → AreKept old strips → r < length strips → ((s : Slot) → In s more → IsKept new s)
+    → OnOk res (strips1 ≡ set strips r (get_or strips r [] ++ more)) → OnErr res (strips1 ≡ strips) → AreKept new strips1
+after_push (Ok u) old new strips strips1 r more G k l now pushed kept =
+    subst (AreKept new) (sym pushed) (still_kept old new strips r (get_or strips r [] ++ more) more G k l now refl)
+after_push (Err e) old new strips strips1 r more G k l now pushed kept = subst (AreKept new) (sym kept) (all_kept old new strips G k)
 
 pub count_is : (k : Kept) (strips : List (List Slot)) (wires : List (List Frame)) (r to n : ℕ) → frames_on k strips ≡ wires → r ≡ to → n ≡ length (get_or strips r []) → n ≡ length (get_or wires to [])
 count_is k strips wires r to n view same is =

@@ -1,5 +1,5 @@
 -- A frame in one word of 32 bits. They carry a proof: no promise speaks of them.
-use Rattle.std.specs.Prelude.{ℕ, ◌≡◌, ◌+◌, ◌-◌, ◌<◌, Bool, true, false, cond, nat_lt, refl}
+use Rattle.std.specs.Prelude.{ℕ, zero, suc, ◌≡◌, ◌+◌, ◌-◌, ◌<◌, List, [], ◌∷◌, Bool, true, false, cond, nat_lt, refl}
 use Rattle.std.proofs.Common.{arith}
 use Rattle.std.proofs.lemmas.Bool.Decides.{nat_tests}
 use Rattle.reg_world.specs.declared.words.TheConstants.{FIRST_COUNT, FIRST_OTHER, MOST_SLOTS}
@@ -27,6 +27,11 @@ bits_again bits = first (nat_lt bits FIRST_COUNT) refl
     first : (t : Bool) → nat_lt bits FIRST_COUNT ≡ t → bits_of (cond t (Data bits) (cond (nat_lt bits FIRST_OTHER) (Count (bits - FIRST_COUNT)) (Other (bits - FIRST_OTHER)))) ≡ bits
     first true e = refl
     first false e = second (nat_lt bits FIRST_OTHER) e refl
+
+-- the slots of so many data frames, of the numbers from this one on
+abbrev pub data_slots : ℕ → ℕ → List Slot
+data_slots first zero = []
+data_slots first (suc count) = Data first ∷ data_slots (first + 1) count
 
 -- the slot has room in a word
 abbrev pub HasRoom : Slot → Type 0

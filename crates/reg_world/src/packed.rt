@@ -1,12 +1,13 @@
 //! The wires of one process, with one word for each frame.
-ghost use Rattle.std.specs.Prelude.{◌≡◌, ◌<◌, ◌++◌, ◌∷◌, [], true, length, IfOk, OnOk, slice_set, slice_index_or};
+ghost use Rattle.std.specs.Prelude.{◌≡◌, ◌+◌, ◌<◌, ◌≤◌, ◌++◌, ◌∷◌, [], true, length, IfOk, OnOk, slice_set, slice_index_or};
 ghost use Rattle.reg_frames.specs.declared.bodies.Body.TheVariants.{Ack};
 ghost use Rattle.reg_world.specs.Words.{HasRoom};
 ghost use Rattle.reg_world.specs.Packed.{frame_of, IsKept, Says, Grows};
 
 use crate::stores::WireStore;
 use crate::strips::Strips;
-use crate::words::{FIRST_COUNT, MOST_SLOTS, Slot, Word};
+use crate::words::{FIRST_COUNT, MOST_SLOTS, Slot, Word, numbers_from};
+use reg_base::limits::MOST_RESENT;
 use reg_frames::{Body, Frame};
 use std::alloc::{AllocError, Allocator, Global};
 use std::marker::Model;
@@ -54,6 +55,15 @@ impl<A: Allocator + Copy> Tables<A> {
             },
             Slot::Other { place } => self.others[place as usize],
         }
+    }
+
+    /// Whether so many bodies are kept under the numbers from `first` on, and each data frame is told by its number.
+    fn has_all(&self, first: u64, count: u64) -> bool
+        ensures none { result ≡ true → self.now.others ≡ [] }
+        ensures there { result ≡ true → first + count ≤ length self.now.bodies }
+    {
+        let kept = self.bodies.len() as u64;
+        self.others.is_empty() && count <= kept && first <= kept - count
     }
 
     /// Whether the body is kept under this number. A body under the next number is kept from now on.
@@ -123,6 +133,9 @@ impl<A: Allocator + Copy> Tables<A> {
     }
 }
 
+/// From this number on there may be no `MOST_RESENT` numbers that a word can tell.
+const MOST_FIRST: u64 = FIRST_COUNT as u64 - MOST_RESENT;
+
 /// All frames that a process ever put for each process, each as a word of four bytes. How much memory they take is not
 /// promised.
 // (the bodies are kept once, by their numbers, and a frame that is none of the bodies under its number is kept whole;
@@ -173,5 +186,15 @@ impl<A: Allocator + Copy> WireStore<A> for PackedWires<A> {
     fn put(&mut self, to: u8, frame: &Frame) -> Result<(), AllocError> {
         let slot = self.tables.slot(frame)?;
         self.strips.push(usize::from(to), Word::pack(slot))
+    }
+
+    fn put_again(&mut self, to: u8, first: u64, count: u64) -> Result<bool, AllocError> {
+        if first > MOST_FIRST || !self.tables.has_all(first, count) {
+            return Ok(false);
+        }
+        let words = numbers_from(first as u32);
+        self.strips
+            .push_all(usize::from(to), &words[..count as usize])?;
+        Ok(true)
     }
 }

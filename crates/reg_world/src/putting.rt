@@ -1,11 +1,11 @@
 //! What an event puts goes to its wires.
-ghost use Rattle.std.specs.Prelude.{◌≡◌, ◌≢◌, ◌<◌, ◌≤◌, [], length, map, OnOk};
+ghost use Rattle.std.specs.Prelude.{ℕ, ◌≡◌, ◌≢◌, ◌<◌, ◌≤◌, [], length, map, OnOk, slice_index_or};
 ghost use Rattle.reg_base.specs.Order.{In};
 ghost use Rattle.reg_frames.specs.declared.puts.Put.{Put};
 ghost use Rattle.reg_process.specs.Process.{resent};
 ghost use Rattle.reg_process.specs.Puts.{puts, put_to};
 ghost use Rattle.reg_process.specs.Sending.{owed, sent_frames, puts_of};
-ghost use Rattle.reg_world.specs.Sent.{sent as sent_on};
+ghost use Rattle.reg_world.specs.Sent.{sent as sent_on, AreOn};
 
 use crate::stores::WireStore;
 use reg_base::limits::MOST_RESENT;
@@ -87,8 +87,10 @@ pub(crate) fn put_sends<A: Allocator + Copy, W: WireStore<A>>(
     }
 }
 
-/// Puts what is unacknowledged again for one process.
-fn put_again_to<F: FrontEnd, A: Allocator + Copy, W: WireStore<A>>(
+/// Puts what is unacknowledged again for one process, one by one.
+// (apart: packed wires need it only where a frame is kept whole, and it would take room in what runs at each tick)
+#[inline(never)]
+fn put_each_to<F: FrontEnd, A: Allocator + Copy, W: WireStore<A>>(
     wires: &mut W,
     to: u8,
     process: &Process<F, A>,
@@ -105,12 +107,35 @@ fn put_again_to<F: FrontEnd, A: Allocator + Copy, W: WireStore<A>>(
     Ok(())
 }
 
+/// Puts what is unacknowledged again for one process, at once where the wires can.
+fn put_again_to<F: FrontEnd, A: Allocator + Copy, W: WireStore<A>>(
+    wires: &mut W,
+    to: u8,
+    process: &Process<F, A>,
+) -> Result<(), AllocError>
+    requires within { to < length (W.wires wires.old) }
+    requires out { AreOn (slice_index_or (W.wires wires.old) to []) (resent process.now.state to) }
+    ensures { OnOk result (W.wires wires.new ≡ sent_on (map (put_to to) (resent process.now.state to)) (W.wires wires.old)) }
+{
+    if process.resend(to, 0).is_none() {
+        return Ok(());
+    }
+    if let Some(known) = process.known(to) {
+        let count = (known.next - known.first).min(MOST_RESENT);
+        if wires.put_again(to, known.first, count)? {
+            return Ok(());
+        }
+    }
+    put_each_to(wires, to, process)
+}
+
 /// Puts the frames of a tick. Where memory is refused nothing is claimed of the wires.
 pub(crate) fn put_again<F: FrontEnd, A: Allocator + Copy, W: WireStore<A>>(
     wires: &mut W,
     process: &Process<F, A>,
 ) -> Result<(), AllocError>
-    requires { length process.now.state.peers ≤ length (W.wires wires.old) }
+    requires within { length process.now.state.peers ≤ length (W.wires wires.old) }
+    requires out { (to : ℕ) → to < length process.now.state.peers → AreOn (slice_index_or (W.wires wires.old) to []) (resent process.now.state to) }
     ensures { OnOk result (W.wires wires.new ≡ sent_on (puts (resent process.now.state) (length process.now.state.peers)) (W.wires wires.old)) }
 {
     for to in 0..process.processes() {

@@ -62,4 +62,10 @@ impl<A: Allocator + Copy> WireStore<A> for Wires<A> {
     fn put(&mut self, to: u8, frame: &Frame) -> Result<(), AllocError> {
         self.strips.push(usize::from(to), *frame)
     }
+
+    // (a frame is copied from nowhere but its process, since these wires keep no body under its number)
+    #[inline(always)]
+    fn put_again(&mut self, _to: u8, _first: u64, _count: u64) -> Result<bool, AllocError> {
+        Ok(false)
+    }
 }

@@ -1,6 +1,10 @@
 //! What keeps the wires of one process.
-ghost use Rattle.std.specs.Prelude.{◌≡◌, ◌<◌, ◌++◌, ◌∷◌, List, [], length, replicate, IfOk, OnOk, slice_get, slice_set, slice_index_or};
+ghost use Rattle.std.specs.Prelude.{◌≡◌, ◌<◌, ◌≤◌, ◌++◌, ◌∷◌, List, [], true, false, length, replicate, IfOk, OnOk, slice_get, slice_set, slice_index_or};
+ghost use Rattle.reg_base.specs.declared.limits.TheConstants.{MOST_RESENT};
+ghost use Rattle.reg_frames.specs.declared.bodies.Body.{Body};
 ghost use Rattle.reg_frames.specs.declared.bodies.Frame.{Frame};
+ghost use Rattle.reg_process.specs.Process.{numbered_from};
+ghost use Rattle.reg_world.specs.Sent.{AreOn};
 
 use reg_frames::Frame;
 use std::alloc::{AllocError, Allocator};
@@ -26,4 +30,12 @@ pub trait WireStore<A: Allocator + Copy>: Drop {
     fn put(&mut self, to: u8, frame: &Frame) -> Result<(), AllocError>
         requires { to < length (wires self.old) }
         ensures { OnOk result (wires self.new ≡ slice_set (wires self.old) to (slice_index_or (wires self.old) to [] ++ frame.now ∷ [])) };
+
+    /// Puts data frames for a process again: so many, of the numbers from `first` on. Says whether it did so. Else
+    /// nothing has changed, and each is to be put by itself. Where memory is refused nothing is claimed of the wires.
+    fn put_again(&mut self, to: u8, first: u64, count: u64) -> Result<bool, AllocError>
+        requires within { to < length (wires self.old) }
+        requires few { count ≤ MOST_RESENT }
+        ensures again { IfOk result (λ done. done ≡ true → (bodies : List Body) → length bodies ≡ count → AreOn (slice_index_or (wires self.old) to []) (numbered_from first bodies) → wires self.new ≡ slice_set (wires self.old) to (slice_index_or (wires self.old) to [] ++ numbered_from first bodies)) }
+        ensures kept { IfOk result (λ done. done ≡ false → wires self.new ≡ wires self.old) };
 }

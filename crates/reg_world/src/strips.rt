@@ -1,5 +1,5 @@
 //! Items on each of some wires: frames, or the words that stand for them.
-ghost use Rattle.std.specs.Prelude.{◌≡◌, ◌<◌, ◌≤◌, ◌++◌, ◌∷◌, [], Decides, length, replicate, IfOk, OnOk, OnErr, slice_get, slice_set, slice_index_or};
+ghost use Rattle.std.specs.Prelude.{◌≡◌, ◌<◌, ◌≤◌, ◌++◌, ◌∷◌, [], true, Decides, length, replicate, IfOk, OnOk, OnErr, slice_get, slice_set, slice_index_or};
 ghost use Rattle.reg_world.specs.Sharing.{items_in, no_items, IsLonger};
 
 use std::alloc::{AllocError, Allocator, Global};
@@ -19,18 +19,21 @@ const SHORT: usize = 256;
 /// A list of `SHORT` items or more grows by at least this number of items.
 const MANY: usize = 4096;
 
-/// Makes room for an item more. Growing a list can copy its items, while room that isn't used costs next to nothing: so
-/// a list that isn't short gets much at once. Nothing else changes.
+/// Makes room for so many items more. Growing a list can copy its items, while room that isn't used costs next to
+/// nothing: so a list that isn't short gets much at once. Nothing else changes.
 // (apart: it runs seldom, and would take room in what runs for each frame)
 #[cold]
 #[inline(never)]
-fn make_room<T: Item, A: Allocator + Copy>(items: &mut Vec<T, A>) -> Result<(), AllocError>
+fn make_room<T: Item, A: Allocator + Copy>(
+    items: &mut Vec<T, A>,
+    count: usize,
+) -> Result<(), AllocError>
     ensures { items.new.items ≡ items.old.items }
 {
     if items.len() < SHORT {
-        items.reserve(1)
+        items.reserve(count)
     } else {
-        items.reserve(MANY)
+        items.reserve(count.max(MANY))
     }
 }
 
@@ -42,10 +45,35 @@ fn push<T: Item, A: Allocator + Copy>(items: &mut Vec<T, A>, item: T) -> Result<
     ensures kept { OnErr result (items.new.items ≡ items.old.items) }
 {
     if items.len() == items.capacity() {
-        make_room(items)?;
+        make_room(items, 1)?;
     }
     items.push(item)?;
     Ok(())
+}
+
+/// Puts items at the end.
+#[inline(always)]
+fn extend<T: Item, A: Allocator + Copy>(items: &mut Vec<T, A>, more: &[T]) -> Result<(), AllocError>
+    ensures put { OnOk result (items.new.items ≡ items.old.items ++ more.now) }
+    ensures kept { OnErr result (items.new.items ≡ items.old.items) }
+{
+    if more.len() > items.capacity() - items.len() {
+        make_room(items, more.len())?;
+    }
+    items.extend_from_slice(more)
+}
+
+/// Whether both say the same, item by item.
+fn are_same<T: Item>(some: &[T], others: &[T]) -> bool
+    requires { length some.now ≡ length others.now }
+    ensures { result ≡ true → some.now ≡ others.now }
+{
+    for place in 0..some.len() {
+        if !some[place].is(&others[place]) {
+            return false;
+        }
+    }
+    true
 }
 
 /// What is kept of a wire: how many of the common items it has, or all of its items once they differ from those.
@@ -88,20 +116,20 @@ impl<T: Item, A: Allocator + Copy> Line<T, A> {
         }
     }
 
-    /// Puts an item that isn't the next one of the common items: from now on the wire has its own.
+    /// Puts items that aren't the next ones of the common items: from now on the wire has its own.
     // (apart: it runs seldom, and would take room in what runs for each frame)
     #[cold]
     #[inline(never)]
-    fn part(&mut self, common: &[T], item: T) -> Result<(), AllocError>
+    fn part(&mut self, common: &[T], items: &[T]) -> Result<(), AllocError>
         requires shared { self.old.shared ≤ length common.now }
         requires own { self.old.own ≡ [] }
-        ensures items { OnOk result (items_in common.now self.new ≡ items_in common.now self.old ++ item ∷ []) }
+        ensures items { OnOk result (items_in common.now self.new ≡ items_in common.now self.old ++ items.now) }
         ensures kept { OnErr result (items_in common.now self.new ≡ items_in common.now self.old) }
         ensures shared { self.new.shared ≡ self.old.shared }
     {
         let shared = &common[..self.shared];
         self.own.extend_from_slice(shared)?;
-        push(&mut self.own, item)
+        extend(&mut self.own, items)
     }
 
     /// Puts an item. It is kept once where it is the next one of the common items, or can be.
@@ -126,7 +154,28 @@ impl<T: Item, A: Allocator + Copy> Line<T, A> {
             self.shared += 1;
             return Ok(());
         }
-        self.part(common, item)
+        self.part(common, &[item])
+    }
+
+    /// Puts items. They are kept once where they are the next ones of the common items, or can be.
+    fn put_all(&mut self, common: &mut Vec<T, A>, items: &[T]) -> Result<(), AllocError>
+        requires { self.old.shared ≤ length common.old.items }
+        ensures items { OnOk result (items_in common.new.items self.new ≡ items_in common.old.items self.old ++ items.now) }
+        ensures kept { OnErr result (items_in common.new.items self.new ≡ items_in common.old.items self.old) }
+        ensures longer { IsLonger common.old.items common.new.items }
+        ensures shared { self.new.shared ≤ length common.new.items }
+    {
+        if !self.own.is_empty() {
+            return extend(&mut self.own, items);
+        }
+        let next = &common[self.shared..];
+        let count = next.len().min(items.len());
+        if !are_same(&next[..count], &items[..count]) {
+            return self.part(common, items);
+        }
+        extend(common, &items[count..])?;
+        self.shared += items.len();
+        Ok(())
     }
 }
 
@@ -213,5 +262,14 @@ impl<T: Item, A: Allocator + Copy> Strips<T, A> {
         ensures kept { OnErr result (self.new ≡ self.old) }
     {
         self.lines[to].put(&mut self.common, item)
+    }
+
+    /// Puts items at the end of a wire.
+    pub(crate) fn push_all(&mut self, to: usize, items: &[T]) -> Result<(), AllocError>
+        requires { to < length self.old }
+        ensures pushed { OnOk result (self.new ≡ slice_set self.old to (slice_index_or self.old to [] ++ items.now)) }
+        ensures kept { OnErr result (self.new ≡ self.old) }
+    {
+        self.lines[to].put_all(&mut self.common, items)
     }
 }

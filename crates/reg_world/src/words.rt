@@ -1,8 +1,10 @@
 //! What is kept of a frame, in one word.
-ghost use Rattle.std.specs.Prelude.{◌≡◌};
-ghost use Rattle.reg_world.specs.Words.{HasRoom};
+ghost use Rattle.std.specs.Prelude.{◌≡◌, ◌+◌, ◌≤◌};
+ghost use Rattle.reg_base.specs.declared.limits.TheConstants.{MOST_RESENT};
+ghost use Rattle.reg_world.specs.Words.{HasRoom, data_slots};
 
 use crate::strips::Item;
+use reg_base::limits::MOST_RESENT;
 use std::marker::Model;
 
 /// What is kept of a frame that a process put.
@@ -91,4 +93,22 @@ impl Word {
             place: bits - FIRST_OTHER,
         }
     }
+}
+
+/// How many words `numbers_from` gives: as many as a tick puts frames for a process.
+const ROW: usize = MOST_RESENT as usize;
+
+/// The words of the data frames of `MOST_RESENT` numbers, from `first` on.
+#[inline(always)]
+pub(crate) fn numbers_from(first: u32) -> [Word; ROW]
+    requires { first + MOST_RESENT ≤ FIRST_COUNT }
+    ensures { result ≡ data_slots first MOST_RESENT }
+{
+    let mut words = [Word { bits: 0 }; ROW];
+    for place in 0..ROW {
+        words[place] = Word {
+            bits: first + place as u32,
+        };
+    }
+    words
 }

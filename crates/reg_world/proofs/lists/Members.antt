@@ -1,5 +1,5 @@
 -- Members of lists, and induction from the end.
-use Rattle.std.proofs.Common.{ℕ, ◌≡◌, zero, suc, ◌<◌, List, [], ◌∷◌, ◌++◌, map, Some, length, drop, get_or, ap, sym, subst, inl, inr, refl, arith, append_assoc}
+use Rattle.std.proofs.Common.{ℕ, ◌≡◌, zero, suc, ◌<◌, List, [], ◌∷◌, ◌++◌, map, Some, length, get_or, ap, sym, subst, inl, inr, refl, arith, append_assoc}
 use Rattle.std.proofs.lemmas.List.{append-nil}
 use Rattle.reg_base.specs.Order.{In}
 use Rattle.reg_checkers.specs.History.{IsAt}

@@ -28,15 +28,18 @@ use Rattle.reg_process.specs.declared.events.Event.TheVariants.{Call, Take, Tick
 use Rattle.reg_world.specs.Nodes.{step_of, take_step}
 use Rattle.reg_world.specs.Laws.{IsAhead, IsStale, IsFull, names_register}
 use Rattle.reg_world.specs.World.{World, move_of, whole}
-use Rattle.reg_world.specs.Members.{MayAct}
+use Rattle.reg_world.specs.Members.{MayAct, listed}
 use Rattle.reg_world.specs.WorldParts.{standing_of}
 use Rattle.reg_world.proofs.lists.Bodies.{place_in}
 use Rattle.reg_world.proofs.one_order.Wholes.{whole_replicas}
 use Rattle.reg_world.proofs.one_order.Allowed.{Allowed, allowed}
 use Rattle.reg_world.proofs.code.Sending.{length-listed}
 use Rattle.reg_world.proofs.code.Found.{differ_false}
+use Rattle.reg_world.proofs.code.Tallied.{at_or}
+use Rattle.reg_world.proofs.code.Telling.{at_listed}
 use Rattle.reg_world.proofs.run.Along.{move_is}
 use Rattle.reg_world.proofs.one_order.NodeLaws.{inv_of, no_refusal}
+use Rattle.reg_world.proofs.one_order.Runs.{resent_is_out}
 
 length-memory : (ops : List Op) (m : Memory) → length (memory_after ops m) ≡ length m
 length-memory [] m = refl
@@ -164,4 +167,8 @@ module _ (start : Op → ℕ → Start) (n registers : ℕ) (laws : KeepsLaws st
         stands = refl;
         none = no_step_fault e p st m.1;
         wires = length-listed (w.nodes p).wire n ∙ sym (sound p A.0).size;
+        out = λ to l f i.
+            let to_n : to < n = let z = (sound p A.0).size in omega (arith, l, z) in
+            subst (In f) (sym (at_or (listed (w.nodes p).wire n) to ((w.nodes p).wire to) [] (at_listed (w.nodes p).wire n to to_n)))
+            (resent_is_out n registers _ w.nodes (inv_of start n registers events) p A.0 to to_n f i);
       }

@@ -13,20 +13,20 @@ use Rattle.reg_base.specs.Order.{In}
 use Rattle.reg_process.specs.Process.{State, Peer, no_peer, peer_at, seen_at, cast_at, time_of, queue_from, data_frames, Running, cast_made}
 use Rattle.reg_world.specs.Nodes.{Said, Node, Nodes, put}
 use Rattle.reg_base.proofs.Lists.{in_left, in_right, in_cases, in_insert, insert_new, insert_old, rising_insert, Apart}
-use Rattle.reg_world.proofs.lists.Bodies.{place_last}
+use Rattle.reg_world.proofs.lists.Bodies.{place_last, place_within}
 use Rattle.reg_process.proofs.Peers.{queue_other, queue_seen, queue_expected, length-queue}
 use Rattle.reg_world.proofs.one_order.Local.{before_of}
 use Rattle.reg_world.proofs.one_order.Links.{sent_more, link_sends, link_receives}
 use Rattle.reg_world.proofs.one_order.Worlds.{Inv, LinkOf, queues_of, count_of, count_own, count_other}
 use Rattle.reg_world.proofs.one_order.Acts.{Kept, Adds, known_same, known_more}
-use Rattle.reg_world.proofs.one_order.Frames.{data_no_got, data_numbered}
+use Rattle.reg_world.proofs.one_order.Frames.{data_no_got, data_numbered, data_there}
 use Rattle.reg_base.specs.Memory.{register_of}
 use Rattle.reg_world.proofs.one_order.NodeEvents.{put_same, put_other, next_is, loud_node, loud_kept, grown, last_own}
 
 module _ (n registers k : ℕ) (w : Nodes) (I : Inv n registers k w) (p : ℕ) (l : p < n) where
   -- the links on which a body goes out
-  pub queue_sends : (s1 : State) (body : Body) (frames : ℕ → List Frame) (replies : List Said) (peers0 : List Peer) → s1.peers ≡ queue_from 0 (w p).state.me body peers0 → length peers0 ≡ length (w p).state.peers → ((b : ℕ) → (slice_index_or peers0 b no_peer).first ≡ (peer_at (w p).state b).first) → ((b : ℕ) → (slice_index_or peers0 b no_peer).pending ≡ (peer_at (w p).state b).pending) → (w p).state.clock < time_of body → time_of body ≤ s1.clock → ((b i : ℕ) (d : Body) → In (Numbered i d) (frames b) → In (Numbered i d) (data_frames (w p).state (Some body) b)) → (b : ℕ) → b < n → (p ≡ b → ⊥) → LinkOf p b (loud_node (w p) s1 (body ∷ []) frames replies) (w b)
-  queue_sends s1 body frames replies peers0 ps len first pending late clock num b lb ne =
+  pub queue_sends : (s1 : State) (body : Body) (frames : ℕ → List Frame) (replies : List Said) (peers0 : List Peer) → s1.peers ≡ queue_from 0 (w p).state.me body peers0 → length peers0 ≡ length (w p).state.peers → ((b : ℕ) → (slice_index_or peers0 b no_peer).first ≡ (peer_at (w p).state b).first) → ((b : ℕ) → (slice_index_or peers0 b no_peer).pending ≡ (peer_at (w p).state b).pending) → (w p).state.clock < time_of body → time_of body ≤ s1.clock → ((b i : ℕ) (d : Body) → In (Numbered i d) (frames b) → In (Numbered i d) (data_frames (w p).state (Some body) b)) → ((b : ℕ) (f : Frame) → In f (data_frames (w p).state (Some body) b) → In f (frames b)) → (b : ℕ) → b < n → (p ≡ b → ⊥) → LinkOf p b (loud_node (w p) s1 (body ∷ []) frames replies) (w b)
+  queue_sends s1 body frames replies peers0 ps len first pending late clock num all b lb ne =
       let s = (w p).state in
       let Q = (w p).queued in
       let L = I.local p l in
@@ -45,6 +45,11 @@ module _ (n registers k : ℕ) (w : Nodes) (I : Inv n registers k w) (p : ℕ) (
       let at : i ≡ length Q = r.0 ∙ next_is Q s.clock (peer_at s b) (peer_at (w b).state p) ((w p).wire b) ((w b).wire p) K in
       ap (slice_get (Q ++ body ∷ [])) at ∙ (place_last Q body ∙ ap Some (sym r.1)))
       (λ d h. elim h [ inl e ↦ let z = ap time_of e in omega (arith, z) | inr f ↦ absurd f ])
+      (λ i d h le m.
+      let within = place_within (Q ++ body ∷ []) i d h in
+      let size = length-append Q (body ∷ []) in
+      let next = next_is Q s.clock (peer_at s b) (peer_at (w b).state p) ((w p).wire b) ((w b).wire p) K in
+      all b (Numbered i d) (data_there s body b i d (λ e. ne (sym (e ∙ L.me))) (omega (arith, within, size, le, next)) (elim m [ inl e ↦ e | inr f ↦ absurd f ])))
     where
       zero_add' : (b : ℕ) → 0 + b ≡ b
       zero_add' b = omega arith
@@ -96,7 +101,7 @@ module _ (n registers k : ℕ) (w : Nodes) (I : Inv n registers k w) (p : ℕ) (
         | inr i ↦ inl i
       ]))
       (sent_more registers x.queued s.clock t body (I.sent p l) (omega arith) (omega arith) reg)
-      (queue_sends s1 body frames replies s.peers refl refl (λ b. refl) (λ b. refl) (omega arith) (omega arith) (λ b i d h. h))
+      (queue_sends s1 body frames replies s.peers refl refl (λ b. refl) (λ b. refl) (omega arith) (omega arith) (λ b i d h. h) (λ b f h. h))
       (λ a la ne. queue_receives s1 (body ∷ []) frames replies a la ne (expected' a) (seen' a) (λ g. data_no_got s body a g))
       (known_same n (x.deliveries ++ s1.held) (x.deliveries ++ s1.held) _ (count_of y p) (queues_of (put w p y))
       (known_more n (x.deliveries ++ s.held) (x.deliveries ++ s1.held) (count_of x p) (queues_of (put w p y)) p body l (grown n registers k w I p l y (body ∷ []) refl)

@@ -7,7 +7,7 @@ use Rattle.reg_frames.specs.declared.bodies.Frame.TheVariants.{Numbered, Got}
 use Rattle.reg_base.specs.Order.{In}
 use Rattle.reg_world.specs.Laws.{names_register}
 use Rattle.reg_process.specs.Process.{Peer, time_of}
-use Rattle.reg_base.proofs.Lists.{in_cases}
+use Rattle.reg_base.proofs.Lists.{in_left, in_right, in_cases}
 use Rattle.reg_world.proofs.lists.Bodies.{place_first, place_back, place_split, place_within}
 
 -- what a process queued: the times rise, up to its clock
@@ -22,6 +22,7 @@ pub record Link (queued : List Body) (clock : ℕ) (outbox inbox : Peer) (forth 
   pub acked : outbox.first ≤ inbox.expected
   pub pending : outbox.pending ≡ drop outbox.first queued
   pub numbered : (i : ℕ) (b : Body) → In (Numbered i b) forth → slice_get queued i ≡ Some b
+  pub out : (i : ℕ) (b : Body) → slice_get queued i ≡ Some b → In (Numbered i b) forth
   pub counts : (c : ℕ) → In (Got c) back → c ≤ inbox.expected
   pub past : (i : ℕ) (b : Body) → slice_get queued i ≡ Some b → i < inbox.expected → time_of b ≤ inbox.seen
   pub future : (i : ℕ) (b : Body) → slice_get queued i ≡ Some b → inbox.expected ≤ i → inbox.seen < time_of b
@@ -47,12 +48,13 @@ sent_more registers queued clock clock' body S l m r =
     }
 
 -- the sender's side
-pub link_sends : (queued more : List Body) (clock clock' : ℕ) (outbox outbox' inbox : Peer) (put_frames new counts : List Frame) → Link queued clock outbox inbox put_frames counts → clock ≤ clock' → outbox'.first ≤ inbox.expected → outbox'.pending ≡ drop outbox'.first (queued ++ more) → ((i : ℕ) (b : Body) → In (Numbered i b) new → slice_get (queued ++ more) i ≡ Some b) → ((b : Body) → In b more → clock < time_of b) → Link (queued ++ more) clock' outbox' inbox (put_frames ++ new) counts
-link_sends queued more clock clock' outbox outbox' inbox put_frames new counts L l f p d t = record {
+pub link_sends : (queued more : List Body) (clock clock' : ℕ) (outbox outbox' inbox : Peer) (put_frames new counts : List Frame) → Link queued clock outbox inbox put_frames counts → clock ≤ clock' → outbox'.first ≤ inbox.expected → outbox'.pending ≡ drop outbox'.first (queued ++ more) → ((i : ℕ) (b : Body) → In (Numbered i b) new → slice_get (queued ++ more) i ≡ Some b) → ((b : Body) → In b more → clock < time_of b) → ((i : ℕ) (b : Body) → slice_get (queued ++ more) i ≡ Some b → length queued ≤ i → In b more → In (Numbered i b) new) → Link (queued ++ more) clock' outbox' inbox (put_frames ++ new) counts
+link_sends queued more clock clock' outbox outbox' inbox put_frames new counts L l f p d t o = record {
   within = omega (arith, L.within, length-append queued more);
   acked = f;
   pending = p;
   numbered = λ i b h. elim (in_cases (Numbered i b) put_frames new h) [ inl k ↦ place_first queued more i b (L.numbered i b k) | inr k ↦ d i b k ];
+  out = λ i b h. elim (place_split queued more i b h) [ inl k ↦ in_left (Numbered i b) put_frames new (L.out i b k) | inr k ↦ in_right (Numbered i b) put_frames new (o i b h k.0 k.1) ];
   counts = L.counts;
   past = λ i b h k. L.past i b (place_back queued more i b (let w = L.within in omega (arith, w)) h) k;
   future = λ i b h k. elim (place_split queued more i b h) [
@@ -69,6 +71,7 @@ link_receives queued clock outbox inbox inbox' put_frames counts new L e s g = r
   acked = let x = L.acked in omega (arith, x);
   pending = L.pending;
   numbered = L.numbered;
+  out = L.out;
   counts = λ c h. elim (in_cases (Got c) counts new h) [ inl k ↦ let x = L.counts c k in omega (arith, x) | inr k ↦ let x = g c k in omega (arith, x) ];
   past = λ i b h k. let x = L.past i b h (omega arith) in omega (arith, x);
   future = λ i b h k. let x = L.future i b h (omega arith) in omega (arith, x);
@@ -82,6 +85,7 @@ link_accepts registers queued clock outbox inbox inbox' put_frames counts new bo
   acked = let x = L.acked in omega (arith, x);
   pending = L.pending;
   numbered = L.numbered;
+  out = L.out;
   counts = λ c h. elim (in_cases (Got c) counts new h) [ inl k ↦ let x = L.counts c k in omega (arith, x) | inr k ↦ let x = g c k in omega (arith, x) ];
   past = λ i b h k. elim (last_or_before i (omega arith)) [
     | inl l ↦ let x = S.rises i inbox.expected b body h at l in omega (arith, x)

@@ -53,7 +53,8 @@ module _ (n registers k : ℕ) (w : Nodes) (I : Inv n registers k w) (p : ℕ) (
             (I.link p b l lb ne) (let z = S.clock in omega (arith, z)) (out b lb ne).0
             (subst (λ q. (peer_at s' b).pending ≡ drop (peer_at s' b).first q) (sym queued_is) (out b lb ne).1)
             (λ i d h. subst (λ q. slice_get q i ≡ Some d) (sym queued_is) (num b lb ne i d h))
-            (λ d h. absurd h);
+            (λ d h. absurd h)
+            (λ i d h le m. absurd m);
         receives = λ a la ne. link_receives (w a).queued (w a).state.clock (peer_at (w a).state p) (peer_at x.state a) (peer_at s' a) ((w a).wire p) (x.wire a) (frames a)
             (I.link a p la l ne) (S.expected a) (S.seen a) (got a la ne);
         known = known_same n (x.deliveries ++ x.state.held) _ (count_of x p) (count_of y p) (queues_of (put w p y))

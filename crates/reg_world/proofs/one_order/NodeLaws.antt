@@ -56,6 +56,7 @@ empty_inv n registers = record {
         acked = omega (arith, e, f);
         pending = ap (λ q. q.pending) x ∙ sym (drop_nil (peer_at (first_state n registers a) b).first);
         numbered = λ i d h. absurd h;
+        out = λ i d h. absurd (let bad : ⊥ = cc in bad);
         counts = λ c h. absurd h;
         past = λ i d h. absurd (let bad : ⊥ = cc in bad);
         future = λ i d h. absurd (let bad : ⊥ = cc in bad);

@@ -14,7 +14,7 @@ use Rattle.reg_process.specs.Process.{State, Peer, no_peer, peer_at, seen_at, st
 use Rattle.reg_world.specs.Nodes.{Nodes, op_in, after_result, after_step, take_step, step_of}
 use Rattle.reg_world.proofs.one_order.Worlds.{Inv}
 use Rattle.reg_world.proofs.one_order.Acts.{Kept}
-use Rattle.reg_world.proofs.one_order.Frames.{got_no_numbered, got_count, numbered_in, numbered_no_got, place_take, place_drop}
+use Rattle.reg_world.proofs.one_order.Frames.{got_no_numbered, got_count, numbered_in, resent_no_got, none_to_me, place_take, place_drop}
 use Rattle.std.specs.Option.{is_some}
 use Rattle.reg_front.specs.declared.starts.Start.{Start}
 use Rattle.reg_front.specs.declared.starts.Start.TheVariants.{Cast as Casts, CastAndAnswer as CastsAndAnswers, Look as Looks, Hold as Holds}
@@ -35,6 +35,22 @@ module _ (n registers k : ℕ) (w : Nodes) (I : Inv n registers k w) (p : ℕ) (
   outboxes : (b : ℕ) → b < n → (p ≡ b → ⊥) → ((peer_at (w p).state b).first ≤ (peer_at (w b).state p).expected) × ((peer_at (w p).state b).pending ≡ drop (peer_at (w p).state b).first (w p).queued)
   outboxes b lb ne = let K = I.link p b l lb ne in (K.acked, K.pending)
 
+  -- what a tick puts again was queued
+  again_queued : (b : ℕ) → b < n → (p ≡ b → ⊥) → (i : ℕ) (d : Body) → In (Numbered i d) (resent (w p).state b) → slice_get (w p).queued i ≡ Some d
+  again_queued b lb ne i d = cond_both (b == (w p).state.me) [] (numbered_from (peer_at (w p).state b).first (take MOST_RESENT (peer_at (w p).state b).pending)) (λ fs. In (Numbered i d) fs → slice_get (w p).queued i ≡ Some d)
+      (λ _ h. absurd h)
+      (λ _ h.
+      let r = numbered_in (peer_at (w p).state b).first (take MOST_RESENT (peer_at (w p).state b).pending) i d h in
+      let at = place_take MOST_RESENT (peer_at (w p).state b).pending r.0 d r.2 in
+      place_drop (peer_at (w p).state b).first (w p).queued i r.0 d r.1 (subst (λ q. slice_get q r.0 ≡ Some d) (outboxes b lb ne).1 at))
+
+  -- and so it was put before
+  pub resent_is_out : (b : ℕ) → b < n → (f : Frame) → In f (resent (w p).state b) → In f ((w p).wire b)
+  resent_is_out b lb (Got c) h = absurd (resent_no_got (w p).state b c h)
+  resent_is_out b lb (Numbered i d) h =
+      let ne : p ≡ b → ⊥ = λ e. none_to_me (w p).state b (Numbered i d) (sym e ∙ sym (I.local p l).me) h in
+      (I.link p b l lb ne).out i d (again_queued b lb ne i d h)
+
   called_kept : (op : Op) (st : Start) → register_of op < registers → Kept n registers k p w (after_result (w p) op (called (w p).state op st))
   called_kept op Casts reg = cast_kept n registers k w I p l op (Some (Own (stamp_at ((w p).state.clock + 1) (w p).state.me) op)) _ reg
   called_kept op CastsAndAnswers reg = cast_kept n registers k w I p l op None _ reg
@@ -49,15 +65,7 @@ module _ (n registers k : ℕ) (w : Nodes) (I : Inv n registers k w) (p : ℕ) (
   tick_kept op =
       quiet_kept n registers k w I p l (w p).state (resent (w p).state) _
       (record { me = refl; clock = refl; held = refl; size = refl; seen = λ r. refl; expected = λ r. refl }) outboxes
-      (λ b lb ne i d. cond_both (b == (w p).state.me) [] (numbered_from (peer_at (w p).state b).first (take MOST_RESENT (peer_at (w p).state b).pending)) (λ fs. In (Numbered i d) fs → slice_get (w p).queued i ≡ Some d)
-      (λ _ h. absurd h)
-      (λ _ h.
-      let r = numbered_in (peer_at (w p).state b).first (take MOST_RESENT (peer_at (w p).state b).pending) i d h in
-      let at = place_take MOST_RESENT (peer_at (w p).state b).pending r.0 d r.2 in
-      place_drop (peer_at (w p).state b).first (w p).queued i r.0 d r.1 (subst (λ q. slice_get q r.0 ≡ Some d) (outboxes b lb ne).1 at)))
-      (λ a la ne c. cond_both (a == (w p).state.me) [] (numbered_from (peer_at (w p).state a).first (take MOST_RESENT (peer_at (w p).state a).pending)) (λ fs. In (Got c) fs → c ≤ (peer_at (w p).state a).expected)
-      (λ _ h. absurd h)
-      (λ _ h. absurd (numbered_no_got _ _ c h)))
+      again_queued (λ a la ne c h. absurd (resent_no_got (w p).state a c h))
 
   accepted_kept : (o : Op) (a : ℕ) → a < n → (a ≡ p → ⊥) → (body : Body) → slice_get (w a).queued (peer_at (w p).state a).expected ≡ Some body → Kept n registers k p w (after_result (w p) o (accepted (w p).state a body))
   accepted_kept o a la ne (Cast t op) next = taken_cast_kept n registers k w I p l a la ne t op _ next

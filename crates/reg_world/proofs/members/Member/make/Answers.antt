@@ -1,8 +1,9 @@
-use Rattle.std.proofs.Common.{sym, subst, ◌∙◌}
+use Rattle.std.proofs.Common.{ℕ, ◌<◌, [], length, get_or, sym, subst}
 use Rattle.reg_process.specs.Sending.{puts_of}
-use Rattle.reg_process.specs.Events.{Kept, Briefs, Refused}
-use Rattle.reg_world.specs.Members.{MayAct, Acts}
-use Rattle.std.specs.Prelude.{IfOk, MatchResult}
+use Rattle.reg_process.specs.Process.{resent}
+use Rattle.reg_world.specs.Sent.{AreOn}
+use Rattle.reg_world.specs.Members.{Standing, MayAct, Acts}
+use Rattle.std.specs.Prelude.{IfOk}
 use Rattle.reg_process.specs.declared.steps.Step.{Step}
 use Rattle.reg_process.specs.declared.steps.Step.TheVariants.{Call, Take}
 use Rattle.reg_world.proofs.code.Briefly.{brief_is, only_memory, frames_within, acted}
@@ -35,3 +36,7 @@ returns-in_ok-brief-in-Call g c =
     subst (λ (e : Step). IfOk c.put.result (λ o. Acts g.F.FrontEnd.start c.args.self.now e o.cast o.delivered.items o.reply c.put.new.self)) (sym c.in-Call.is)
     (acted g.F.FrontEnd.start c.self.inside.process (g.W.WireStore.wires c.self.inside.wires) c.args.self.now (Call c.in-Call.op) c.self.view_is may (puts_of b.sends) b.effect.cast b.effect.delivered.items b.effect.reply c.call_brief.new.self made
     c.put.result (λ o. o.cast) (λ o. o.delivered.items) (λ o. o.reply) c.put.new.self c.put.ensures.put c.put.ensures.rest)
+
+pub put_again-requires-clause-out : goal.put_again-requires-clause-out
+put_again-requires-clause-out g c =
+    subst (λ (s : Standing). (to : ℕ) → to < length s.state.peers → AreOn (get_or s.wires to []) (resent s.state to)) (sym c.self-in-Tick.view_is) c.requires.out

@@ -12,7 +12,7 @@ returns-then-not-is_empty-clause-items g c =
     let common = c.args.common.now.items in
     let some : 0 < length own.items = grind (arith, nat_tests) in
     on_ok_weaker c.push.result
-    (λ put. put_own (take c.self.inside.shared common) own.items c.push.new.items.items c.args.item some put ∙ ap (λ (s : Strip g.row.T.Denot). items_in common s ++ c.args.item ∷ []) c.self.view_is)
+    (λ put. put_own (take c.self.inside.shared common) own.items c.push.new.items.items (c.args.item ∷ []) some put ∙ ap (λ (s : Strip g.row.T.Denot). items_in common s ++ c.args.item ∷ []) c.self.view_is)
     c.push.ensures.put
 
 pub returns-then-self-len-clause-items : goal.returns-then-self-len-clause-items

@@ -17,7 +17,7 @@ returns-clause-pushed g c =
     let is : d ≡ get_or strips r d = c.index_mut.ensures.value in
     on_ok_weaker c.put.result
     (λ put. subst (λ (z : List (List g.row.T.Denot)). map (items_in new) (set strips r c.put.new.self) ≡ set z r (get_or z r [] ++ s ∷ [])) c.self.view_is
-    (put_on_one old new strips r c.put.new.self d s c.put.ensures.longer c.self.invariant l
+    (put_on_one old new strips r c.put.new.self d (s ∷ []) c.put.ensures.longer c.self.invariant l
     (put ∙ ap (λ x. items_in old x ++ s ∷ []) is)))
     c.put.ensures.items
 
