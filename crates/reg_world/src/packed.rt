@@ -57,7 +57,7 @@ impl<A: Allocator + Copy> Tables<A> {
         }
     }
 
-    /// Whether so many bodies are kept under the numbers from `first` on, and each data frame is told by its number.
+    /// Whether so many bodies are kept under the numbers from `first` on, and no frame is kept whole.
     fn has_all(&self, first: u64, count: u64) -> bool
         ensures none { result ≡ true → self.now.others ≡ [] }
         ensures there { result ≡ true → first + count ≤ length self.now.bodies }
@@ -133,7 +133,7 @@ impl<A: Allocator + Copy> Tables<A> {
     }
 }
 
-/// From this number on there may be no `MOST_RESENT` numbers that a word can tell.
+/// The last number from which on a word can tell each of `MOST_RESENT` numbers.
 const MOST_FIRST: u64 = FIRST_COUNT as u64 - MOST_RESENT;
 
 /// All frames that a process ever put for each process, each as a word of four bytes. How much memory they take is not

@@ -31,8 +31,9 @@ pub trait WireStore<A: Allocator + Copy>: Drop {
         requires { to < length (wires self.old) }
         ensures { OnOk result (wires self.new ≡ slice_set (wires self.old) to (slice_index_or (wires self.old) to [] ++ frame.now ∷ [])) };
 
-    /// Puts data frames for a process again: so many, of the numbers from `first` on. Says whether it did so. Else
-    /// nothing has changed, and each is to be put by itself. Where memory is refused nothing is claimed of the wires.
+    /// Puts data frames again that were put for this process before: so many, of the numbers from `first` on. Says
+    /// whether it did so. Else nothing has changed, and each is to be put by itself. Nothing is claimed of the wires
+    /// where a frame wasn't put before, and where memory is refused.
     fn put_again(&mut self, to: u8, first: u64, count: u64) -> Result<bool, AllocError>
         requires within { to < length (wires self.old) }
         requires few { count ≤ MOST_RESENT }
