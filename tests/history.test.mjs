@@ -11,12 +11,18 @@ import { TOP, made } from "../tools/programs.mjs";
 
 const judged = (text, ...flags) => made("awshow", ["judge", ...flags], text);
 
-/** The lines of an answer but for that on the first value, with lines of the text in the place of events. */
-function told(output, history) {
+/**
+ * The lines of an answer but for that on the first value, with lines of the text in the place of events, and its values
+ * in the place of those that a report has.
+ */
+function told(output, history, values) {
+  const words = new Map([...values ?? []].map(([number, value]) => [`value ${value}`, history.words.values[number]]));
   const place = line => /^ {2}(by|under way) (?:line|event) (\d+): /.exec(line);
   return output.trimEnd().split("\n").filter(line => !line.startsWith("first value: ")).map(line => {
     const [, word, number] = place(line) || [];
     const own = history && number ? history.events[+number].line : number;
+    if (line.startsWith("  possible: "))
+      return "possible: " + line.slice(12).split(", ").map(one => words.get(one) ?? one.replace("value ", "")).sort();
     return word ? `${word} ${own}` : line.replace(/^(key|register) .*: /, "register: ");
   });
 }
@@ -31,7 +37,7 @@ function agree(text) {
   const own = judged(report.text);
   assert.equal(own.error, "", text);
   assert.equal(own.status, native.status, text);
-  const lines = told(own.output, history), wanted = told(native.output, null);
+  const lines = told(own.output, history, report.values), wanted = told(native.output, null);
   const isSerial = one => one.startsWith("serial order: "), isUnderWay = one => one.startsWith("under way ");
   const kept = all => all.filter(one => !isUnderWay(one) && (report.isOwn || !isSerial(one)));
   assert.deepEqual(kept(lines), kept(wanted), text);

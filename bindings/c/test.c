@@ -90,7 +90,7 @@ static void histories(void) {
     struct tellwydar_lengths lengths;
     uint8_t status = tellwydar_check((const uint8_t *)judged_answer, strlen(judged_answer), (uint8_t *)verdicts, sizeof verdicts, (uint8_t *)judged_line, 0, &lengths);
     expect("which the check accepts", status == 0 && lengths.output == strlen("serial yes\npoints yes\n") && memcmp(verdicts, "serial yes\npoints yes\n", lengths.output) == 0);
-    expect("it is not", judged(edn, 0) == 1 && begins(judged_answer, "no\nkey null: not linearizable\n  by line 2: process 1 read 0\n") && judged_line[0] == 0);
+    expect("it is not", judged(edn, 0) == 1 && begins(judged_answer, "no\nkey null: not linearizable\n  by line 2: process 1 read 0\n  possible: 1\n") && judged_line[0] == 0);
     expect("and has no report", judged(edn, 1) == 1 && begins(judged_answer, "no\n"));
     expect("it is refused", judged("{}\n", 0) == 1 && judged_answer[0] == 0 && strcmp(judged_line, "refused: line 1: wanted process, an integer or a string\n") == 0);
 }

@@ -87,7 +87,7 @@ def test_with_the_lock_left_out_a_read_is_stale() -> None:
     run(lambda: recorder.read(1, "x"))
     judged = judge(recorder.rows)
     assert not judged.linearizable
-    assert judged.text.startswith('no\nkey "x": not linearizable\n  by line 4: process 1 read null\n')
+    assert judged.text.startswith('no\nkey "x": not linearizable\n  by line 4: process 1 read null\n  possible: 1\n')
 
 
 def test_the_same_under_the_lock() -> None:

@@ -16,6 +16,9 @@ pub mod Merging
 pub mod Locality
 pub mod Fronts
 pub mod Unexplained
+pub mod Replacing
+pub mod Trying
+pub mod Telling
 pub mod Renaming
 pub mod Lists
 pub mod Seating

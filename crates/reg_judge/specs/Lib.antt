@@ -3,6 +3,8 @@ pub mod Completing
 pub mod Stages
 pub mod Searching
 pub mod Judging
+pub mod Possible
+pub mod Candidates
 pub mod Parts
 pub mod Alike
 pub mod Standing
@@ -12,4 +14,5 @@ pub mod Faults
 pub mod Reported
 pub mod Answers
 pub mod Firsts
+pub mod Instead
 pub mod Parting

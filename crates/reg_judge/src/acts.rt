@@ -31,7 +31,7 @@ pub struct Act {
 }
 
 /// The value that an operation leaves, None where it leaves all as it is.
-fn made_alone(op: Op) -> Option<u64>
+pub(crate) fn made_alone(op: Op) -> Option<u64>
     ensures { result ≡ made_of op }
 {
     match op {
@@ -43,7 +43,7 @@ fn made_alone(op: Op) -> Option<u64>
 }
 
 /// The value that an operation leaves where it has this answer, None where it leaves all as it is.
-fn made(op: Op, answer: Answer) -> Option<u64>
+pub(crate) fn made(op: Op, answer: Answer) -> Option<u64>
     ensures { result ≡ made_by op answer }
 {
     match op {

@@ -44,7 +44,7 @@ impl From<AllocError> for PointsFault {
 
 /// How far a search came that found no order.
 #[derive(Drop)]
-struct Stuck<A: Allocator + Copy = Global> {
+pub(crate) struct Stuck<A: Allocator + Copy = Global> {
     /// The place of the entry up to which it came.
     place: usize,
     /// What it had placed before that entry.
@@ -53,7 +53,7 @@ struct Stuck<A: Allocator + Copy = Global> {
 
 /// Whether there is a point order.
 #[derive(Drop)]
-enum Decided<A: Allocator + Copy = Global> {
+pub(crate) enum Decided<A: Allocator + Copy = Global> {
     /// This one.
     Order(Vec<Point, A>),
     /// None.
@@ -61,7 +61,7 @@ enum Decided<A: Allocator + Copy = Global> {
 }
 
 /// A point order of a history, or that there is none.
-fn decide<A: Allocator + Copy>(
+pub(crate) fn decide<A: Allocator + Copy>(
     alloc: A,
     history: &History<A>,
     limit: u32,
@@ -88,7 +88,7 @@ fn decide<A: Allocator + Copy>(
 }
 
 /// The first entries of a history.
-fn first_part<A: Allocator + Copy>(
+pub(crate) fn first_part<A: Allocator + Copy>(
     alloc: A,
     history: &History<A>,
     count: usize,

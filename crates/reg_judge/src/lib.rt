@@ -9,14 +9,16 @@ mod found;
 mod judge;
 pub mod laws;
 mod order;
+mod possible;
 mod rulings;
 mod search;
 mod stages;
 mod trail;
 
 pub use judge::{MOST_STAGES, PointsFault, judge_points};
+pub use possible::possible_answers;
 pub use rulings::{
-    Act, JudgeReport, Judgement, Naming, Row, RuleFault, Ruling, RulingFault, Serial, Sought, Step,
-    Unseated, history_of, judge_report, rule_all, ruling_text, seek, seek_serial, serial_text,
-    yes_or_no,
+    Act, JudgeReport, Judgement, NOT_LOOKED_FOR, Naming, POSSIBLE, Row, RuleFault, Ruling,
+    RulingFault, Serial, Sought, Step, Unseated, history_of, judge_report, possible_all, rule_all,
+    ruling_text, seek, seek_serial, serial_text, yes_or_no,
 };

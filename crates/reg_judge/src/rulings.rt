@@ -6,6 +6,7 @@ mod details;
 mod faults;
 mod firsts;
 mod history_rows;
+mod instead;
 mod keys;
 mod reported;
 mod rows;
@@ -15,8 +16,9 @@ mod serial;
 
 pub use answers::yes_or_no;
 pub use command::JudgeReport;
-pub use details::{ruling_text, serial_text};
+pub use details::{NOT_LOOKED_FOR, POSSIBLE, ruling_text, serial_text};
 pub use faults::{RuleFault, RulingFault};
+pub use instead::possible_all;
 pub use keys::{Ruling, rule_all};
 pub use reported::{Judgement, judge_report};
 pub use rows::{Act, Row, Step};

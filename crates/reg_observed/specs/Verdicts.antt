@@ -4,6 +4,7 @@ use Rattle.std.specs.List.{list_any}
 use Rattle.reg_checkers.specs.declared.entries.Entry.{Entry}
 use Rattle.reg_checkers.specs.declared.entries.Point.{Point}
 use Rattle.reg_checkers.specs.Orders.{IsPointOrder}
+use Rattle.reg_judge.specs.Instead.{AreToldOf}
 use Rattle.reg_judge.specs.Judging.{HasPointOrder}
 use Rattle.reg_judge.specs.Rulings.{AreRuled, RulesSerial}
 use Rattle.reg_judge.specs.Standing.{IsStood}
@@ -63,6 +64,7 @@ pub record AreJudged {A : Type 0} (processes keys : ℕ) (rows : List Row) (v : 
   pub registers : v.history.shape.registers ≡ registers_for keys
   pub points : AreSought (registers_for keys) v.history.entries v.points
   pub each : AreRuled processes keys rows v.keys.items
+  pub instead : AreToldOf processes rows v.keys.items v.possible.items
   pub serial : SerialStands processes (registers_for keys) rows v.points v.serial
 
 -- the events are of something that is told, with its words

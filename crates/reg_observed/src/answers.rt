@@ -59,11 +59,9 @@ fn answer_by_report(
         return Ok(Answer::Text(text_of(global, heard, &verdict)?));
     }
     let Verdict {
-        first: _,
         history,
         points,
-        keys: _,
-        serial: _,
+        ..
     } = verdict;
     match points {
         Some(points) => Ok(Answer::Report(report_of(global, history, points)?)),

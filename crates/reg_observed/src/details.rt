@@ -2,9 +2,11 @@
 use crate::events::{Event, Moment};
 use crate::heard::Heard;
 use crate::judging::Verdict;
+use crate::rows::number_of;
 use crate::words::Words;
 use itoa::Buffer;
-use reg_judge::{Act, Ruling, ruling_text, serial_text};
+use reg_base::Answer;
+use reg_judge::{Act, NOT_LOOKED_FOR, POSSIBLE, Ruling, ruling_text, serial_text};
 use std::alloc::{AllocError, Allocator, Global};
 
 fn put_number(out: &mut String, number: u32) -> Result<(), AllocError> {
@@ -92,8 +94,50 @@ fn under_way(
     Ok(calls)
 }
 
-/// Puts what is known of the answer of this number, at the key, that no point order explains.
-fn put_place(
+/// Puts the line of the answer of this number, by which there is no point order.
+fn put_by(out: &mut String, heard: &Heard, at: u32) -> Result<(), AllocError> {
+    let Some(event) = heard.events.get(at as usize).copied() else {
+        return Ok(());
+    };
+    out.push_str("  by ")?;
+    put_event(out, heard, event, event.act != Act::Write)
+}
+
+/// Puts an answer, where the first value of registers has this number.
+fn put_answer(
+    out: &mut String,
+    heard: &Heard,
+    first: u32,
+    answer: Answer,
+) -> Result<(), AllocError> {
+    match answer {
+        Answer::Done => out.push_str("done"),
+        Answer::Unequal => out.push_str("unequal"),
+        Answer::Value(value) => put_word(out, &heard.words.values, number_of(first, value)),
+    }
+}
+
+/// Puts what might have been answered instead, if that is told.
+fn put_possible(
+    out: &mut String,
+    heard: &Heard,
+    first: u32,
+    possible: Option<&Option<Vec<Answer>>>,
+) -> Result<(), AllocError> {
+    let Some(Some(answers)) = possible else {
+        return out.push_str(NOT_LOOKED_FOR);
+    };
+    let mut before = POSSIBLE;
+    for answer in answers {
+        out.push_str(before)?;
+        put_answer(out, heard, first, *answer)?;
+        before = ", ";
+    }
+    out.push_str("\n")
+}
+
+/// Puts a line for each call of another process at the key that has no sure end before the event of this number.
+fn put_under_way(
     global: Global,
     out: &mut String,
     heard: &Heard,
@@ -103,10 +147,7 @@ fn put_place(
     let Some(event) = heard.events.get(at as usize).copied() else {
         return Ok(());
     };
-    out.push_str("  by ")?;
-    put_event(out, heard, event, event.act != Act::Write)?;
-    let calls = under_way(global, &heard.events, key, at)?;
-    for call in &calls {
+    for call in &under_way(global, &heard.events, key, at)? {
         if call.process != event.process {
             out.push_str("  under way ")?;
             put_event(out, heard, *call, call.act != Act::Read)?;
@@ -116,19 +157,22 @@ fn put_place(
 }
 
 /// Puts what was found out of each key.
-fn put_keys(
+fn put_keys<A: Allocator + Copy>(
     global: Global,
     out: &mut String,
     heard: &Heard,
-    rulings: &[Ruling],
+    verdict: &Verdict<A>,
 ) -> Result<(), AllocError> {
     let mut key = 0u32;
-    for ruling in rulings {
+    for ruling in &verdict.keys {
         out.push_str("key ")?;
         put_word(out, &heard.words.keys, key)?;
         out.push_str(ruling_text(*ruling))?;
         if let Ruling::Not { at } = *ruling {
-            put_place(global, out, heard, key, at)?;
+            put_by(out, heard, at)?;
+            let possible = verdict.possible.get(key as usize);
+            put_possible(out, heard, verdict.first, possible)?;
+            put_under_way(global, out, heard, key, at)?;
         }
         key = key.saturating_add(1);
     }
@@ -142,7 +186,7 @@ pub(crate) fn details<A: Allocator + Copy>(
     verdict: &Verdict<A>,
 ) -> Result<String, AllocError> {
     let mut out = String::new(global);
-    put_keys(global, &mut out, heard, &verdict.keys)?;
+    put_keys(global, &mut out, heard, verdict)?;
     out.push_str("first value: ")?;
     put_word(&mut out, &heard.words.values, verdict.first)?;
     out.push_str("\n")?;

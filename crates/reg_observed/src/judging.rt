@@ -5,6 +5,7 @@ ghost use Rattle.reg_observed.specs.Rows.{rows_from};
 ghost use Rattle.reg_observed.specs.Reading.{AreEvents};
 ghost use Rattle.reg_observed.specs.Told.{Telling};
 ghost use Rattle.reg_observed.specs.Turns.{first_wrong, none_running};
+ghost use Rattle.reg_judge.specs.Instead.{AreToldOf};
 ghost use Rattle.reg_judge.specs.Rulings.{AreRuled, RulesSerial};
 ghost use Rattle.reg_judge.specs.Standing.{IsStood};
 
@@ -14,10 +15,12 @@ use crate::heard::Heard;
 use crate::histories::{history_in, shape_of, unruled};
 use crate::rows::rows_of;
 use crate::turns::check_turns;
+use reg_base::Answer;
 use reg_base::limits::{MOST_EVENTS, MOST_REGISTERS};
 use reg_checkers::{History, Point};
 use reg_judge::{
-    Naming, Row, Ruling, Serial, Sought, Unseated, history_of, rule_all, seek, seek_serial,
+    Naming, Row, Ruling, Serial, Sought, Unseated, history_of, possible_all, rule_all, seek,
+    seek_serial,
 };
 use std::alloc::{Allocator, Global};
 
@@ -32,6 +35,8 @@ pub struct Verdict<A: Allocator + Copy> {
     pub points: Option<Vec<Point, A>>,
     /// Of each key, by number.
     pub keys: Vec<Ruling>,
+    /// What might have been answered at the first answer of each key that none explains, if it was looked for.
+    pub possible: Vec<Option<Vec<Answer>>>,
     /// Whether it has a serial order, None where it has a point order, which is one.
     pub serial: Option<Serial>,
 }
@@ -83,6 +88,21 @@ fn rulings_of(global: Global, heard: &Heard, rows: &[Row]) -> Result<Vec<Ruling>
     }
 }
 
+/// What might have been answered instead, of each key.
+fn possible_of(
+    global: Global,
+    heard: &Heard,
+    rows: &[Row],
+    rulings: &[Ruling],
+) -> Result<Vec<Option<Vec<Answer>>>, JudgeFault>
+    ensures { IfOk result (λ v. AreToldOf (length heard.now.words.processes) rows.now rulings.now v.items) }
+{
+    match possible_all(global, heard.words.processes.count(), rows, rulings) {
+        Ok(told) => Ok(told),
+        Err(fault) => Err(unruled(&heard.events, fault)),
+    }
+}
+
 /// A point order of the history, None where there is none.
 fn points_of<A: Allocator + Copy>(
     alloc: A,
@@ -111,6 +131,7 @@ fn judge_rows<A: Allocator + Copy>(
 {
     let history = history_in(alloc, heard, rows)?;
     let keys = rulings_of(global, heard, rows)?;
+    let possible = possible_of(global, heard, rows, &keys)?;
     let points = points_of(alloc, heard, &history)?;
     let serial = match points {
         Some(_) => None,
@@ -121,6 +142,7 @@ fn judge_rows<A: Allocator + Copy>(
         history,
         points,
         keys,
+        possible,
         serial,
     })
 }

@@ -23,6 +23,17 @@ pub(crate) fn value_of(first: u32, number: u32) -> u64
     }
 }
 
+/// The number of the value that registers have by this number, where `first` is the number of their first value: 0
+/// where there is none.
+pub(crate) fn number_of(first: u32, value: u64) -> u32 {
+    match u32::try_from(value) {
+        Ok(0) => first,
+        Ok(number) if number == first => 0,
+        Ok(number) => number,
+        Err(_) => 0,
+    }
+}
+
 fn answer_of(first: u32, event: Event) -> Answer
     ensures { result ≡ answer_in first event }
 {

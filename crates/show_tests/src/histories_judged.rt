@@ -25,6 +25,7 @@ pub(crate) const STALE: &str = "\
 pub(crate) const STALE_TOLD: &str = "no
 key \"x\": not linearizable
   by line 7: process 2 read 1
+  possible: 2
   under way line 3: process 1 write 2
 first value: 0
 point order: no
@@ -47,6 +48,7 @@ const TWO_KEYS_TOLD: &str = "no
 key \"x\": linearizable
 key \"y\": not linearizable
   by line 4: process 1 read 7
+  possible: 0
 first value: 0
 point order: no
 serial order: no
@@ -77,6 +79,7 @@ const FIVE: &str = "\
 const FIVE_TOLD: &str = "no
 key \"x\": not linearizable
   by line 2: process 0 read 5
+  possible: 0
 first value: 0
 point order: no
 serial order: no
@@ -92,6 +95,7 @@ serial order: yes
 const STRING_FIRST_TOLD: &str = "no
 key \"x\": not linearizable
   by line 2: process 0 read 5
+  possible: \"5\"
 first value: \"5\"
 point order: no
 serial order: no
@@ -137,6 +141,7 @@ const UNEQUAL: &str = "\
 pub(crate) const UNEQUAL_TOLD: &str = "no
 key \"x\": not linearizable
   by line 2: process 0 cas unequal
+  possible: done
 first value: 0
 point order: no
 serial order: no

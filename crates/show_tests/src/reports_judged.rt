@@ -33,6 +33,7 @@ end
 const STALE_TOLD: &str = "no
 register x: not linearizable
   by event 5: p1 #0 read x: value 1
+  possible: value 2
 point order: no
 serial order: yes
 ";
@@ -57,6 +58,7 @@ end
 const LOCK_TOLD: &str = "no
 register lock: not linearizable
   by event 3: p1 #0 swap lock 2: value 0
+  possible: value 1
 point order: no
 serial order: no
 ";
@@ -140,6 +142,7 @@ end
 const TWO_REGISTERS_TOLD: &str = "no
 register x: not linearizable
   by event 6: p1 #2 read x: value 0
+  possible: value 5
   under way event 0: p0 #0 write x 5
 register y: linearizable
 point order: no
@@ -164,6 +167,7 @@ end
 const COMPARED_TOLD: &str = "no
 register x: not linearizable
   by event 2: p1 #0 cas x 0 8: done
+  possible: unequal
 point order: no
 serial order: no
 ";

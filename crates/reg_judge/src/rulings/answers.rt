@@ -83,11 +83,7 @@ fn answer_by_report<A: Allocator + Copy>(
     if !has_order(&judgement.sought) {
         return Ok(Answer::Text(text_of(alloc, &report, &judgement)?));
     }
-    let Judgement {
-        sought,
-        rulings: _,
-        serial: _,
-    } = judgement;
+    let Judgement { sought, .. } = judgement;
     match sought {
         Sought::Points(points) => Ok(Answer::Report(pointed(alloc, report, points)?)),
         Sought::None { place: _ } => unreachable!(),

@@ -78,32 +78,87 @@ fn answer_at(entries: &[Entry], event: u32) -> Option<(OpId, Answer)> {
     None
 }
 
-/// A call as it is told, without its line feed.
+/// The operation that was called under this id.
+fn op_of(entries: &[Entry], sought: OpId) -> Option<Op> {
+    for entry in entries {
+        if let Entry::Called { at: _, id, op } = *entry {
+            if id == sought {
+                return Some(op);
+            }
+        }
+    }
+    None
+}
+
+/// A call, or the answer to it, as it is told, without its line feed.
 fn call_text<A: Allocator + Copy>(
     alloc: A,
     report: &Report<A>,
     call: Call,
-    at: u32,
 ) -> Result<String<A>, AllocError> {
     let op = OpLine {
         name: name_of_op(report.names(), call.op),
         op: call.op,
     };
-    let (process, number) = (call.id.process, call.id.number);
+    let (at, process, number) = (call.at, call.id.process, call.id.number);
     format!(in alloc; "event {at}: p{process} #{number} {op}")
 }
 
-/// The end of the line of an answer.
+/// An answer as it is told.
 fn answer_text<A: Allocator + Copy>(alloc: A, answer: Answer) -> Result<String<A>, AllocError> {
     match answer {
-        Answer::Done => format!(in alloc; ": done\n"),
-        Answer::Unequal => format!(in alloc; ": unequal\n"),
-        Answer::Value(value) => format!(in alloc; ": value {value}\n"),
+        Answer::Done => String::from_str(alloc, "done"),
+        Answer::Unequal => String::from_str(alloc, "unequal"),
+        Answer::Value(value) => format!(in alloc; "value {value}"),
     }
 }
 
-/// Puts what is known of the answer at the event of this number, on the register, that no point order explains.
-fn put_place<A: Allocator + Copy>(
+/// The start of the line on what might have been answered instead, and the line where that was not looked for.
+pub const POSSIBLE: &str = "  possible: ";
+
+pub const NOT_LOOKED_FOR: &str = "  possible: not looked for, there may be too many\n";
+
+/// Puts what might have been answered instead, if that is told.
+fn put_possible<A: Allocator + Copy>(
+    alloc: A,
+    out: &mut String<A>,
+    possible: Option<&Option<Vec<Answer, A>>>,
+) -> Result<(), AllocError> {
+    let Some(Some(answers)) = possible else {
+        return out.push_str(NOT_LOOKED_FOR);
+    };
+    let mut before = POSSIBLE;
+    for answer in answers {
+        out.push_str(before)?;
+        out.push_str(answer_text(alloc, *answer)?.as_str())?;
+        before = ", ";
+    }
+    out.push_str("\n")
+}
+
+/// Puts the line of the answer at the event of this number, by which there is no point order.
+fn put_by<A: Allocator + Copy>(
+    alloc: A,
+    out: &mut String<A>,
+    report: &Report<A>,
+    at: u32,
+) -> Result<(), AllocError> {
+    let entries = report.history().entries();
+    let Some((id, answer)) = answer_at(entries, at) else {
+        return Ok(());
+    };
+    let Some(op) = op_of(entries, id) else {
+        return Ok(());
+    };
+    out.push_str("  by ")?;
+    out.push_str(call_text(alloc, report, Call { at, id, op })?.as_str())?;
+    out.push_str(": ")?;
+    out.push_str(answer_text(alloc, answer)?.as_str())?;
+    out.push_str("\n")
+}
+
+/// Puts a line for each other call on the register that has no answer before the event of this number.
+fn put_under_way<A: Allocator + Copy>(
     alloc: A,
     out: &mut String<A>,
     report: &Report<A>,
@@ -111,21 +166,11 @@ fn put_place<A: Allocator + Copy>(
     at: u32,
 ) -> Result<(), AllocError> {
     let entries = report.history().entries();
-    let Some((id, answer)) = answer_at(entries, at) else {
-        return Ok(());
-    };
-    let calls = under_way(alloc, entries, register, at)?;
-    for call in &calls {
-        if call.id == id {
-            out.push_str("  by ")?;
-            out.push_str(call_text(alloc, report, *call, at)?.as_str())?;
-            out.push_str(answer_text(alloc, answer)?.as_str())?;
-        }
-    }
-    for call in &calls {
-        if call.id != id {
+    let answered = answer_at(entries, at);
+    for call in &under_way(alloc, entries, register, at)? {
+        if answered.is_none_or(|(id, _)| id != call.id) {
             out.push_str("  under way ")?;
-            out.push_str(call_text(alloc, report, *call, call.at)?.as_str())?;
+            out.push_str(call_text(alloc, report, *call)?.as_str())?;
             out.push_str("\n")?;
         }
     }
@@ -138,15 +183,21 @@ fn put_register<A: Allocator + Copy>(
     out: &mut String<A>,
     report: &Report<A>,
     register: u16,
-    ruling: Ruling,
+    judgement: &Judgement<A>,
 ) -> Result<(), AllocError> {
+    let place = usize::from(register);
+    let Some(ruling) = judgement.rulings.get(place) else {
+        return Ok(());
+    };
     out.push_str("register ")?;
     out.push_str(name_at(report.names(), register))?;
-    out.push_str(ruling_text(ruling))?;
-    match ruling {
-        Ruling::Linearizable => Ok(()),
-        Ruling::Not { at } => put_place(alloc, out, report, register, at),
+    out.push_str(ruling_text(*ruling))?;
+    if let Ruling::Not { at } = *ruling {
+        put_by(alloc, out, report, at)?;
+        put_possible(alloc, out, judgement.possible.get(place))?;
+        put_under_way(alloc, out, report, register, at)?;
     }
+    Ok(())
 }
 
 /// The lines of an answer after its first word.
@@ -156,10 +207,8 @@ pub(crate) fn details<A: Allocator + Copy>(
     judgement: &Judgement<A>,
 ) -> Result<String<A>, AllocError> {
     let mut out = String::new(alloc);
-    let mut register = 0u16;
-    for ruling in &judgement.rulings {
-        put_register(alloc, &mut out, report, register, *ruling)?;
-        register = register.saturating_add(1);
+    for register in 0..report.history().shape().registers() {
+        put_register(alloc, &mut out, report, register as u16, judgement)?;
     }
     out.push_str(order_text(&judgement.sought))?;
     out.push_str(serial_text(judgement.serial))?;

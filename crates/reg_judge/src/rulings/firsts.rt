@@ -52,7 +52,7 @@ fn is_answer(entry: Entry, event: u32) -> bool
 }
 
 /// The place of an answer of this event.
-fn answer_place(entries: &[Entry], event: u32) -> Option<usize>
+pub(crate) fn answer_place(entries: &[Entry], event: u32) -> Option<usize>
     ensures { IfSome result (IsAnswerAt entries.now event) }
 {
     for place in 0..entries.len() {

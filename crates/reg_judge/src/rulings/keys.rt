@@ -60,7 +60,7 @@ fn parts_of<A: Allocator + Copy>(
 }
 
 /// The history of rows of one key, under any names.
-fn alone<A: Allocator + Copy>(
+pub(crate) fn alone<A: Allocator + Copy>(
     alloc: A,
     processes: usize,
     rows: &[Row],

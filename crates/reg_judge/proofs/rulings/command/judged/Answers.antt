@@ -29,7 +29,7 @@ returns-clause-ok g c =
       order = found_in judgement.sought;
       rulings = judgement.rulings.items;
       serial = judgement.serial;
-      judged = c.in_ok-judgement.ensures;
+      judged = c.in_ok-judgement.ensures.judged;
       says = sym c.has_order-found.ensures;
       written = (answer_text c.in_ok-answer.answer, c.in_ok-answer.ensures, refl);
     }
