@@ -12,7 +12,7 @@ use reg_checkers::{Entry, Fact, History, HistoryFault, fact_of, table_of};
 use std::alloc::{AllocError, Allocator};
 
 /// The most entries that are gone through in search of the answers that an operation might have had.
-const MOST_ENTRIES: usize = 1_048_576;
+const MOST_ENTRIES: usize = 4_194_304;
 
 /// The most stages of a register between two entries in that search.
 const MOST_STAGES: u32 = 4_096;
