@@ -40,6 +40,15 @@ fn magnitude(digits: &[u8], radix: u64) -> Option<u64> {
     if is_behind_digit { Some(number) } else { None }
 }
 
+/// The number that these hexadecimal digits say.
+pub(crate) fn hexadecimal(digits: &[u8]) -> Option<u64> {
+    if digits.iter().all(|b| b.is_ascii_hexdigit()) {
+        magnitude(digits, 16)
+    } else {
+        None
+    }
+}
+
 /// Without the sign at the start, and whether it is a minus.
 fn unsigned(word: &[u8]) -> (&[u8], bool) {
     match word.split_first() {

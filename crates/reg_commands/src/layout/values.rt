@@ -1,6 +1,6 @@
 //! Steps over the keys and values of a document.
-use crate::layout::bytes::{behind, first, is_control, skip_blank, skip_spaces};
-use crate::layout::scalars::scalar_at;
+use crate::layout::bytes::{behind, first, is_control, line_end, skip_blank, skip_spaces};
+use crate::layout::scalars::{hexadecimal, scalar_at};
 
 /// How deep arrays and tables may lie in each other.
 const MOST_OPEN: u32 = 64;
@@ -48,6 +48,31 @@ impl Open {
     }
 }
 
+/// Behind an escape, after its backslash; None where it is none.
+fn behind_escape(bytes: &[u8]) -> Option<&[u8]> {
+    let (kind, rest) = bytes.split_first()?;
+    let count = match *kind {
+        b'x' => 2,
+        b'u' => 4,
+        b'U' => 8,
+        b'b' | b'e' | b'f' | b'n' | b'r' | b't' | b'"' | b'\\' => return Some(rest),
+        _ => return None,
+    };
+    let number = hexadecimal(rest.get(..count)?)?;
+    char::from_u32(u32::try_from(number).ok()?)?;
+    rest.get(count..)
+}
+
+/// The same in a text over several lines, where a backslash at the end of a line leaves out what is blank from there on.
+fn behind_long_escape(bytes: &[u8]) -> Option<&[u8]> {
+    let line = skip_spaces(bytes);
+    if line_end(line) > 0 {
+        line.get(line_end(line)..)
+    } else {
+        behind_escape(bytes)
+    }
+}
+
 /// Behind three quotes that end a text over several lines, with up to two more of its own before them.
 fn behind_three(bytes: &[u8], quote: u8) -> Option<&[u8]> {
     let mut rest = bytes;
@@ -56,12 +81,10 @@ fn behind_three(bytes: &[u8], quote: u8) -> Option<&[u8]> {
         if quotes >= 3 {
             return rest.get(quotes..);
         }
-        let count = if quote == b'"' && first(rest) == b'\\' {
-            2
-        } else {
-            1
+        rest = match rest {
+            [b'\\', escape @ ..] if quote == b'"' => behind_long_escape(escape)?,
+            _ => behind(rest),
         };
-        rest = rest.get(count..)?;
     }
     None
 }
@@ -77,8 +100,10 @@ fn behind_one(bytes: &[u8], quote: u8) -> Option<&[u8]> {
         if byte == quote {
             return Some(behind(rest));
         }
-        let count = if quote == b'"' && byte == b'\\' { 2 } else { 1 };
-        rest = rest.get(count..)?;
+        rest = match rest {
+            [b'\\', escape @ ..] if quote == b'"' => behind_escape(escape)?,
+            _ => behind(rest),
+        };
     }
     None
 }
