@@ -63,7 +63,7 @@ fn behind_escape(bytes: &[u8]) -> Option<&[u8]> {
     rest.get(count..)
 }
 
-/// The same in a text over several lines, where a backslash at the end of a line leaves out what is blank from there on.
+/// The same in a text over several lines, where a backslash at the end of a line leaves out what is blank behind it.
 fn behind_long_escape(bytes: &[u8]) -> Option<&[u8]> {
     let line = skip_spaces(bytes);
     if line_end(line) > 0 {

@@ -49,7 +49,8 @@ fn possible_at<A: Allocator + Copy>(
     }
 }
 
-/// What might have been answered by what was found out of a key. None where it is linearizable, or it wasn't looked for.
+/// What might have been answered, by what was found out of a key. None where it is linearizable, or that wasn't looked
+/// for.
 fn possible_by<A: Allocator + Copy>(
     alloc: A,
     processes: usize,
