@@ -841,16 +841,19 @@ class Nodes(unittest.TestCase):
         self.addresses = free_addresses(2)
         a, b = self.start(0, sync=True), self.start(1, sync=True)
         a.write("x", 4, 5)
-        synced, sent, append, send = [], [], a._story.file.append, a._road.send
+        while a.pending() or b.pending():
+            time.sleep(0.01)
+        time.sleep(0.1)  # (the last counts are on the disk)
+        synced, sent, append, send = 0, [], a._story.file.append, a._road.send
 
         def watched(data, sync):
+            nonlocal synced
             append(data, sync)
-            if sync:
-                synced.append(a._story.node.logged)
+            synced = len(entries_of(self.path(0))) if sync else synced
 
         def sending(to, message):
             if message[33:34] == FRAMES:
-                sent.append((a._story.node.durable, a._story.node.logged))
+                sent.append((a._story.node.durable, synced))
             send(to, message)
 
         a._story.file.append, a._road.send = watched, sending
@@ -858,7 +861,7 @@ class Nodes(unittest.TestCase):
             a.write("x", value, 5)
             self.assertEqual(b.swap("x", 100, 5), value)
         self.assertTrue(sent)
-        self.assertTrue(all(durable == logged and durable in synced for durable, logged in sent), sent)
+        self.assertTrue(all(durable == on_disk for durable, on_disk in sent), sent)
         self.merged(2)
 
     def test_what_is_raised_in_a_call_leaves_a_log_to_go_on_with(self):

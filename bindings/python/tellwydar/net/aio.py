@@ -1,8 +1,10 @@
 """A node for programs with `asyncio`."""
 import asyncio
+import time
 from typing import Any, Callable, Optional, Union
 
 from .. import Answer
+from .core import Paused
 from .node import Node
 
 
@@ -13,15 +15,21 @@ class AsyncNode:
         await node.write("x", 5)
 
     Where a task is cancelled that waits for an answer, its operation goes on, and the calls behind it wait until it is
-    answered. What `Node` raises is raised here. The node itself stays its owner's, who closes it.
+    answered. One whose time is up by then is told `Paused`, and wasn't made. What `Node` raises is raised here. The node itself stays its owner's, who closes it.
     """
 
     def __init__(self, node: Node):
         self.node, self._turn = node, asyncio.Lock()
 
-    async def _call(self, function: Callable[..., Any], *given: object) -> Any:
-        await self._turn.acquire()
-        work = asyncio.ensure_future(asyncio.to_thread(function, *given))
+    async def _call(self, timeout: Optional[float], function: Callable[..., Any], *given: object) -> Any:
+        end = None if timeout is None else time.monotonic() + timeout
+        try:
+            async with asyncio.timeout(timeout):
+                await self._turn.acquire()
+        except TimeoutError:
+            raise Paused() from None
+        left = None if end is None else max(0.0, end - time.monotonic())
+        work = asyncio.ensure_future(asyncio.to_thread(function, *given, left))
         work.add_done_callback(self._ended)
         return await asyncio.shield(work)
 
@@ -31,24 +39,24 @@ class AsyncNode:
             work.exception()  # (where nobody waits any more, nobody is told)
 
     async def read(self, register: Union[str, int], timeout: Optional[float] = None) -> int:
-        value: int = await self._call(self.node.read, register, timeout)
+        value: int = await self._call(timeout, self.node.read, register)
         return value
 
     async def write(self, register: Union[str, int], value: int, timeout: Optional[float] = None) -> None:
-        await self._call(self.node.write, register, value, timeout)
+        await self._call(timeout, self.node.write, register, value)
 
     async def swap(self, register: Union[str, int], value: int, timeout: Optional[float] = None) -> int:
-        old: int = await self._call(self.node.swap, register, value, timeout)
+        old: int = await self._call(timeout, self.node.swap, register, value)
         return old
 
     async def compare_and_swap(
         self, register: Union[str, int], expected: int, value: int, timeout: Optional[float] = None
     ) -> bool:
         """Writes the value where the expected one is there, and tells whether it was."""
-        was: bool = await self._call(self.node.compare_and_swap, register, expected, value, timeout)
+        was: bool = await self._call(timeout, self.node.compare_and_swap, register, expected, value)
         return was
 
     async def wait(self, timeout: Optional[float] = None) -> Answer:
         """The answer of the operation whose caller's time was up."""
-        answer: Answer = await self._call(self.node.wait, timeout)
+        answer: Answer = await self._call(timeout, self.node.wait)
         return answer

@@ -19,7 +19,7 @@ class TimedOut(Exception):
 
 class Paused(Exception):
     """Nothing was called in time: a chapter ended meanwhile, not all other nodes were heard, or they were too far
-    behind with what this node cast."""
+    behind with what this node cast. With `asyncio` also: a call before it went on."""
 
 
 class Closed(Exception):

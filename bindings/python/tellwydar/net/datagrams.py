@@ -31,7 +31,7 @@ def _share(bound: socket.socket, other: socket.socket) -> None:
 
 
 class DatagramRoad:
-    """`send` is called under the node's lock, and `receive` by its receiver alone.
+    """Once a node serves, its receiver alone calls all but `wake`.
 
     Each peer has a socket of its own, to which the system brings what comes from the peer's address. All else comes to the socket for strangers,
     of which few datagrams are opened before the peers are heard again: a flood from elsewhere takes no peer's room, and little of its time."""

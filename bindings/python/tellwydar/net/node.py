@@ -1,10 +1,11 @@
 """A node: one process, its log, and a road to the others.
 
-What it decides is decided by a proved node (`tellwydar.Node`). Under one lock a step is made there and its entry is
-written; then the proved node is told that the entry is durable, and hands out frames and answer. The caller's thread
-does so for a call; one receiver thread does so for what comes in, some messages at a time with one write for all, and
-makes the ticks. It also greets the others, since no call is cast before all were heard, and ends a chapter and begins
-the next one (`chapters`): callers wait meanwhile.
+What it decides is decided by a proved node (`tellwydar.Node`). Under one lock steps are made there: by the caller's
+thread for a call, and by one receiver thread for what comes in, some messages at a time, and for the ticks. The
+receiver's thread alone has to do with the disk, and holds no lock meanwhile: so no caller waits for the disk for longer
+than it wants to. It writes the entries of all steps that were made; then the proved node is told that they are durable,
+and hands out frames and answers. It also greets the others, since no call is cast before all were heard, and ends a
+chapter and begins the next one (`chapters`): callers wait meanwhile.
 """
 import threading
 import time
@@ -24,6 +25,8 @@ from .status import Status, status_of
 from .story import Story
 
 AnyRoad = Union[Road, DatagramRoad]
+_HOLD = 0.002  # seconds for which counts are held
+_MOMENT = 0.1  # seconds that a caller gives the disk at least, where nothing else is between it and its answer
 
 
 class Node:
@@ -67,56 +70,79 @@ class Node:
         self._road: Union[Road, DatagramRoad, LossyRoad] = road if lossy is None else lossy(road)
         self._lock = threading.Lock()
         self._answered = threading.Condition(self._lock)
-        self._failed, self._closed, self._idle, self._is_opening = "", False, False, True
+        self._failed, self._closed, self._is_opening = "", False, True
         self._is_held_back = False  # a caller waits until others have come nearer
         self._held_till: Optional[float] = None
         self._peers = Peers(self._story, self._road, self._complain)
         self._thread = threading.Thread(target=self._serve, name="tellwydar", daemon=True)
         self._thread.start()
 
-    # --- chapters, and who is there
+    # --- entries and chapters: the receiver's thread, which holds no lock while the disk has to do with it
 
-    def _turn(self) -> None:
-        """Where the chapter is over, the next one begins."""
-        if self._story.turn():
-            self._held_till = None  # a count that was held is of the last chapter
-            self._is_opening = True
-            self._peers = Peers(self._story, self._road, self._complain)
+    def _commit(self, must: bool = False) -> None:
+        """Writes the entries down that were made; once they are durable their frames go out, and then their answer is
+        told.
+
+        With `sync` that is on the disk. Counts alone are no reason to wait for that, unless it `must` be: they are held
+        until something else is one, or for 2 ms."""
+        story = self._story
+        with self._lock:
+            if self._failed or not story.lines and not (must and self._held_till):
+                return
+            is_held = self._sync and not must and not story.is_urgent()
+            lines, force, logged = story.made(self._sync and not is_held)
+        story.write(lines, force)
+        with self._lock:
+            if is_held:
+                self._held_till = self._held_till or time.monotonic() + _HOLD
+            elif not self._failed:
+                self._held_till = None
+                self._hand_out(logged)
+
+    def _end_chapter(self, is_look: bool) -> None:
+        """Where the chapter ends the others are told how far this node has come, and where it is over the next one
+        begins. Nobody calls meanwhile."""
+        story = self._story
+        with self._lock:
+            if not story.ending or story.lines or self._failed:
+                return
+            is_quiet, is_over = story.state().quiet, story.is_over()
+        if is_quiet:
+            story.say_quiet()
+        following = story.begin_next() if is_over else None
+        with self._lock:
+            if is_look:
+                self._peers.tell_own()
+            if following:
+                story.turn(*following)
+                self._held_till = None  # a count that was held is of the last chapter
+                self._is_opening = True
+                self._peers = Peers(story, self._road, self._complain)
 
     def _write_opening(self) -> None:
         """Process 0 writes what the last chapter ended with, one register after another."""
         story = self._story
-        while (due := story.next_opening()) is not None and not story.running and story.node.has_heard_all:
-            story.call(Write(*due))
+        while True:
+            with self._lock:
+                due = story.next_opening()
+                if due is None or story.running or not story.node.has_heard_all:
+                    if self._is_opening and not story.is_opening():
+                        self._is_opening = False
+                        self._answered.notify_all()
+                    return
+                story.call(Write(*due))
             self._commit()
-        if self._is_opening and not story.is_opening():
-            self._is_opening = False
-            self._answered.notify_all()
 
-    # --- steps, all under the lock
+    # --- under the lock
 
-    def _commit(self, must: bool = False, op: Optional[Op] = None) -> None:
-        """Writes the entries down, the last of which may call `op`; once they are durable their frames go out, and then
-        their answer is told.
-
-        With `sync` that is on the disk. Counts alone are no reason to wait for that, unless it `must` be: they are held
-        until something else is one, or for 2 ms. Nor is a read that is answered at once, if it is alone: it puts no
-        frame, so nobody can miss its entry."""
+    def _hand_out(self, logged: int) -> None:
+        """Has go out what waits for no more entries than these."""
         story = self._story
-        if not story.lines and not (must and self._held_till):
-            return
-        if self._sync and not must and not story.is_urgent():
-            story.write(False)
-            self._held_till = self._held_till or time.monotonic() + 0.002
-            return
-        is_alone = isinstance(op, Read) and self._held_till is None
-        story.write(self._sync and not (is_alone and not story.node.busy))
-        self._held_till = None
         out: Dict[int, List[bytes]] = {}
-        for output in story.outputs():
+        for output in story.outputs(logged):
             for to, frame in output.frames:
                 out.setdefault(to, []).append(frame)
-            if output.reply is not None and story.called > story.opened():
+            if output.reply is not None and story.calls() > 0:
                 self._answer = output.reply
         for to, frames in out.items():
             self._send(to, frames)
@@ -163,9 +189,8 @@ class Node:
         with self._lock:
             while not self._has_called(op):
                 self._sleep(end, Paused)
-            if self._idle and not self._is_at_rest():
-                self._idle = False
-                self._road.wake()
+            if end is not None and not self._story.node.busy:
+                end = max(end, time.monotonic() + _MOMENT)
             return self._wait(end)
 
     def _has_called(self, op: Op) -> bool:
@@ -182,7 +207,7 @@ class Node:
             return False
         try:
             story.call(op)
-            self._commit(op=op)
+            self._road.wake()
         except Refused as why:  # nothing has changed, but it may have stopped for good
             if str(why) == "unheard":
                 return False
@@ -244,7 +269,7 @@ class Node:
     def so_far(self) -> Tuple[int, bool]:
         """How many operations were called, in earlier runs too, and whether one of them goes on or has an answer to be fetched."""
         with self._lock:
-            called = self._story.called - self._story.opened()
+            called = self._story.calls()
             return self._story.called_before + called, self._story.running and called > 0 or self._answer is not None
 
     def status(self) -> Status:
@@ -280,42 +305,40 @@ class Node:
     # --- the receiver's side
 
     def _serve(self) -> None:
-        look_at, due = time.monotonic() + self._look_every, None
-        while True:
-            with self._lock:
-                if self._closed or self._failed:
-                    break
-                self._idle = self._is_at_rest()
-                ends = [t for t in (None if self._idle else look_at, due, self._held_till) if t is not None]
-            broken = ""
-            messages: List[Tuple[Optional[int], bytes]] = []
-            try:
-                messages = self._road.receive(max(0.0, min(ends) - time.monotonic()) if ends else None)
-            except Exception as why:
-                broken = repr(why)
-            now = time.monotonic()
-            with self._lock:
-                if self._closed or self._failed:
-                    break
-                self._idle = False
-                if broken:
-                    self._fail(f"the road broke: {broken}")
-                    break
-                try:
+        look_at, messages = time.monotonic() + self._look_every, []  # type: float, List[Tuple[Optional[int], bytes]]
+        try:
+            while True:
+                now = time.monotonic()
+                is_look = now >= look_at
+                with self._lock:
+                    if self._closed or self._failed:
+                        break
                     for key, message in messages:
                         self._heard(key, message, now)
                     must = self._held_till is not None and now >= self._held_till
-                    if now >= look_at:
+                    if is_look:
                         must |= self._look()
                         look_at = now + self._look_every
-                    self._commit(must)
+                self._commit(must)
+                self._end_chapter(is_look)
+                self._write_opening()
+                with self._lock:
                     if self._is_held_back and not self._story.is_far_ahead():
                         self._answered.notify_all()
-                    self._turn()
-                    self._write_opening()
-                    due = self._road.pump(now)
-                except Exception as why:  # one of core.STOPS, or what nobody thought of: stop, before anything goes out
-                    self._fail(str(why) or repr(why))
+                    ends = [self._held_till, self._road.pump(now), None if self._is_at_rest() else look_at]
+                messages = self._receive(min((it for it in ends if it is not None), default=None))
+                if not self._story.is_owed:
+                    self._commit()  # a read that was answered at once isn't held up by what came meanwhile
+            self._commit(True)  # (what was called is in the log, if the node hasn't failed)
+        except Exception as why:  # one of core.STOPS, or what nobody thought of: stop, before anything goes out
+            with self._lock:
+                self._fail(str(why) or repr(why))
+
+    def _receive(self, until: Optional[float]) -> List[Tuple[Optional[int], bytes]]:
+        try:
+            return self._road.receive(None if until is None else max(0.0, until - time.monotonic()))
+        except Exception as why:
+            raise NodeFailed(f"the road broke: {why!r}") from None
 
     def _is_at_rest(self) -> bool:
         """Whether nothing is to be done until somebody else does something."""
@@ -324,14 +347,11 @@ class Node:
         return not is_busy and story.node.pending == 0
 
     def _look(self) -> bool:
-        """Looks at the links, and tells whether there was a tick."""
+        """Looks at the links, and tells whether all entries are to be durable then."""
         tick = self._peers.look()
         if tick:
             self._story.step(self._story.node.tick)
-        if self._story.ending:
-            self._commit(True)
-            self._peers.tell_own()
-        return tick
+        return tick or self._story.ending
 
     def _heard(self, key: Optional[int], data: bytes, now: float) -> None:
         message = self._peers.post.opened(key, data)

@@ -64,10 +64,8 @@ class Peers:
         return tick
 
     def tell_own(self) -> None:
-        """Tells all how far this node has come, what it knows too when it is resumed."""
+        """Tells all how far this node has come."""
         state = self._story.state()
-        if state.quiet:
-            self._story.say_quiet()
         for to, start in self.post.starts.items():
             self._road.send(to, start + STATE + state.data())
 

@@ -93,7 +93,7 @@ class Complaints:
 
 
 class Road:
-    """`send` is called under the node's lock, `receive` by its receiver alone: no socket is in two threads at a time."""
+    """Once a node serves, its receiver alone calls all but `wake`: no socket is in two threads at a time."""
 
     most_bytes = MOST_BYTES
 
@@ -229,8 +229,6 @@ class LossyRoad:
             self.count += 1
             due = time.monotonic() + self.random.expovariate(1 / self.delay)
             heapq.heappush(self.late, (due, self.count, to, message))
-            if self.late[0][1] == self.count:
-                self.road.wake()
         else:
             self.road.send(to, message)
 

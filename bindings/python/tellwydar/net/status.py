@@ -23,7 +23,7 @@ class Status(NamedTuple):
     front: str
     chapter: int
     operations: int  # that its callers called, in earlier runs and chapters too
-    entries: int  # of this chapter's log
+    entries: int  # of this chapter's log, those too that are on their way to the disk
     running: bool  # whether an operation goes on
     peers: List[Peer]
 
@@ -62,6 +62,6 @@ def status_of(story: Story, beats: Dict[int, Beat], now: float) -> Status:
         known = story.node.known(process)
         silent = None if beat.came_at is None else round(now - beat.came_at, 3)
         peers.append(Peer(process, beat.is_heard, silent, known.next - known.first, beat.is_long_silent()))
-    head, called = story.head, story.called_before + story.called - story.opened()
+    head, called = story.head, story.called_before + story.calls()
     front = head.front.name.lower().replace("_", "-")
     return Status(head.me, front, head.chapter, called, story.node.logged, story.running, peers)

@@ -5,7 +5,7 @@ import re
 import secrets
 from typing import Callable, Dict, Iterator, List, Optional, Tuple
 
-from .. import Node, Op, Output
+from .. import Node, Op, Output, Read
 from .chapters import State, is_over, opening_of
 from .core import NodeFailed
 from .logfile import HEAD_LINES, Head, LogFault, LogFile, keep, lines_of, open_log, say_cut
@@ -13,7 +13,10 @@ from .room import Room
 
 
 class Story:
-    """The chapters of a node up to the one that goes on."""
+    """The chapters of a node up to the one that goes on.
+
+    Threads share it under a lock of its owner. What has to do with the disk, `write`, `say_quiet` and `begin_next`, is
+    for one thread alone, which holds no lock meanwhile: so nobody waits for the disk who doesn't want to."""
 
     def __init__(self, head: Head, path: str, room: Room, resume: bool, say: Callable[[str], None]):
         self._path, self._room, self._say = path, room, say
@@ -22,7 +25,16 @@ class Story:
         chapter = self._last_chapter() if resume else 0
         if chapter > 0:
             self._end_again(head._replace(chapter=chapter - 1))
-        self._open(head._replace(chapter=chapter), not resume)
+        head = head._replace(chapter=chapter)
+        text = self._open(head, not resume)
+        try:
+            self._go_on(head, text, False)
+            self.ending |= os.path.exists(self._quiet_of(chapter))
+            self.file.cut(self.node.whole)
+        except BaseException:
+            self.file.close()
+            raise
+        say_cut(self.log_of(chapter), text, self.node, say)
 
     def log_of(self, chapter: int) -> str:
         """The path of a chapter's log."""
@@ -52,8 +64,9 @@ class Story:
             raise LogFault(f"{path}: no number of calls")
         self.called_before = int(count[1])
 
-    def _open(self, head: Head, is_new: bool) -> None:
-        """Goes on with a chapter's log, in a new file or in one that is there. One without a whole head never began."""
+    def _open(self, head: Head, is_new: bool) -> bytes:
+        """Has the file of a chapter's log, a new one or one that is there, and gives its text. One without a whole head
+        never began, and is begun."""
         path = self.log_of(head.chapter)
         try:
             file = LogFile(path, is_new)
@@ -64,13 +77,11 @@ class Story:
             if head.never_began(text):
                 text = head._replace(begun=secrets.randbits(64)).text()
                 file.begin(text)
-            self._go_on(head, text, False)
-            file.cut(self.node.whole)
         except BaseException:
             file.close()
             raise
         self.file = file
-        say_cut(path, text, self.node, self._say)
+        return text
 
     def _go_on(self, head: Head, text: bytes, is_over: bool) -> None:
         """Goes on with the chapter of this log. In `head` all is known but what was drawn for the log."""
@@ -87,8 +98,8 @@ class Story:
         # (a name is never behind a number, so these words stand in each line of a call once, and in no other)
         self.called = text.count(b" %d call " % head.me, 0, node.whole)
         self._queued, self._held = self._bodies(), 0  # bodies that went out, and steps of which nothing did yet
-        self.ending = os.path.exists(self._quiet_of(head.chapter)) or self._is_full(node.logged)
-        self._is_said_quiet = False
+        self.ending, self._is_said_quiet = self._is_full(node.logged), False
+        self.is_owed = False  # an entry isn't on the disk, or on its way there, before which nothing else goes out
 
     # --- steps
 
@@ -96,10 +107,19 @@ class Story:
         """Makes a step of the node, whose entry is to be written."""
         self.lines.append(make(*given))
         self._held += 1
+        self.is_owed = True
 
     def call(self, op: Op) -> None:
+        was_owed = self.is_owed
         self.step(self.node.call, op)
+        if isinstance(op, Read) and not self.node.busy:
+            self.is_owed = was_owed  # it is answered and puts no frame, so nobody can miss its entry
         self.running, self.called = True, self.called + 1
+
+    def calls(self) -> int:
+        """How many calls of this chapter weren't made to write what the last one ended with."""
+        opened = min(self.called, len(self.opening)) if self.head.me == 0 else 0
+        return self.called - opened
 
     def _bodies(self) -> int:
         """How many bodies the node queued for each other one: as many for all."""
@@ -110,17 +130,24 @@ class Story:
         before, self._queued = self._queued, self._bodies()
         return self._queued > before or self.running and not self.node.busy
 
-    def write(self, sync: bool) -> None:
-        """Writes the entries down that were made."""
+    def made(self, force: bool) -> Tuple[bytes, bool, int]:
+        """The entries that were made and are to be written now; whether they are to be on the disk then, as with
+        `force` all are but for a read that is answered at once, if nothing before it waits for that; and how many
+        entries the log has with them."""
+        lines, self.lines = self.lines, []
+        force &= self.is_owed
+        self.is_owed &= not force
+        return b"".join(lines), force, self.node.logged
+
+    def write(self, lines: bytes, force: bool) -> None:
+        """Writes entries down, and with `force` has the log on the disk."""
         try:
-            self.file.append(b"".join(self.lines), sync)
+            self.file.append(lines, force)
         except OSError as why:
             raise NodeFailed(f"the log can't be written: {why}") from None
-        self.lines.clear()
 
-    def outputs(self) -> Iterator[Output]:
-        """What goes out now that all entries are durable."""
-        logged = self.node.logged
+    def outputs(self, logged: int) -> Iterator[Output]:
+        """What goes out now that so many entries are durable."""
         self.node.mark_durable(logged)
         self.ending |= self._is_full(logged)
         while self._held > 0 and (output := self.node.hand_out()) is not None:
@@ -147,15 +174,13 @@ class Story:
 
     def is_opening(self) -> bool:
         """Whether the values that the last chapter ended with aren't all written here: then nothing else is called."""
-        return len(self.opening) > 0 and self.node.delivered < len(self.opening)
+        if not self.opening:
+            return False
+        return self.node.delivered < len(self.opening) or self.running and self.calls() == 0
 
     def next_opening(self) -> Optional[Tuple[int, int]]:
         """What this node writes next of what the last chapter ended with."""
         return self.opening[self.called] if self.head.me == 0 and self.called < len(self.opening) else None
-
-    def opened(self) -> int:
-        """How many of this node's calls wrote what the last chapter ended with."""
-        return min(self.called, len(self.opening)) if self.head.me == 0 else 0
 
     def heard(self, sender: int, state: State) -> None:
         """Another node told how far it has come: somebody has little room left."""
@@ -165,32 +190,38 @@ class Story:
     def say_quiet(self) -> None:
         """Before it is told that this node calls nothing more in this chapter, that is kept for when it is resumed."""
         if not self._is_said_quiet:
-            keep(self._quiet_of(self.head.chapter), b"%d\n" % (self.called_before + self.called - self.opened()))
+            keep(self._quiet_of(self.head.chapter), b"%d\n" % (self.called_before + self.calls()))
             self._is_said_quiet = True
 
     def _end(self) -> None:
         """The chapter is over: what the next one begins with, and what is told to those who don't know it yet."""
-        self.called_before += self.called - self.opened()
+        self.called_before += self.calls()
         self.last_state = self.state()._replace(quiet=True, at_rest=True).data()
         self.last_head = self.head
         self.opening = opening_of([self.node.register(r) for r in range(len(self.head.registers))])
 
-    def turn(self) -> bool:
-        """Begins the next chapter where this one is over, and tells whether it was."""
-        if not self.ending:
-            return False
+    def is_over(self) -> bool:
+        """Whether the chapter is over: all were told or heard that nobody calls any more, and has what anybody put."""
         self.states[self.head.me] = self.state()
-        if not is_over(self.states, self.head.processes):
-            return False
-        self.write(True)  # before there is a log behind it, this one is on the disk
+        return is_over(self.states, self.head.processes)
+
+    def begin_next(self) -> Tuple[Head, bytes]:
+        """The chapter is over, and the log of the next one begins."""
+        last = self.file
+        self.write(b"", True)  # before there is a log behind it, this one is on the disk
         self.say_quiet()
-        node, file = self.node, self.file
+        head = self.head._replace(chapter=self.head.chapter + 1)
+        text = self._open(head, True)
+        last.close()
+        return head, text
+
+    def turn(self, head: Head, text: bytes) -> None:
+        """Goes on in the next chapter, with its log that has begun."""
+        last = self.node
         self._end()
-        self._open(self.head._replace(chapter=self.head.chapter + 1), True)
-        node.close()
-        file.close()
-        self._say(f"chapter {self.head.chapter} begins, in {self.log_of(self.head.chapter)}")
-        return True
+        self._go_on(head, text, False)
+        last.close()
+        self._say(f"chapter {head.chapter} begins, in {self.log_of(head.chapter)}")
 
     def close(self) -> None:
         self.file.close()
