@@ -121,8 +121,10 @@ class Hanging:
 
     def rest(self):
         """Waits until nothing is on its way, and the last counts are on the disks."""
-        self.until(lambda: not any(it.pending() for it in self.nodes))
+        is_at_rest = lambda: not any(it.pending() or it._story.lines or it._held_till for it in self.nodes)
+        self.until(is_at_rest)
         time.sleep(0.1)
+        self.until(is_at_rest)
 
     def merged(self):
         for node in self.nodes:
@@ -203,7 +205,7 @@ class Calls(Hanging, unittest.TestCase):
         with mock.patch.object(node, "_HOLD", 2 * LONG):
             a, b = self.begin(2, "local-read")
             self.assertEqual(b.swap("x", 1, 5), 0)
-            self.until(lambda: a._held_till is not None)
+            self.until(lambda: a._held_till and not a.pending() and not b.pending())
             disk = self.hang_in_force(a)
             self.late(TimedOut, a.read, "x", 0.2)
             self.assertTrue(disk.hangs.is_set())

@@ -841,10 +841,10 @@ class Nodes(unittest.TestCase):
         self.addresses = free_addresses(2)
         a, b = self.start(0, sync=True), self.start(1, sync=True)
         a.write("x", 4, 5)
-        while a.pending() or b.pending():
+        while a.pending() or b.pending() or a._held_till:
             time.sleep(0.01)
-        time.sleep(0.1)  # (the last counts are on the disk)
-        synced, sent, append, send = 0, [], a._story.file.append, a._road.send
+        sent, append, send = [], a._story.file.append, a._road.send
+        synced = len(entries_of(self.path(0)))
 
         def watched(data, sync):
             nonlocal synced

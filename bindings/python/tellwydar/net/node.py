@@ -100,11 +100,11 @@ class Node:
                 self._hand_out(logged)
 
     def _end_chapter(self, is_look: bool) -> None:
-        """Where the chapter ends the others are told how far this node has come, and where it is over the next one
+        """While the chapter ends the others are told how far this node has come, and where it is over the next one
         begins. Nobody calls meanwhile."""
         story = self._story
         with self._lock:
-            if not story.ending or story.lines or self._failed:
+            if story.lines or self._failed:
                 return
             is_quiet, is_over = story.state().quiet, story.is_over()
         if is_quiet:
@@ -126,7 +126,7 @@ class Node:
             with self._lock:
                 due = story.next_opening()
                 if due is None or story.running or not story.node.has_heard_all:
-                    if self._is_opening and not story.is_opening():
+                    if not story.is_opening():
                         self._is_opening = False
                         self._answered.notify_all()
                     return
@@ -320,8 +320,10 @@ class Node:
                         must |= self._look()
                         look_at = now + self._look_every
                 self._commit(must)
-                self._end_chapter(is_look)
-                self._write_opening()
+                if self._story.ending:
+                    self._end_chapter(is_look)
+                if self._is_opening:
+                    self._write_opening()
                 with self._lock:
                     if self._is_held_back and not self._story.is_far_ahead():
                         self._answered.notify_all()
