@@ -14,7 +14,7 @@ pub enum Fault {
     /// No answer yet. The operation goes on, and [`crate::Node::wait`] gives its answer.
     TimedOut,
     /// Nothing was called in time: a chapter ended meanwhile, or not all others were heard yet, or they were too far
-    /// behind with what this node cast.
+    /// behind with what this node cast, or the disk had to do with what came before.
     Paused,
     /// The bell rang first. As after `TimedOut` and `Paused`, what was called goes on.
     Rung,
@@ -47,9 +47,9 @@ impl fmt::Display for Fault {
         match self {
             Self::Busy => f.write_str("an operation goes on"),
             Self::TimedOut => f.write_str("no answer in time"),
-            Self::Paused => {
-                f.write_str("nothing was called in time: a chapter ended, or others weren't heard or are far behind")
-            }
+            Self::Paused => f.write_str(
+                "nothing was called in time: a chapter ended, others are unheard or far behind, or the disk hangs",
+            ),
             Self::Rung => f.write_str("the bell rang"),
             Self::Refused(why) => write!(f, "refused: {why}"),
             Self::Nothing => f.write_str("no operation goes on"),

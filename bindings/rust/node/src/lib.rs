@@ -23,6 +23,7 @@ mod complaints;
 mod config;
 #[cfg(feature = "datagrams")]
 mod datagrams;
+mod disk;
 mod fault;
 mod json;
 mod keys;

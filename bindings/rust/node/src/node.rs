@@ -1,12 +1,16 @@
 //! A node: one process with its log, and a road to the others.
 //!
-//! A step is made, its entry is written, and only then does the library hand out its frames and its answer; of what comes
-//! in, some messages are taken with one write for all.
+//! A step is made, its entry is written, and only then does the library hand out its frames and its answer; of what
+//! comes in, some messages are taken with one write for all. With `sync` a thread of its own has entries on the disk
+//! (`Disk`). While it writes the node makes no step: it waits on its road, until the disk is done or its caller's time
+//! is up.
 use crate::beats::Beat;
 use crate::chapters::State;
 use crate::complaints::{Complaint, Complaints, Kind};
 use crate::config::{Config, ConfigFault};
+use crate::disk::{Disk, Write};
 use crate::fault::Fault;
+use crate::log_file::Entries;
 use crate::message::{Brings, Meeting, Met};
 use crate::options::{Options, road_of};
 use crate::parcels::Parcels;
@@ -17,16 +21,21 @@ use std::io;
 use std::marker::PhantomData;
 use std::os::unix::net::UnixStream;
 use std::time::{Duration, Instant};
-use tellwydar::{Answer, Front, FrontEnd, LogHead, Op, Output, Refused};
+use tellwydar::{Answer, Front, FrontEnd, LogHead, Op, Refused};
 
+#[cfg(test)]
+mod disk_tests;
 mod looks;
 mod meets;
 mod turns;
+mod writes;
 
-/// How long counts wait for the disk, where each entry is on it before its frames go out.
-const HOLD: Duration = Duration::from_millis(2);
 /// After so many calls that were answered at once, others are heard, and what was gathered is written.
 const MOST_UNSERVED: u32 = 64;
+/// So many messages are kept while the disk writes: others are dropped, as a road does where it has no room.
+const MOST_KEPT: usize = 1024;
+/// So long a caller gives the disk at least, where nothing else is between it and its call or its answer.
+const MOMENT: Duration = Duration::from_millis(100);
 
 /// One process of a cluster on a machine of its own. It is for one thread, and works while that is in one of its
 /// functions.
@@ -61,6 +70,11 @@ impl<F: Front> Node<F> {
     ///
     /// Where the road or the log is refused. No log is begun where the road is refused.
     pub fn open(config: &Config, options: &Options) -> Result<Self, Fault> {
+        Self::open_with(config, options, Entries::write)
+    }
+
+    /// A node that with `sync` has entries on the disk by this function.
+    fn open_with(config: &Config, options: &Options, write: impl Write) -> Result<Self, Fault> {
         let processes = config.nodes.len() as u8;
         if F::NAME.parse() != Ok(config.front) {
             return Err(ConfigFault::new(format!(
@@ -76,6 +90,7 @@ impl<F: Front> Node<F> {
         let size = Size { processes: processes.into(), registers: config.registers.len() as u32 };
         let room = size.room(config.most)?;
         let (bell, hand) = Bell::new()?;
+        let ringer = bell.ringer(&hand)?;
         let road = road_of(config, options, bell)?;
         let head = LogHead {
             cluster: config.cluster,
@@ -86,7 +101,9 @@ impl<F: Front> Node<F> {
             process: options.me,
             names: config.registers.clone(),
         };
-        let story = Story::open(head, &options.log, room, options.resume)?;
+        let sync = config.sync || options.sync;
+        let disk = if sync { Some(Disk::start(ringer, write)?) } else { None };
+        let story = Story::open(head, &options.log, room, options.resume, disk)?;
         let mut node = Self {
             front: PhantomData,
             meeting: Meeting::new(story.head()),
@@ -96,7 +113,7 @@ impl<F: Front> Node<F> {
             hand,
             complaints: Complaints::default(),
             beats: Vec::new(),
-            sync: config.sync || options.sync,
+            sync,
             look_every: config.look,
             look_at: Instant::now() + config.look,
             data_due: false,
@@ -122,8 +139,12 @@ impl<F: Front> Node<F> {
     /// # Errors
     ///
     /// `Busy` where another one goes on. `TimedOut` where the time is up: then it goes on, and [`Node::wait`] gives its
-    /// answer. `Paused` where nothing was called in time: a chapter ended, or not all others were heard, or they were too
-    /// far behind with what this node cast.
+    /// answer. `Paused` where nothing was called in time: a chapter ended, or not all others were heard, or they were
+    /// too far behind with what this node cast, or the disk had to do with what came before.
+    ///
+    /// With `sync` the time-out holds too while the disk writes, but that is given a tenth of a second where nothing
+    /// else is between the operation and its answer. Only where a chapter ends and the next one begins the disk is
+    /// waited for.
     pub fn perform(&mut self, op: Op, timeout: Option<Duration>) -> Result<Answer, Fault> {
         let performed = self.performed(op, timeout.map(|it| Instant::now() + it));
         self.kept(performed)
@@ -171,15 +192,21 @@ impl<F: Front> Node<F> {
         if self.unserved >= MOST_UNSERVED {
             self.rang |= self.served(Some(Instant::now()))?;
         }
+        let due = self.patient(deadline);
         while !self.called(op)? {
-            self.pass(deadline, Fault::Paused)?;
+            self.pass(due, Fault::Paused)?;
         }
         self.unserved += 1;
-        self.waited(deadline)
+        self.waited(if self.story.node().busy() { deadline } else { self.patient(deadline) })
     }
 
-    /// Calls an operation, unless a chapter ends or is opened, or the operation needs others that weren't heard or are
-    /// far behind.
+    /// When this time is up, where the disk that writes is given a moment.
+    fn patient(&self, deadline: Option<Instant>) -> Option<Instant> {
+        deadline.map(|it| if self.story.is_writing() { it.max(Instant::now() + MOMENT) } else { it })
+    }
+
+    /// Calls an operation, unless a chapter ends or is opened, the disk writes, or the operation needs others that
+    /// weren't heard or are far behind.
     fn called(&mut self, op: Op) -> Result<bool, Fault> {
         if self.story.is_opening() || self.story.is_ending() && !self.story.is_running() && self.answer.is_none() {
             return Ok(false);
@@ -187,7 +214,7 @@ impl<F: Front> Node<F> {
         if self.story.is_running() || self.answer.is_some() {
             return Err(Fault::Busy);
         }
-        if !matches!(op, Op::Read { .. }) && self.story.is_far_ahead() {
+        if self.story.is_writing() || !matches!(op, Op::Read { .. }) && self.story.is_far_ahead() {
             return Ok(false);
         }
         match self.call(op) {
@@ -224,9 +251,10 @@ impl<F: Front> Node<F> {
     /// Writes down the reads that were gathered: what was told so far is kept, also where this program is killed.
     ///
     /// A read that is answered at once and puts no frame is written with the next step that isn't one, or before the
-    /// node waits, or where 64 were gathered. So a program that is killed may lose the entries of up to 64 reads.
+    /// node waits, or where 64 were gathered. So a program that is killed may lose the entries of up to 64 reads. Where
+    /// the disk writes such reads, it is waited for.
     pub fn keep(&mut self) -> Result<(), Fault> {
-        let kept = self.is_up().and_then(|()| self.commit());
+        let kept = self.is_up().and_then(|()| self.written());
         self.kept(kept)
     }
 
@@ -252,16 +280,23 @@ impl<F: Front> Node<F> {
         let mut arrived = std::mem::take(&mut self.arrived);
         let rang = self.road.receive(wait, &mut arrived)?;
         let now = Instant::now();
-        for it in arrived.drain(..) {
-            self.heard(it, now)?;
+        if self.story.is_writing() {
+            // (what came is taken the next time: a call comes before the disk writes again)
+            arrived.truncate(MOST_KEPT);
+            self.arrived = arrived;
+            self.settle(false)?;
+        } else {
+            for it in arrived.drain(..) {
+                self.heard(it, now)?;
+            }
+            self.arrived = arrived;
+            if now >= self.look_at {
+                self.look()?;
+                self.look_at = now + self.look_every;
+            }
+            self.data_due |= self.held_till.is_some_and(|it| now >= it);
+            self.commit()?;
         }
-        self.arrived = arrived;
-        if now >= self.look_at {
-            self.look()?;
-            self.look_at = now + self.look_every;
-        }
-        self.data_due |= self.held_till.is_some_and(|it| now >= it);
-        self.commit()?;
         self.tell_end()?;
         self.turn()?;
         self.road.pump(now);
@@ -270,48 +305,17 @@ impl<F: Front> Node<F> {
 
     /// When something has to be done next, if nothing comes before.
     fn next_due(&self, until: Option<Instant>) -> Option<Instant> {
+        if self.story.is_writing() {
+            return [until, self.road.due()].into_iter().flatten().min();
+        }
+        if !self.arrived.is_empty() {
+            return Some(Instant::now());
+        }
         let node = self.story.node();
         let is_idle =
             node.pending() == 0 && node.has_heard_all() && !self.story.is_ending() && !self.story.is_opening();
         let look_at = (!is_idle).then_some(self.look_at);
         [until, look_at, self.held_till, self.road.due()].into_iter().flatten().min()
-    }
-
-    /// Writes the entries down; once they are durable, what they put goes out, and an answer is told. With `sync` that
-    /// is on the disk. Counts alone are no reason to wait for it: they are held until there is one, or for a short time.
-    fn commit(&mut self) -> Result<(), Fault> {
-        if self.story.is_done() && !self.data_due {
-            return Ok(());
-        }
-        let is_urgent = self.data_due || self.story.is_answered();
-        self.story.write(self.sync && is_urgent)?;
-        if self.sync && !is_urgent {
-            if !self.story.is_handed_out() {
-                self.held_till.get_or_insert_with(|| Instant::now() + HOLD);
-            }
-            return Ok(());
-        }
-        self.data_due = false;
-        self.held_till = None;
-        self.hand_out()?;
-        if !self.parcels.is_empty() {
-            self.parcels.send(&self.meeting, &mut *self.road);
-        }
-        Ok(())
-    }
-
-    /// Gathers the frames of the steps so far, and tells an answer.
-    fn hand_out(&mut self) -> Result<(), Fault> {
-        self.story.let_out()?;
-        while let Some(Output { frames, reply }) = self.story.hand_out()? {
-            for (to, frame) in frames {
-                self.parcels.add(to, frame);
-            }
-            if let Some(reply) = reply.filter(|_| self.story.is_own()) {
-                self.answer = Some(reply.answer);
-            }
-        }
-        Ok(())
     }
 
     fn heard(&mut self, arrived: Arrived, now: Instant) -> Result<(), Fault> {

@@ -3,10 +3,12 @@
 use crate::complaints::Complaint;
 use crate::keys::Keys;
 use std::fmt;
-use std::io::{self, Read};
+use std::io::{self, Read, Write};
 use std::net::IpAddr;
 use std::os::fd::{AsRawFd, RawFd};
 use std::os::unix::net::UnixStream;
+use std::sync::Arc;
+use std::sync::atomic::{AtomicUsize, Ordering};
 use std::time::{Duration, Instant};
 
 /// How many messages are taken at once.
@@ -68,23 +70,51 @@ pub trait Road {
 
 /// By it a node is woken that waits on a road.
 #[derive(Debug)]
-pub struct Bell(UnixStream);
+pub struct Bell {
+    ear: UnixStream,
+    /// How many bytes of those that came or come are the node's own, and no ring.
+    own: Arc<AtomicUsize>,
+}
+
+/// What wakes the node without a ring that anybody is told of.
+#[derive(Debug)]
+pub struct Ringer {
+    hand: UnixStream,
+    own: Arc<AtomicUsize>,
+}
 
 impl Bell {
     /// A bell, and what one writes a byte to for it to ring.
     pub fn new() -> io::Result<(Self, UnixStream)> {
         let (ear, hand) = UnixStream::pair()?;
         ear.set_nonblocking(true)?;
-        Ok((Self(ear), hand))
+        Ok((Self { ear, own: Arc::default() }, hand))
     }
 
-    /// Whether it has rung since the last time.
+    /// What wakes this bell's node, by the same hand.
+    pub fn ringer(&self, hand: &UnixStream) -> io::Result<Ringer> {
+        Ok(Ringer { hand: hand.try_clone()?, own: Arc::clone(&self.own) })
+    }
+
+    /// Whether it has rung since the last time. (Which byte is whose doesn't matter: where one of the node's own is
+    /// still to come, it stands for a ring then.)
     pub fn rang(&mut self) -> bool {
-        matches!(self.0.read(&mut [0; 64]), Ok(1..))
+        let came = self.ear.read(&mut [0; 64]).unwrap_or(0);
+        let own = self.own.load(Ordering::Acquire).min(came);
+        self.own.fetch_sub(own, Ordering::Release);
+        came > own
     }
 
     pub fn descriptor(&self) -> RawFd {
-        self.0.as_raw_fd()
+        self.ear.as_raw_fd()
+    }
+}
+
+impl Ringer {
+    pub fn ring(&self) {
+        self.own.fetch_add(1, Ordering::Release);
+        // (where nobody hears, the node is gone)
+        let _ = (&self.hand).write_all(&[0]);
     }
 }
 
@@ -128,6 +158,27 @@ mod tests {
         ] {
             assert!(!is_loopback(address), "{address}");
         }
+    }
+
+    #[test]
+    fn a_bell_rings_for_the_bytes_of_others_alone() {
+        let (mut bell, hand) = Bell::new().expect("a bell");
+        let ringer = bell.ringer(&hand).expect("a bell");
+        let ring = || (&hand).write_all(&[0]).expect("a bell");
+        assert!(!bell.rang());
+        ringer.ring();
+        ringer.ring();
+        assert!(!bell.rang());
+        ring();
+        assert!(bell.rang() && !bell.rang());
+        ringer.ring();
+        ring();
+        ringer.ring();
+        assert!(bell.rang() && !bell.rang());
+        // (more than are taken at once)
+        (0..100).for_each(|_| ringer.ring());
+        ring();
+        assert!(!bell.rang() && bell.rang() && !bell.rang());
     }
 
     #[test]

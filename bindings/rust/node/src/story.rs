@@ -1,6 +1,7 @@
 //! Where one node is: its chapter with its log, and the chapters before. All that a chapter is, is in its log, so a node
 //! that was killed is made again. It needs the logs of its last two chapters, and no others.
 use crate::chapters::{State, is_over};
+use crate::disk::Disk;
 use crate::fault::Fault;
 use crate::log_file::{LogFile, at_path, folder_of, keep};
 use crate::log_text;
@@ -21,9 +22,11 @@ pub struct Ended {
 struct Chapter {
     head: LogHead,
     node: LoggedNode,
-    /// How many operations were called, how many entries the log has, and of how many what went out is handed out.
+    /// How many operations were called, how many entries there are, how many of them are written, and of how many what
+    /// went out is handed out.
     called: u32,
     entries: u64,
+    written: u64,
     handed: u64,
     is_running: bool,
     is_ending: bool,
@@ -36,6 +39,8 @@ pub struct Story {
     path: PathBuf,
     room: Room,
     chapter: Chapter,
+    /// With `sync`.
+    disk: Option<Disk>,
     log: LogFile,
     before: Before,
 }
@@ -105,6 +110,7 @@ impl Chapter {
             head: LogHead { begun: log_text::begun(log), ..head.clone() },
             called: log_text::count_calls(log),
             entries: node.logged(),
+            written: node.logged(),
             handed: node.logged(),
             is_running: node.busy(),
             node,
@@ -132,7 +138,7 @@ impl Chapter {
 
 impl Story {
     /// A story that begins, or with `resume` the one whose logs are there.
-    pub fn open(head: LogHead, path: &Path, room: Room, resume: bool) -> Result<Self, Fault> {
+    pub fn open(head: LogHead, path: &Path, room: Room, resume: bool, disk: Option<Disk>) -> Result<Self, Fault> {
         let mut before = Before::default();
         let (mut chapter, log) = if resume {
             let last = last_chapter(path)?;
@@ -144,7 +150,7 @@ impl Story {
             begun(head, path, LogFile::create(path)?)?
         };
         chapter.is_ending |= chapter.is_full(room);
-        Ok(Self { path: path.to_path_buf(), room, chapter, log, before })
+        Ok(Self { path: path.to_path_buf(), room, chapter, disk, log, before })
     }
 
     pub fn head(&self) -> &LogHead {
@@ -183,7 +189,17 @@ impl Story {
 
     /// Whether all entries are written, and what went out of them is handed out.
     pub fn is_done(&self) -> bool {
-        self.log.is_written() && self.is_handed_out()
+        self.chapter.written == self.chapter.entries && self.is_handed_out()
+    }
+
+    /// Whether all entries are written whose frames and answers were handed out.
+    pub fn is_kept(&self) -> bool {
+        self.chapter.handed <= self.chapter.written
+    }
+
+    /// Whether the disk has begun to write. Until it ends no step is made.
+    pub fn is_writing(&self) -> bool {
+        self.disk.as_ref().is_some_and(Disk::is_busy)
     }
 
     /// Calls an operation. As of each step, its entry is added to the log, but not written.
@@ -203,9 +219,26 @@ impl Story {
         Ok(())
     }
 
-    /// Writes the entries down, with `sync` on the disk.
-    pub fn write(&mut self, sync: bool) -> io::Result<()> {
-        self.log.write(sync)
+    /// Hands the entries to the system.
+    pub fn write(&mut self) -> io::Result<()> {
+        self.log.write(false)?;
+        self.chapter.written = self.chapter.entries;
+        Ok(())
+    }
+
+    /// Has the disk begin to write, and tells whether there is one.
+    pub fn begin_force(&mut self) -> io::Result<bool> {
+        let Some(disk) = &mut self.disk else { return Ok(false) };
+        disk.begin(self.log.taken(true)).map(|()| true)
+    }
+
+    /// Whether the disk has just ended, so that all entries are on it; with `must` one that writes is waited for.
+    pub fn has_forced(&mut self, must: bool) -> io::Result<bool> {
+        let busy = self.disk.as_mut().filter(|it| it.is_busy());
+        let Some(entries) = busy.map_or(Ok(None), |it| it.end(must))? else { return Ok(false) };
+        self.log.wrote(entries);
+        self.chapter.written = self.chapter.entries;
+        Ok(true)
     }
 
     /// What goes out of the steps so far may be handed out.
@@ -248,8 +281,8 @@ impl Story {
 
     /// Whether the values that the last chapter ended with aren't all written here: then nothing else is called.
     pub fn is_opening(&self) -> bool {
-        let opening = &self.before.opening;
-        !opening.is_empty() && self.chapter.node.delivered() < opening.len() as u64
+        let count = self.before.opening.len() as u64;
+        count > 0 && (self.chapter.node.delivered() < count || self.is_running() && !self.is_own())
     }
 
     /// What this node writes next of what the last chapter ended with.
@@ -278,9 +311,11 @@ impl Story {
         }
     }
 
-    /// Before it is told that this node calls nothing more in this chapter, that is kept for when it is resumed.
+    /// Before it is told that this node calls nothing more in this chapter, that is kept for when it is resumed, behind
+    /// all entries. This waits for the disk.
     pub fn say_quiet(&mut self) -> Result<(), Fault> {
         if !self.chapter.is_said_quiet {
+            self.log.write(self.disk.is_some())?;
             let path = quiet_of(&log_of(&self.path, self.head().chapter));
             keep(&path, format!("{}\n", self.called()).as_bytes())?;
             self.chapter.is_said_quiet = true;
@@ -305,6 +340,14 @@ impl Story {
         eprintln!("chapter {} begins, in {}", head.chapter, path.display());
         (self.chapter, self.log) = begun(head, &path, LogFile::create(&path)?)?;
         Ok(true)
+    }
+}
+
+impl Drop for Story {
+    /// Waits for the disk: what it has begun to write is in the log then, and nobody else has that in hands. (There is
+    /// nobody whom one could tell that it can't be written.)
+    fn drop(&mut self) {
+        let _ = self.has_forced(true);
     }
 }
 

@@ -107,6 +107,26 @@ fn two_nodes_are_one_memory() -> Ended {
 }
 
 #[test]
+fn chapters_turn_while_the_disk_has_a_thread_of_its_own() -> Ended {
+    let room = room("turns")?;
+    let (mut config, logs) = (config("linear", 2)?, [0, 1].map(|me| room.join(format!("{me}.log"))));
+    config.most.operations = 3;
+    config.sync = true;
+    let mut node = Node::<Linear>::open(&config, &Options::new(0, &logs[0]))?;
+    let other = Other::start::<Linear>(&config, Options::new(1, &logs[1]))?;
+    for value in 1..8 {
+        assert_eq!(node.perform(Op::Write { register: 0, value }, TIME)?, Answer::Done);
+        assert_eq!(node.perform(READ, TIME)?, Answer::Value(value));
+    }
+    // (two of its own in each chapter behind the first)
+    assert_eq!((node.status().chapter, node.so_far()), (6, (14, false)));
+    assert_eq!(other.end()?, (0, false));
+    drop(node);
+    assert_eq!(check(&merge(&logs, false)?).answer, b"serial yes\npoints yes\n");
+    Ok(fs::remove_dir_all(room)?)
+}
+
+#[test]
 fn what_is_cast_waits_until_all_others_were_heard() -> Ended {
     let room = room("unheard")?;
     let log = room.join("0.log");

@@ -49,6 +49,8 @@ impl<F: Front> Node<F> {
             self.story.step(LoggedNode::tick)?;
             self.data_due = true;
         }
-        if self.story.is_ending() { self.tell_state() } else { Ok(()) }
+        // (that this chapter ends is told again)
+        self.told = None;
+        Ok(())
     }
 }

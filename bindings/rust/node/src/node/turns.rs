@@ -1,24 +1,25 @@
 //! How a chapter ends, and the next one begins.
 use super::Node;
+use crate::chapters::State;
 use crate::fault::Fault;
 use crate::message::{Brings, Meeting, begin};
 use tellwydar::{Front, Refused};
 
 impl<F: Front> Node<F> {
-    /// Tells the others at once that this chapter ends, and that this node is at rest.
+    /// Tells the others at once that this chapter ends, and that this node is at rest: what it tells, it knows too when
+    /// it is resumed.
     pub(super) fn tell_end(&mut self) -> Result<(), Fault> {
-        if !self.story.is_ending() {
+        if !self.story.is_ending() || !self.story.is_handed_out() || self.story.is_writing() {
             return Ok(());
         }
         let state = self.story.state();
         let is_new = self.told.is_none() || state.is_quiet && state.is_at_rest && self.told.as_ref() != Some(&state);
-        if is_new { self.tell_state() } else { Ok(()) }
+        if is_new { self.tell_state(state) } else { Ok(()) }
     }
 
-    /// Tells all others how far this node has come: what it tells, it knows too when it is resumed.
-    pub(super) fn tell_state(&mut self) -> Result<(), Fault> {
-        let state = self.story.state();
-        self.story.write(self.sync)?;
+    /// Tells all others how far this node has come.
+    fn tell_state(&mut self, state: State) -> Result<(), Fault> {
+        self.story.write()?;
         if state.is_quiet {
             self.story.say_quiet()?;
         }
@@ -40,6 +41,9 @@ impl<F: Front> Node<F> {
 
     /// Where the chapter is over, the next one begins, and process 0 writes what this one ended with.
     pub(super) fn turn(&mut self) -> Result<(), Fault> {
+        if self.story.is_writing() {
+            return Ok(());
+        }
         if self.story.is_done() && self.story.turn()? {
             self.meeting = Meeting::new(self.story.head());
             // (a count that was held is of the last chapter)
