@@ -303,7 +303,7 @@ fn has_small_report(alloc: Global, fair: bool, lines: &str, tail: &str) -> bool 
 #[test]
 fn each_fair_play_has_its_report(rt: HostRuntime) {
     for (line, tail) in [("", FAIR), ("budget = 3\n", FAIR_THREE)] {
-        demand(&rt, line, has_small_report(rt.alloc(), true, line, tail));
+        demand(&rt, &line, has_small_report(rt.alloc(), true, line, tail));
     }
 }
 
@@ -318,7 +318,7 @@ fn has_seeded_report(alloc: Global, seed: usize, tail: &str) -> bool {
 #[test]
 fn each_seeded_play_has_its_report(rt: HostRuntime) {
     for (seed, tail) in SEEDED.iter().enumerate() {
-        assert!(rt; has_seeded_report(rt.alloc(), seed, tail), "{seed}");
+        demand(&rt, &seed, has_seeded_report(rt.alloc(), seed, tail));
     }
 }
 

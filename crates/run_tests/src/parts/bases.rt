@@ -1,4 +1,5 @@
 //! Shapes, clocks, registers and names, as worked by hand.
+use crate::demands::{demand, demand_same};
 use crate::values::{READ, WRITE_FIVE};
 use reg_base::limits::{MOST_PROCESSES, MOST_REGISTERS};
 use reg_base::{
@@ -19,17 +20,17 @@ const SHAPES: &[(u32, u32, Option<ShapeFault>)] = &[
 #[test]
 fn shapes_within_the_limits(rt: HostRuntime) {
     for (processes, registers, fault) in SHAPES {
-        assert!(rt;
-            Shape::new(*processes, *registers).err() == *fault,
-            "{processes} {registers}"
-        );
+        let found = Shape::new(*processes, *registers).err();
+        demand_same(&rt, &(processes, registers), &found, fault);
     }
 }
 
 const LAST: u64 = 281_474_976_710_656;
 
 /// A time that is received, or none at a tick; the answer, and the clock's time then.
-const CLOCK_AT_ITS_END: &[(Option<u64>, Result<u64, ClockFull>, u64)] = &[
+type Tick = (Option<u64>, Result<u64, ClockFull>, u64);
+
+const CLOCK_AT_ITS_END: &[Tick] = &[
     (Some(LAST), Err(ClockFull), 0),
     (None, Ok(1), 1),
     (Some(0), Ok(2), 2),
@@ -40,38 +41,50 @@ const CLOCK_AT_ITS_END: &[(Option<u64>, Result<u64, ClockFull>, u64)] = &[
     (Some(LAST), Err(ClockFull), LAST),
 ];
 
+/// What a clock answers, and its time then.
+fn ticked(clock: &mut Clock, time: Option<u64>) -> (Result<u64, ClockFull>, u64) {
+    let answer = match time {
+        Some(time) => clock.receive(time),
+        None => clock.tick(),
+    };
+    (answer, clock.now())
+}
+
 #[test]
 fn a_clock_at_its_end(rt: HostRuntime) {
     let mut clock = Clock::new();
     for (time, told, now) in CLOCK_AT_ITS_END {
-        let answer = match time {
-            Some(time) => clock.receive(*time),
-            None => clock.tick(),
-        };
-        assert!(rt; answer == *told && clock.now() == *now, "{time:?} at {now}");
+        demand_same(&rt, time, &ticked(&mut clock, *time), &(*told, *now));
     }
 }
 
-/// Times and processes of stamps, each before the next.
-const STAMPS: &[(u64, u8)] = &[(1, 9), (2, 0), (2, 1), (3, 0)];
+macro_rules! stamp {
+    ($time:expr, $process:expr) => {
+        Stamp {
+            time: $time,
+            process: $process,
+        }
+    };
+}
+
+/// Stamps, each before the next.
+const STAMPS: [Stamp; 4] = [stamp!(1, 9), stamp!(2, 0), stamp!(2, 1), stamp!(3, 0)];
+
+/// Whether the stamps at two places are ordered as their places are.
+fn are_ordered(place: usize, other: usize) -> bool {
+    match (STAMPS.get(place), STAMPS.get(other)) {
+        (Some(stamp), Some(later)) => {
+            (stamp < later) == (place < other) && stamp.order(later) == place.cmp(&other)
+        }
+        _ => false,
+    }
+}
 
 #[test]
 fn stamps_by_time_and_then_by_process(rt: HostRuntime) {
-    for (place, (time, process)) in STAMPS.iter().enumerate() {
-        for (other_place, (other_time, other_process)) in STAMPS.iter().enumerate() {
-            let stamp = Stamp {
-                time: *time,
-                process: *process,
-            };
-            let other = Stamp {
-                time: *other_time,
-                process: *other_process,
-            };
-            assert!(rt;
-                (stamp < other) == (place < other_place)
-                    && stamp.order(&other) == place.cmp(&other_place),
-                "{stamp:?} {other:?}"
-            );
+    for place in 0..STAMPS.len() {
+        for other in 0..STAMPS.len() {
+            demand(&rt, &(place, other), are_ordered(place, other));
         }
     }
 }
@@ -97,18 +110,20 @@ const ANSWERS: &[(Op, bool, [bool; 3])] = &[
     (SIX_TO_SEVEN, true, [true, false, true]),
 ];
 
+/// What an operation can answer, as the table has it.
+fn answers_of(op: &Op) -> [bool; 3] {
+    [
+        op.can_answer(&Answer::Done),
+        op.can_answer(&Answer::Value(9)),
+        op.can_answer(&Answer::Unequal),
+    ]
+}
+
 #[test]
 fn operations_and_their_answers(rt: HostRuntime) {
     for (op, updates, answers) in ANSWERS {
-        let can = [
-            op.can_answer(&Answer::Done),
-            op.can_answer(&Answer::Value(9)),
-            op.can_answer(&Answer::Unequal),
-        ];
-        assert!(rt;
-            op.updates() == *updates && op.register() == 0 && can == *answers,
-            "{op:?}: {can:?}"
-        );
+        let told = (op.updates(), op.register(), answers_of(op));
+        demand_same(&rt, op, &told, &(*updates, 0, *answers));
     }
 }
 
@@ -199,7 +214,7 @@ fn are_judged(alloc: Global, words: &[&str], fault: Option<NamesFault>) -> bool 
 #[test]
 fn names_and_their_faults(rt: HostRuntime) {
     for (words, fault) in NAMES {
-        assert!(rt; are_judged(rt.alloc(), words, *fault), "{words:?}");
+        demand(&rt, words, are_judged(rt.alloc(), words, *fault));
     }
 }
 
@@ -236,6 +251,6 @@ fn are_counted(alloc: Global, count: u32, fault: Option<NamesFault>) -> bool {
 #[test]
 fn names_within_the_limits(rt: HostRuntime) {
     for (count, fault) in COUNTS {
-        assert!(rt; are_counted(rt.alloc(), *count, *fault), "{count}");
+        demand(&rt, count, are_counted(rt.alloc(), *count, *fault));
     }
 }

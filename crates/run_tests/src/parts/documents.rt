@@ -255,7 +255,7 @@ const REFUSED: &[(&str, &[Refused], &str)] = &[
 fn documents_are_refused(rt: HostRuntime) {
     for (before, rows, behind) in REFUSED {
         for row in *rows {
-            demand(&rt, row.0, is_part_refused(rt.alloc(), before, row, behind));
+            demand(&rt, row, is_part_refused(rt.alloc(), before, row, behind));
         }
     }
 }

@@ -1,5 +1,5 @@
 //! Parts of lines, as the formats have them: numerals, columns, operations and heads.
-use crate::demands::demand;
+use crate::demands::{demand, demand_none};
 use crate::macros::{cas_of, swap_of};
 use crate::parts::texts::names_of;
 use crate::values::READ;
@@ -93,19 +93,43 @@ fn is_field(found: Option<(u64, &[u8])>, field: Field) -> bool {
     }
 }
 
+/// Where a field is looked for.
+#[derive(Clone, Copy, Debug)]
+enum Column {
+    Right,
+    Left,
+    Spaced,
+}
+
+const COLUMNS: &[(Column, &[(&str, Field)])] = &[
+    (Column::Right, RIGHT),
+    (Column::Left, LEFT),
+    (Column::Spaced, SPACED),
+];
+
+/// The field of a column.
+fn field_of(column: Column, bytes: &[u8]) -> Option<(u64, &[u8])> {
+    match column {
+        Column::Right => right_field(bytes, 8, b"  p"),
+        Column::Left => left_field(bytes, 3, b"  #"),
+        Column::Spaced => field_within(bytes, 16, b' '),
+    }
+}
+
+/// The first text whose field in a column is another.
+fn other_field(column: Column, rows: &[(&'static str, Field)]) -> Option<&'static str> {
+    for (text, field) in rows {
+        if !is_field(field_of(column, text.as_bytes()), *field) {
+            return Some(text);
+        }
+    }
+    None
+}
+
 #[test]
 fn columns(rt: HostRuntime) {
-    for (text, field) in RIGHT {
-        let found = right_field(text.as_bytes(), 8, b"  p");
-        demand(&rt, text, is_field(found, *field));
-    }
-    for (text, field) in LEFT {
-        let found = left_field(text.as_bytes(), 3, b"  #");
-        demand(&rt, text, is_field(found, *field));
-    }
-    for (text, field) in SPACED {
-        let found = field_within(text.as_bytes(), 16, b' ');
-        demand(&rt, text, is_field(found, *field));
+    for (column, rows) in COLUMNS {
+        demand_none(&rt, column, &other_field(*column, rows));
     }
     for (text, front) in FRONTS {
         demand(&rt, text, in_front(text.as_bytes()) == front.as_bytes());
@@ -202,15 +226,33 @@ fn is_no_operation(names: &Names, text: &str, why: Option<Why>) -> bool {
     op_of(text, names).is_none() && op_form(text.as_bytes(), names) == why
 }
 
+/// The first text of an operation that is read or spelled otherwise.
+fn misread_operation(alloc: Global, names: &Names) -> Option<&'static str> {
+    for (text, op) in OPERATIONS {
+        if !is_operation(alloc, names, text, *op) {
+            return Some(text);
+        }
+    }
+    None
+}
+
+/// The first text of no operation that is read as one, or refused for another cause.
+fn read_as_one(names: &Names) -> Option<&'static str> {
+    for (text, why) in NO_OPERATIONS {
+        if !is_no_operation(names, text, *why) {
+            return Some(text);
+        }
+    }
+    None
+}
+
 #[test]
 fn operations(rt: HostRuntime) {
     let names = names_of(rt.alloc(), "registers x y").expect(&rt, "names");
-    for (text, op) in OPERATIONS {
-        demand(&rt, text, is_operation(rt.alloc(), &names, text, *op));
-    }
-    for (text, why) in NO_OPERATIONS {
-        demand(&rt, text, is_no_operation(&names, text, *why));
-    }
+    let (misread, read) = (misread_operation(rt.alloc(), &names), read_as_one(&names));
+    drop(names);
+    demand_none(&rt, &"read", &misread);
+    demand_none(&rt, &"not read", &read);
 }
 
 /// What is asked of the next line of a head: to be this line, or a number up to 16 behind a mark.
@@ -275,7 +317,6 @@ fn other_line(text: &str, rows: Rows) -> Option<u64> {
 #[test]
 fn heads(rt: HostRuntime) {
     for (text, rows) in HEADS {
-        let line = other_line(text, rows);
-        assert!(rt; line.is_none(), "{text}: {line:?}");
+        demand_none(&rt, text, &other_line(text, rows));
     }
 }

@@ -1,4 +1,5 @@
 //! Frames and their bytes, as worked by hand.
+use crate::demands::{demand, demand_none, demand_same};
 use crate::macros::{ack, cast};
 use crate::values::{READ as READ_FIRST, WRITE_FIVE};
 use reg_base::Op;
@@ -91,24 +92,26 @@ fn is_spelled(alloc: Global, frame: &Frame, bytes: &[u8]) -> bool {
     }
 }
 
+/// Whether a frame isn't spelled since it is out of range.
+fn is_out_of_range(alloc: Global, frame: &Frame) -> bool {
+    encode(alloc, frame).err() == Some(FrameFault::Range)
+}
+
 #[test]
 fn each_form_there_and_back(rt: HostRuntime) {
     for (frame, bytes) in FRAMES {
-        assert!(rt;
-            decode(bytes) == Ok(*frame) && is_spelled(rt.alloc(), frame, bytes),
-            "{frame:?}"
-        );
+        demand_same(&rt, bytes, &decode(bytes), &Ok(*frame));
+        demand(&rt, frame, is_spelled(rt.alloc(), frame, bytes));
     }
     for frame in OUT_OF_RANGE {
-        assert!(rt;
-            encode(rt.alloc(), frame).err() == Some(FrameFault::Range),
-            "{frame:?}"
-        );
+        demand(&rt, frame, is_out_of_range(rt.alloc(), frame));
     }
 }
 
 /// The bytes of a frame, of which the one at a place is changed, and the fault.
-const CHANGED: &[(&[u8], usize, u8, FrameFault)] = &[
+type Changed = (&'static [u8], usize, u8, FrameFault);
+
+const CHANGED: &[Changed] = &[
     (&WRITE, 1, 0x1d, FrameFault::Length),
     (&WRITE, 2, 2, FrameFault::Op),
     (&WRITE, 2, 3, FrameFault::Version),
@@ -162,8 +165,9 @@ const OF_OTHER_SIZES: &[(&[u8], FrameFault)] = &[
     ),
 ];
 
-/// Whether the bytes are refused with this fault where one of them is changed.
-fn is_refused(bytes: &[u8], place: usize, byte: u8, fault: FrameFault) -> bool {
+/// Whether the bytes are refused with the fault where one of them is changed.
+fn is_refused(row: &Changed) -> bool {
+    let (bytes, place, byte, fault) = *row;
     let mut copy = [0u8; 40];
     let size = bytes.len();
     if size > 40 || place >= size {
@@ -176,14 +180,11 @@ fn is_refused(bytes: &[u8], place: usize, byte: u8, fault: FrameFault) -> bool {
 
 #[test]
 fn each_fault(rt: HostRuntime) {
-    for (bytes, place, byte, fault) in CHANGED {
-        assert!(rt;
-            is_refused(bytes, *place, *byte, *fault),
-            "{fault:?} at {place}"
-        );
+    for row in CHANGED {
+        demand(&rt, row, is_refused(row));
     }
     for (bytes, fault) in OF_OTHER_SIZES {
-        assert!(rt; decode(bytes) == Err(*fault), "{bytes:?}");
+        demand_same(&rt, bytes, &decode(bytes), &Err(*fault));
     }
 }
 
@@ -234,7 +235,7 @@ const LAST: &[(&[u8], Result<Frame, FrameFault>)] = &[
 #[test]
 fn the_last_numbers_times_and_counts(rt: HostRuntime) {
     for (bytes, read) in LAST {
-        assert!(rt; decode(bytes) == *read, "{bytes:?}");
+        demand_same(&rt, bytes, &decode(bytes), read);
     }
 }
 
@@ -282,10 +283,7 @@ fn misread_change(alloc: Global, bytes: &[u8]) -> Option<(usize, u8)> {
 #[test]
 fn prefixes_and_changed_bytes(rt: HostRuntime) {
     for (frame, bytes) in FRAMES {
-        let misread = misread_change(rt.alloc(), bytes);
-        assert!(rt;
-            is_no_prefix_read(bytes) && misread.is_none(),
-            "{frame:?} {misread:?}"
-        );
+        demand(&rt, frame, is_no_prefix_read(bytes));
+        demand_none(&rt, frame, &misread_change(rt.alloc(), bytes));
     }
 }

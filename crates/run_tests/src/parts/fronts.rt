@@ -1,4 +1,5 @@
 //! The tables of the front ends, and their names.
+use crate::demands::{demand, demand_same};
 use crate::macros::swap_of;
 use crate::values::{READ, WRITE_FIVE};
 use reg_base::Op;
@@ -6,36 +7,40 @@ use reg_front::{Front, FrontEnd, Linear, LocalRead, LocalWrite, Start};
 
 const SWAP: Op = swap_of!(5);
 
-/// An operation, how many own casts aren't delivered, and how it starts with linear, with local-read and with
-/// local-write.
-const STARTS: &[(Op, u32, Start, Start, Start)] = &[
+/// How an operation starts with linear, with local-read and with local-write.
+type Starts = (Start, Start, Start);
+
+/// An operation, how many own casts aren't delivered, and how it starts.
+const STARTS: &[(Op, u32, Starts)] = &[
     (
         WRITE_FIVE,
         0,
-        Start::Cast,
-        Start::Cast,
-        Start::CastAndAnswer,
+        (Start::Cast, Start::Cast, Start::CastAndAnswer),
     ),
     (
         WRITE_FIVE,
         1,
-        Start::Cast,
-        Start::Cast,
-        Start::CastAndAnswer,
+        (Start::Cast, Start::Cast, Start::CastAndAnswer),
     ),
-    (READ, 0, Start::Cast, Start::Look, Start::Look),
-    (READ, 1, Start::Cast, Start::Hold, Start::Hold),
-    (SWAP, 0, Start::Cast, Start::Cast, Start::Cast),
-    (SWAP, 1, Start::Cast, Start::Cast, Start::Cast),
+    (READ, 0, (Start::Cast, Start::Look, Start::Look)),
+    (READ, 1, (Start::Cast, Start::Hold, Start::Hold)),
+    (SWAP, 0, (Start::Cast, Start::Cast, Start::Cast)),
+    (SWAP, 1, (Start::Cast, Start::Cast, Start::Cast)),
 ];
+
+/// How an operation starts with each front end.
+fn starts_of(op: &Op, unsettled: u32) -> Starts {
+    (
+        Linear::start(op, unsettled),
+        LocalRead::start(op, unsettled),
+        LocalWrite::start(op, unsettled),
+    )
+}
 
 #[test]
 fn operations_start_as_the_table_says(rt: HostRuntime) {
-    for (op, unsettled, linear, local_read, local_write) in STARTS {
-        let right = Linear::start(op, *unsettled) == *linear
-            && LocalRead::start(op, *unsettled) == *local_read
-            && LocalWrite::start(op, *unsettled) == *local_write;
-        assert!(rt; right, "{op:?} {unsettled}");
+    for (op, unsettled, starts) in STARTS {
+        demand_same(&rt, &(op, unsettled), &starts_of(op, *unsettled), starts);
     }
 }
 
@@ -52,14 +57,9 @@ const NAMES: &[(&str, Option<Front>)] = &[
 #[test]
 fn front_ends_have_their_names(rt: HostRuntime) {
     for (name, front) in NAMES {
-        let found = Front::from_name(name);
-        let named = match found {
-            Some(found) => found.name(),
-            None => *name,
-        };
-        assert!(rt;
-            found == *front && named == *name,
-            "{name}: {found:?} {named}"
-        );
+        demand_same(&rt, name, &Front::from_name(name), front);
+        if let Some(front) = front {
+            demand(&rt, name, front.name() == *name);
+        }
     }
 }

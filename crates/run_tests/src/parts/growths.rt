@@ -1,5 +1,6 @@
 //! Each growth of the parts refused in turn: the answer is out of memory, or the one with ample memory.
 use crate::answers::{shown, unless_memory};
+use crate::demands::demand_refusals;
 use crate::macros::{cast, id, point};
 use crate::parts::processes::tables_of;
 use crate::parts::reports::is_written_as;
@@ -11,8 +12,8 @@ use reg_frames::{Body, Frame};
 use reg_front::{Front, FrontEnd, Linear, LocalRead, LocalWrite};
 use reg_heap::{Trial, refusals};
 use reg_history::{CheckFault, Point, ReadFault, Report, check_points, check_serial, read_report};
-use reg_process::{Process, ProcessFault, Put};
-use std::alloc::{Allocator, Global};
+use reg_process::{Process, ProcessFault, Put, Step};
+use std::alloc::{AllocError, Allocator, Global};
 use std::test::Fail;
 
 /// Whether a process has stopped, so that each of these steps fails.
@@ -28,6 +29,17 @@ fn has_stopped<F: FrontEnd, A: Allocator + Copy>(
     true
 }
 
+/// Adds what a process gives at a step. Tells whether there is memory for the step.
+fn push_step<F: FrontEnd, A: Allocator + Copy>(
+    text: &mut String,
+    process: &mut Process<F, A>,
+    step: &Step,
+) -> Result<bool, AllocError> {
+    let made = step_of(process, step);
+    push_made(text, process, &made)?;
+    Ok(!matches!(made, Err(ProcessFault::OutOfMemory)))
+}
+
 /// What processes give at each of their steps. None where memory is refused at one, and its process has stopped.
 fn all_told<F: FrontEnd, A: Allocator + Copy>(
     ample: Global,
@@ -36,14 +48,10 @@ fn all_told<F: FrontEnd, A: Allocator + Copy>(
 ) -> Result<Option<String>, Fail> {
     let mut text = String::new(ample);
     for (at, step, _) in rows {
-        let Some(process) = all.get_mut(*at as usize) else {
-            return Err(ProcessFault::NoProcess)?;
-        };
-        let made = step_of(process, step);
-        if matches!(made, Err(ProcessFault::OutOfMemory)) {
+        let process = all.get_mut(*at as usize).ok_or(ProcessFault::NoProcess)?;
+        if !push_step(&mut text, process, step)? {
             return unless_memory(ProcessFault::OutOfMemory, has_stopped(process, rows));
         }
-        push_made(&mut text, process, &made)?;
     }
     Ok(Some(text))
 }
@@ -101,13 +109,19 @@ fn taken_again<A: Allocator + Copy>(
     Ok(answer.frames)
 }
 
+/// The same of a new process.
+fn taken_again_by_new<A: Allocator + Copy>(
+    alloc: A,
+    shape: Shape,
+    times: u32,
+) -> Result<Vec<Put, A>, ProcessFault> {
+    let mut process = Process::new(alloc, shape, 0)?;
+    taken_again(&mut process, times)
+}
+
 impl Trial for Again {
     fn answer<A: Allocator + Copy>(&self, alloc: A, ample: Global) -> Result<Option<String>, Fail> {
-        let made = match Process::new(alloc, Shape::new(2, 1)?, 0) {
-            Ok(mut process) => taken_again(&mut process, self.times),
-            Err(fault) => Err(fault),
-        };
-        match made {
+        match taken_again_by_new(alloc, Shape::new(2, 1)?, self.times) {
             Ok(frames) => shown(ample, &frames.as_slice()),
             Err(fault) => unless_memory(fault, fault == ProcessFault::OutOfMemory),
         }
@@ -201,7 +215,7 @@ fn each_growth_is_refused(rt: HostRuntime) -> Result<(), Fail> {
         assert!(rt; least_refusals(rt.alloc(), front)? > 2);
     }
     for judged in JUDGED {
-        assert!(rt; refusals(judged, rt.alloc())? > 6);
+        demand_refusals(&rt, judged, 6)?;
     }
     Ok(())
 }

@@ -1,6 +1,7 @@
 //! The hold-back queue, as worked by hand.
+use crate::demands::shape_of;
 use crate::values::{READ, WRITE_FIVE};
-use reg_base::{Op, Shape, Stamp};
+use reg_base::{Op, Stamp};
 use reg_heap::Refusing;
 use reg_holdback::{HoldFault, Holdback};
 use std::alloc::Allocator;
@@ -52,30 +53,36 @@ fn answers(held: &mut Holdback, rows: &[Row]) -> bool {
     held.len() == 0
 }
 
+/// Whether the queue answers as that of three, and tells what it has seen of each process.
+fn answers_of_three(held: &mut Holdback) -> bool {
+    answers(held, OF_THREE)
+        && [held.seen(0), held.seen(1), held.seen(2), held.seen(3)]
+            == [Some(1), None, Some(2), None]
+}
+
 #[test]
 fn a_cast_waits_until_all_are_heard(rt: HostRuntime) {
-    let shape = Shape::new(3, 1).expect(&rt, "a shape");
-    let mut held = Holdback::new(rt.alloc(), 1, shape).expect(&rt, "memory");
-    let right = answers(&mut held, OF_THREE);
-    let seen = [held.seen(0), held.seen(1), held.seen(2), held.seen(3)];
-    assert!(rt; right && seen == [Some(1), None, Some(2), None]);
+    let mut held = Holdback::new(rt.alloc(), 1, shape_of(&rt, 3)).expect(&rt, "memory");
+    assert!(rt; answers_of_three(&mut held));
 }
 
 #[test]
 fn an_own_cast_waits_behind_an_earlier_one(rt: HostRuntime) {
-    let shape = Shape::new(2, 1).expect(&rt, "a shape");
-    let mut held = Holdback::new(rt.alloc(), 1, shape).expect(&rt, "memory");
+    let mut held = Holdback::new(rt.alloc(), 1, shape_of(&rt, 2)).expect(&rt, "memory");
     let cast = held.cast(stamp!(1, 1), WRITE_FIVE).is_ok();
     assert!(rt; cast && answers(&mut held, BEHIND_ITS_OWN));
 }
 
+/// Whether a read of time 1 is popped, and nothing after it.
+fn pops_the_read(held: &mut Holdback) -> bool {
+    held.pop() == Some((stamp!(1, 0), READ)) && held.pop().is_none()
+}
+
 #[test]
 fn one_process_waits_for_none(rt: HostRuntime) {
-    let shape = Shape::new(1, 1).expect(&rt, "a shape");
-    let mut held = Holdback::new(rt.alloc(), 0, shape).expect(&rt, "memory");
+    let mut held = Holdback::new(rt.alloc(), 0, shape_of(&rt, 1)).expect(&rt, "memory");
     let cast = held.cast(stamp!(1, 0), READ).is_ok();
-    let (first, second) = (held.pop(), held.pop());
-    assert!(rt; cast && first == Some((stamp!(1, 0), READ)) && second.is_none());
+    assert!(rt; cast && pops_the_read(&mut held));
 }
 
 /// Whether a cast that comes is refused for want of memory, and not held, and it is held when it comes again.
@@ -89,17 +96,15 @@ fn holds_later<A: Allocator + Copy>(held: &mut Holdback<A>) -> bool {
 
 #[test]
 fn a_refused_growth_holds_no_cast(rt: HostRuntime) {
-    let shape = Shape::new(2, 1).expect(&rt, "a shape");
     let heap = Refusing::new(rt.alloc(), 1);
-    let mut held = Holdback::new(&heap, 1, shape).expect(&rt, "memory for the times");
-    assert!(rt; holds_later(&mut held));
+    let held = Holdback::new(&heap, 1, shape_of(&rt, 2));
+    assert!(rt; holds_later(&mut held.expect(&rt, "memory for the times")));
 }
 
 #[test]
 fn a_refused_growth_holds_no_own_cast(rt: HostRuntime) {
-    let shape = Shape::new(2, 1).expect(&rt, "a shape");
     let heap = Refusing::new(rt.alloc(), 1);
-    let mut held = Holdback::new(&heap, 1, shape).expect(&rt, "memory for the times");
+    let mut held = Holdback::new(&heap, 1, shape_of(&rt, 2)).expect(&rt, "memory for the times");
     let is_refused = held.cast(stamp!(1, 1), WRITE_FIVE).is_err();
     assert!(rt; is_refused && held.len() == 0);
 }

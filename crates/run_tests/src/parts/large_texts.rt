@@ -1,4 +1,5 @@
 //! Texts with as many names, scripts and operations as there may be.
+use crate::demands::demand_same;
 use crate::parts::bases::push_name;
 use crate::parts::reports::is_written_as;
 use crate::replays::add_times;
@@ -78,13 +79,8 @@ fn report_fault(alloc: Global, named: &Named) -> Option<ReadFault> {
 #[test]
 fn reports_have_as_many_names_as_they_may(rt: HostRuntime) {
     for (named, fault) in REPORTS {
-        let found = report_fault(rt.alloc(), named);
-        assert!(rt;
-            found == *fault,
-            "{} {}: {found:?}",
-            named.count,
-            named.rest
-        );
+        let row = (named.count, named.rest);
+        demand_same(&rt, &row, &report_fault(rt.alloc(), named), fault);
     }
 }
 
@@ -158,31 +154,42 @@ fn schedule_fault(alloc: Global, named: &Named) -> Option<ScheduleFault> {
 #[test]
 fn a_schedule_has_as_many_names_as_it_may(rt: HostRuntime) {
     for (named, fault) in SCHEDULES {
-        let found = schedule_fault(rt.alloc(), named);
-        assert!(rt; found == *fault, "{}: {found:?}", named.count);
+        demand_same(&rt, &named.count, &schedule_fault(rt.alloc(), named), fault);
     }
 }
 
-/// How many names, scripts and operations of the first script a document has, and why it is refused.
-const DOCUMENTS: &[(u32, u32, u32, Option<WorkloadFault>)] = &[
-    (4096, 1, 1, None),
-    (
-        4097,
-        1,
-        1,
-        Some(WorkloadFault::Range {
-            key: Key::Registers,
-        }),
-    ),
-    (1, 64, 1, None),
-    (1, 65, 1, Some(WorkloadFault::Range { key: Key::Scripts })),
-    (1, 1, 65_535, None),
-    (
-        1,
-        1,
-        65_536,
-        Some(WorkloadFault::Range { key: Key::Scripts }),
-    ),
+/// How many names, scripts and operations of the first script a document has.
+#[derive(Clone, Copy, Debug)]
+struct Counts {
+    names: u32,
+    scripts: u32,
+    reads: u32,
+}
+
+macro_rules! counts {
+    ($names:expr, $scripts:expr, $reads:expr) => {
+        Counts {
+            names: $names,
+            scripts: $scripts,
+            reads: $reads,
+        }
+    };
+}
+
+macro_rules! range {
+    ($key:ident) => {
+        Some(WorkloadFault::Range { key: Key::$key })
+    };
+}
+
+/// The counts of a document, and why it is refused.
+const DOCUMENTS: &[(Counts, Option<WorkloadFault>)] = &[
+    (counts!(4096, 1, 1), None),
+    (counts!(4097, 1, 1), range!(Registers)),
+    (counts!(1, 64, 1), None),
+    (counts!(1, 65, 1), range!(Scripts)),
+    (counts!(1, 1, 65_535), None),
+    (counts!(1, 1, 65_536), range!(Scripts)),
 ];
 
 /// Adds this number of names, each in quotes.
@@ -196,25 +203,20 @@ fn push_names(text: &mut String, names: u32) -> Result<(), AllocError> {
 }
 
 /// Adds the document of these counts.
-fn push_document(
-    text: &mut String,
-    names: u32,
-    scripts: u32,
-    reads: u32,
-) -> Result<(), AllocError> {
+fn push_document(text: &mut String, counts: &Counts) -> Result<(), AllocError> {
     text.push_str("front = \"linear\"\nregisters = [")?;
-    push_names(text, names)?;
+    push_names(text, counts.names)?;
     text.push_str("]\nscripts = [[")?;
-    add_times(text, "\"read aaa\",", reads)?;
+    add_times(text, "\"read aaa\",", counts.reads)?;
     text.push_str("],")?;
-    add_times(text, "[],", scripts.saturating_sub(1))?;
+    add_times(text, "[],", counts.scripts.saturating_sub(1))?;
     text.push_str("]\n")
 }
 
 /// Why the document of these counts is refused.
-fn document_fault(alloc: Global, names: u32, scripts: u32, reads: u32) -> Option<WorkloadFault> {
+fn document_fault(alloc: Global, counts: &Counts) -> Option<WorkloadFault> {
     let mut text = String::new(alloc);
-    match push_document(&mut text, names, scripts, reads) {
+    match push_document(&mut text, counts) {
         Ok(()) => Workload::from_toml(alloc, text.as_str()).err(),
         Err(_) => Some(WorkloadFault::OutOfMemory),
     }
@@ -222,8 +224,7 @@ fn document_fault(alloc: Global, names: u32, scripts: u32, reads: u32) -> Option
 
 #[test]
 fn a_document_has_as_much_as_it_may(rt: HostRuntime) {
-    for (names, scripts, reads, fault) in DOCUMENTS {
-        let found = document_fault(rt.alloc(), *names, *scripts, *reads);
-        assert!(rt; found == *fault, "{names} {scripts} {reads}: {found:?}");
+    for (counts, fault) in DOCUMENTS {
+        demand_same(&rt, counts, &document_fault(rt.alloc(), counts), fault);
     }
 }

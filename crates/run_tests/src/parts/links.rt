@@ -1,8 +1,9 @@
 //! Worked examples of both ends of a link, and of the links of one process together.
+use crate::demands::demand_same;
 use reg_frames::{Body, Frame};
 use reg_heap::Refusing;
 use reg_links::{Ahead, Inbox, LinkFault, Outbox, Outboxes};
-use std::alloc::Allocator;
+use std::alloc::{Allocator, Global};
 
 /// The last number of a frame.
 const LAST_NUMBER: u64 = 281_474_976_710_655;
@@ -118,15 +119,20 @@ fn answers_alone(out: &mut Outbox, step: &Use) -> bool {
     }
 }
 
+/// The place of the first row at which the link alone answers otherwise.
+fn other_alone(out: &mut Outbox) -> Option<usize> {
+    for (row, (step, pending)) in OF_TWO.iter().enumerate() {
+        if !answers_alone(out, step) || out.pending() != *pending {
+            return Some(row);
+        }
+    }
+    None
+}
+
 #[test]
 fn outbox_keeps_what_is_not_acknowledged(rt: HostRuntime) {
-    let mut out = Outbox::new(rt.alloc());
-    for (row, (step, pending)) in OF_TWO.iter().enumerate() {
-        assert!(rt;
-            answers_alone(&mut out, step) && out.pending() == *pending,
-            "{row}"
-        );
-    }
+    let row = other_alone(&mut Outbox::new(rt.alloc()));
+    assert!(rt; row.is_none(), "{row:?}");
 }
 
 /// Whether the links of three processes answer so.
@@ -160,14 +166,6 @@ fn links_keep_what_is_not_acknowledged_by_all(rt: HostRuntime) {
     assert!(rt; keeps(&mut out));
 }
 
-#[test]
-fn numbers_end(rt: HostRuntime) {
-    let mut out = Outbox::starting(rt.alloc(), LAST_NUMBER).expect(&rt, "the last number");
-    for answer in AT_THE_END {
-        assert!(rt; out.queue(TWO) == *answer && out.pending() == 1);
-    }
-}
-
 /// What is answered to a body with the last number, and to one more.
 const AT_THE_END: &[Result<Frame, LinkFault>] = &[
     Ok(Frame::Numbered {
@@ -177,14 +175,32 @@ const AT_THE_END: &[Result<Frame, LinkFault>] = &[
     Err(LinkFault::NumberFull),
 ];
 
+/// Whether a link that has used all numbers but the last one takes one body more, and no other.
+fn ends(out: &mut Outbox) -> bool {
+    for answer in AT_THE_END {
+        if out.queue(TWO) != *answer || out.pending() != 1 {
+            return false;
+        }
+    }
+    true
+}
+
+#[test]
+fn numbers_end(rt: HostRuntime) {
+    let out = Outbox::starting(rt.alloc(), LAST_NUMBER);
+    assert!(rt; ends(&mut out.expect(&rt, "the last number")));
+}
+
+/// Whether both ends of a link start with this number.
+fn are_started(alloc: Global, next: u64) -> [bool; 2] {
+    let is_sent = Outbox::starting(alloc, next).is_some();
+    [is_sent, Inbox::starting(next).is_some()]
+}
+
 #[test]
 fn no_number_is_past_the_end(rt: HostRuntime) {
     for (next, is_one) in [(LAST_NUMBER + 1, true), (LAST_NUMBER + 2, false)] {
-        let is_started = Outbox::starting(rt.alloc(), next).is_some();
-        assert!(rt;
-            is_started == is_one && Inbox::starting(next).is_some() == is_one,
-            "{next}"
-        );
+        demand_same(&rt, &next, &are_started(rt.alloc(), next), &[is_one; 2]);
     }
 }
 
@@ -210,13 +226,18 @@ fn a_refused_body_is_not_queued(rt: HostRuntime) {
     assert!(rt; queues_later(&mut out));
 }
 
+/// Whether there are no links to two others where memory is refused at once.
+fn are_refused(alloc: Global) -> bool {
+    let none = Refusing::new(alloc, 0);
+    Outboxes::new(&none, 3).is_err()
+}
+
 #[test]
 fn a_refused_body_is_queued_for_none(rt: HostRuntime) {
-    let none = Refusing::new(rt.alloc(), 0);
-    let is_refused = Outboxes::new(&none, 3).is_err();
+    assert!(rt; are_refused(rt.alloc()));
     let heap = Refusing::new(rt.alloc(), 1);
-    let mut out = Outboxes::new(&heap, 3).expect(&rt, "the counts");
-    assert!(rt; queues_for_all_later(&mut out) && is_refused);
+    let out = Outboxes::new(&heap, 3);
+    assert!(rt; queues_for_all_later(&mut out.expect(&rt, "the counts")));
 }
 
 /// Whether all that the only process queues counts as acknowledged.
@@ -247,10 +268,8 @@ const TAKEN: &[(u64, Option<Body>, u64)] = &[
 fn inbox_accepts_in_order(rt: HostRuntime) {
     let mut inbox = Inbox::new();
     for (number, accepted, expected) in TAKEN {
-        assert!(rt;
-            inbox.take(*number, TWO) == *accepted && inbox.expected() == *expected,
-            "{number}, then {expected}"
-        );
+        let taken = (inbox.take(*number, TWO), inbox.expected());
+        demand_same(&rt, number, &taken, &(*accepted, *expected));
     }
 }
 

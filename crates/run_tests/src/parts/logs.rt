@@ -1,12 +1,12 @@
 //! Worked examples of logs as text. Their seals were computed with another program's CRC-32.
 use crate::answers::{shown, unless_memory};
-use crate::demands::demand;
+use crate::demands::{demand, demand_none, demand_refusals, shape_of};
 use crate::parts::nodes::{ACKNOWLEDGED, CALL_READ, CALL_WRITE, TAKE_ACK, WROTE};
 use crate::parts::texts::names_of;
 use reg_base::{Names, Op, Shape};
 use reg_frames::{Body, Frame};
 use reg_front::{Front, Linear};
-use reg_heap::{Trial, refusals};
+use reg_heap::Trial;
 use reg_node::{
     LineFault, LogEntry, LogFault, LogId, LoggedFault, LoggedNode, MeetingFault, OpenFault,
     ReadLog, Recorded, Step, begin_log, read_log, sealed_entry,
@@ -181,14 +181,13 @@ fn is_head_read(alloc: Global, shape: Shape) -> bool {
 
 #[test]
 fn logs_are_written_as_they_are_read(rt: HostRuntime) {
-    let shape = Shape::new(2, 1).expect(&rt, "a shape");
-    let names = names_of(rt.alloc(), "registers x").expect(&rt, "names");
-    let line = unwritten(rt.alloc(), shape, &names);
-    drop(names);
-    assert!(rt;
-        line.is_none() && is_head_read(rt.alloc(), shape),
-        "{line:?}"
-    );
+    let shape = shape_of(&rt, 2);
+    let line = match names_of(rt.alloc(), "registers x") {
+        Ok(names) => unwritten(rt.alloc(), shape, &names),
+        Err(_) => Some("registers x"),
+    };
+    demand_none(&rt, &"written", &line);
+    assert!(rt; is_head_read(rt.alloc(), shape));
 }
 
 /// A write of a register without a name, and a frame of a time past the last one.
@@ -212,12 +211,22 @@ fn has_no_line(alloc: Global, names: &Names, step: Step) -> bool {
     sealed_entry(alloc, names, 0, &recorded).err() == Some(LineFault::Unfit)
 }
 
+/// The first step of which an entry has a line.
+fn fit(alloc: Global, names: &Names) -> Option<Step> {
+    for step in UNFIT {
+        if !has_no_line(alloc, names, step) {
+            return Some(step);
+        }
+    }
+    None
+}
+
 #[test]
 fn unfit_entries_have_no_line(rt: HostRuntime) {
     let names = names_of(rt.alloc(), "registers x").expect(&rt, "names");
-    for step in UNFIT {
-        assert!(rt; has_no_line(rt.alloc(), &names, step));
-    }
+    let step = fit(rt.alloc(), &names);
+    drop(names);
+    demand_none(&rt, &"unfit", &step);
 }
 
 /// A node that goes on after the log of these pieces. None where there is no memory, or no such log.
@@ -279,13 +288,17 @@ fn misspelled(node: &mut LoggedNode<Linear>) -> Option<&'static str> {
     }
 }
 
-#[test]
-fn nodes_spell_the_entries_of_their_logs(rt: HostRuntime) {
-    let other = match opened(rt.alloc(), &[HEAD]) {
+/// The same of a node that is opened.
+fn misspelled_by_new(alloc: Global) -> Option<&'static str> {
+    match opened(alloc, &[HEAD]) {
         Some(mut node) => misspelled(&mut node),
         None => Some(HEAD),
-    };
-    assert!(rt; other.is_none(), "{other:?}");
+    }
+}
+
+#[test]
+fn nodes_spell_the_entries_of_their_logs(rt: HostRuntime) {
+    demand_none(&rt, &"spelled", &misspelled_by_new(rt.alloc()));
 }
 
 /// Whether a node has two entries of a log, and writes the third one again, and before that nothing of its own.
@@ -296,15 +309,17 @@ fn goes_on(node: &mut LoggedNode<Linear>) -> bool {
         && writes(node, TAKE_ACK, ACKNOWLEDGE)
 }
 
-/// After a crash that tore the last entry off, the node writes it again.
-#[test]
-fn nodes_go_on_behind_what_a_crash_left(rt: HostRuntime) {
-    let pieces = &[HEAD, WRITE, GOT, "b9d266ce 0 take 1 00130101"];
-    let right = match opened(rt.alloc(), pieces) {
+/// The same of a node that is opened after a crash that tore the last entry off.
+fn new_goes_on(alloc: Global) -> bool {
+    match opened(alloc, &[HEAD, WRITE, GOT, "b9d266ce 0 take 1 00130101"]) {
         Some(mut node) => goes_on(&mut node),
         None => false,
-    };
-    assert!(rt; right);
+    }
+}
+
+#[test]
+fn nodes_go_on_behind_what_a_crash_left(rt: HostRuntime) {
+    assert!(rt; new_goes_on(rt.alloc()));
 }
 
 /// A log that is read, with a node that is opened with it and acknowledged.
@@ -361,6 +376,5 @@ impl Trial for Continued {
 
 #[test]
 fn each_growth_of_a_log_is_refused(rt: HostRuntime) -> Result<(), Fail> {
-    assert!(rt; refusals(&Continued, rt.alloc())? > 8);
-    Ok(())
+    demand_refusals(&rt, &Continued, 8)
 }

@@ -1,9 +1,8 @@
 //! Worked examples of a node that meets the others first, as tables of inputs and what each gives.
-use crate::demands::demand;
+use crate::demands::{demand, shape_of};
 use crate::parts::nodes::{
     CALL_READ, CALL_WRITE, TAKE_ACK, WROTE, push_counts, push_done, push_made, push_output,
 };
-use reg_base::Shape;
 use reg_front::{FrontEnd, Linear, LocalRead};
 use reg_node::{LogEntry, MeetingFault, MeetingNode, Step};
 use std::alloc::{AllocError, Allocator, Global};
@@ -131,9 +130,8 @@ fn follow<F: FrontEnd>(
     entries: &[LogEntry],
     rows: &[Row],
 ) {
-    let shape = Shape::new(processes, 1).expect(rt, "a shape");
-    let mut node = MeetingNode::<F>::open(rt.alloc(), shape, 0, entries).expect(rt, "a node");
-    demand_rows(rt, &mut node, rows);
+    let node = MeetingNode::<F>::open(rt.alloc(), shape_of(rt, processes), 0, entries);
+    demand_rows(rt, &mut node.expect(rt, "a node"), rows);
 }
 
 #[test]

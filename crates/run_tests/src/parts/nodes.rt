@@ -1,12 +1,12 @@
 //! Worked examples of one node: what it logs, holds back and hands out, as tables of inputs and what each gives.
 use crate::answers::unless_memory;
-use crate::demands::demand;
-use crate::parts::traces::push_puts;
+use crate::demands::{demand, demand_refusals, demand_same, shape_of};
+use crate::parts::traces::{push_puts, push_reply};
 use crate::values::{READ, WRITE_FIVE};
 use reg_base::{Answer, Op, Shape};
 use reg_frames::{Body, Frame};
 use reg_front::{FrontEnd, Linear, LocalRead, LocalWrite};
-use reg_heap::{Trial, refusals};
+use reg_heap::Trial;
 use reg_node::{LogEntry, Node, NodeFault, OpenFault, Output, ProcessFault, Reply, Step};
 use std::alloc::{AllocError, Allocator, Global};
 use std::fmt;
@@ -163,13 +163,6 @@ const NONE_LOST: &[Row] = &[
     (Input::HandOut, "puts #1 cast 4 read x to p1, 3 of 3"),
 ];
 
-fn push_reply(text: &mut String, reply: Option<Reply>) -> Result<(), AllocError> {
-    match reply {
-        Some(reply) => write!(text, "{:?} at place {}, ", reply.answer, reply.place),
-        None => Ok(()),
-    }
-}
-
 fn push_entry(text: &mut String, step: &Step, entry: &LogEntry) -> Result<(), AllocError> {
     if entry.step != *step {
         text.push_str("another step, ")?;
@@ -263,16 +256,14 @@ fn demand_rows<F: FrontEnd>(rt: &(impl Abort + AllocGlobal), node: &mut Node<F>,
 
 /// Has a new node, the first of two, make the rows.
 fn follow<F: FrontEnd>(rt: &(impl Abort + AllocGlobal), rows: &[Row]) {
-    let shape = Shape::new(2, 1).expect(rt, "a shape");
-    let mut node = Node::<F>::new(rt.alloc(), shape, 0).expect(rt, "a node");
-    demand_rows(rt, &mut node, rows);
+    let node = Node::<F>::new(rt.alloc(), shape_of(rt, 2), 0);
+    demand_rows(rt, &mut node.expect(rt, "a node"), rows);
 }
 
 /// Has a node that is opened with these entries make the rows.
 fn go_on(rt: &(impl Abort + AllocGlobal), entries: &[LogEntry], rows: &[Row]) {
-    let shape = Shape::new(2, 1).expect(rt, "a shape");
-    let mut node = Node::<Linear>::open(rt.alloc(), shape, 0, entries).expect(rt, "a node");
-    demand_rows(rt, &mut node, rows);
+    let node = Node::<Linear>::open(rt.alloc(), shape_of(rt, 2), 0, entries);
+    demand_rows(rt, &mut node.expect(rt, "a node"), rows);
 }
 
 #[test]
@@ -297,24 +288,37 @@ fn why_unopened(
     me: u8,
     entries: &[LogEntry],
 ) -> Option<OpenFault> {
-    let shape = Shape::new(2, 1).expect(rt, "a shape");
-    Node::<Linear>::open(rt.alloc(), shape, me, entries).err()
+    Node::<Linear>::open(rt.alloc(), shape_of(rt, 2), me, entries).err()
 }
+
+/// A process, entries with which no node is opened for it, and why.
+const UNOPENED: &[(u8, &[LogEntry], OpenFault)] = &[
+    (0, &[ACKNOWLEDGED, WROTE], OpenFault::NoStep { place: 0 }),
+    (
+        0,
+        &[WROTE, WROTE, ACKNOWLEDGED],
+        OpenFault::NoStep { place: 1 },
+    ),
+    (0, &[WROTE, ANOTHER_REPLY], OpenFault::NoStep { place: 1 }),
+    (2, &[WROTE], OpenFault::NoProcess),
+];
 
 #[test]
 fn the_first_entry_that_is_no_step_is_told(rt: HostRuntime) {
-    let late = why_unopened(&rt, 0, &[ACKNOWLEDGED, WROTE]);
-    assert!(rt; late == Some(OpenFault::NoStep { place: 0 }));
-    let twice = why_unopened(&rt, 0, &[WROTE, WROTE, ACKNOWLEDGED]);
-    assert!(rt; twice == Some(OpenFault::NoStep { place: 1 }));
-    let changed = why_unopened(&rt, 0, &[WROTE, ANOTHER_REPLY]);
-    assert!(rt; changed == Some(OpenFault::NoStep { place: 1 }));
-    assert!(rt; why_unopened(&rt, 2, &[WROTE]) == Some(OpenFault::NoProcess));
+    for (me, entries, fault) in UNOPENED {
+        demand_same(
+            &rt,
+            entries,
+            &why_unopened(&rt, *me, entries),
+            &Some(*fault),
+        );
+    }
 }
 
 /// A node that is opened, and makes rows.
 #[derive(Clone, Copy)]
 struct Opened {
+    shape: Shape,
     entries: &'static [LogEntry],
     rows: &'static [Row],
 }
@@ -364,7 +368,7 @@ fn all_given<A: Allocator + Copy>(
 
 impl Trial for Opened {
     fn answer<A: Allocator + Copy>(&self, alloc: A, ample: Global) -> Result<Option<String>, Fail> {
-        match Node::open(alloc, Shape::new(2, 1)?, 0, self.entries) {
+        match Node::open(alloc, self.shape, 0, self.entries) {
             Ok(mut node) => all_given(ample, &mut node, self.rows),
             Err(fault) => unless_memory(fault, fault == OpenFault::OutOfMemory),
         }
@@ -373,15 +377,17 @@ impl Trial for Opened {
 
 #[test]
 fn each_growth_of_a_node_is_refused(rt: HostRuntime) -> Result<(), Fail> {
+    let shape = shape_of(&rt, 2);
     let new = Opened {
+        shape,
         entries: &[],
         rows: HELD,
     };
-    assert!(rt; refusals(&new, rt.alloc())? > 4);
+    demand_refusals(&rt, &new, 4)?;
     let old = Opened {
+        shape,
         entries: &[WROTE, ACKNOWLEDGED],
         rows: NONE_LOST,
     };
-    assert!(rt; refusals(&old, rt.alloc())? > 4);
-    Ok(())
+    demand_refusals(&rt, &old, 4)
 }

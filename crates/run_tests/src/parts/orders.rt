@@ -1,8 +1,9 @@
 //! Histories and their orders, as worked by hand.
+use crate::demands::{demand, shape_of};
 use crate::histories::{STALE_READ, history_of};
 use crate::macros::{answered, called, cas_of, id, point};
 use crate::values::{READ, WRITE_FIVE};
-use reg_base::{Answer, Op, OpId, Shape};
+use reg_base::{Answer, Op, OpId};
 use reg_history::{CheckFault, Entry, History, HistoryFault, Point, check_points, check_serial};
 use std::alloc::Global;
 
@@ -135,9 +136,10 @@ fn are_judged(
 #[test]
 fn a_stale_read_is_serial(rt: HostRuntime) {
     for (entries, order, said) in JUDGED {
-        assert!(rt;
+        demand(
+            &rt,
+            &(order, said),
             is_judged(rt.alloc(), entries, order, *said),
-            "{order:?} {said:?}"
         );
     }
 }
@@ -145,10 +147,7 @@ fn a_stale_read_is_serial(rt: HostRuntime) {
 #[test]
 fn a_stale_read_has_no_points(rt: HostRuntime) {
     for (entries, points, said) in POINTS {
-        assert!(rt;
-            are_judged(rt.alloc(), entries, points, *said),
-            "{points:?}"
-        );
+        demand(&rt, points, are_judged(rt.alloc(), entries, points, *said));
     }
 }
 
@@ -164,9 +163,11 @@ fn keeps_places(history: &mut History) -> bool {
 
 #[test]
 fn entries_in_place(rt: HostRuntime) {
-    let shape = Shape::new(1, 1).expect(&rt, "a shape");
+    let shape = shape_of(&rt, 1);
     let mut history = History::new(rt.alloc(), shape).expect(&rt, "memory");
-    assert!(rt; keeps_places(&mut history) && history.shape() == shape);
+    let right = keeps_places(&mut history) && history.shape() == shape;
+    drop(history);
+    assert!(rt; right);
 }
 
 /// What is wrong with an order, and what is shown of it.
@@ -192,6 +193,6 @@ fn shows(alloc: Global, fault: CheckFault, words: &str) -> bool {
 #[test]
 fn each_fault_is_shown_in_its_words(rt: HostRuntime) {
     for (fault, words) in SHOWN {
-        assert!(rt; shows(rt.alloc(), *fault, words));
+        demand(&rt, words, shows(rt.alloc(), *fault, words));
     }
 }

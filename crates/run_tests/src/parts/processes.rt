@@ -1,10 +1,10 @@
 //! Worked examples of one process and of several side by side, as tables of steps and what each gives.
+use crate::demands::shape_of;
 use crate::parts::process_rows::{
     ALONE, AT_ONCE, COMPARED, EACH_LACKS, HELD_READ, LAST_TIME, OUT_OF_TURN, PAST_LAST_TIME,
     REFUSED, STOPPED, SWAP, TO_ALL, WAITING,
 };
 use crate::parts::traces::{Row, follow};
-use reg_base::Shape;
 use reg_front::{Front, Linear, LocalRead, LocalWrite};
 use reg_process::{Process, ProcessFault};
 
@@ -68,7 +68,6 @@ fn processes_step_by_step(rt: HostRuntime) {
 
 #[test]
 fn no_process_past_the_last(rt: HostRuntime) {
-    let shape = Shape::new(2, 1).expect(&rt, "a shape");
-    let fault = Process::<LocalRead>::new(rt.alloc(), shape, 2).err();
+    let fault = Process::<LocalRead>::new(rt.alloc(), shape_of(&rt, 2), 2).err();
     assert!(rt; fault == Some(ProcessFault::NoProcess));
 }

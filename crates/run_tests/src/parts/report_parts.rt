@@ -1,4 +1,5 @@
 //! Reports made of their parts: what they tell, and which parts are no report.
+use crate::demands::demand;
 use crate::histories::history_of;
 use crate::macros::{answered, called, id, point};
 use crate::parts::reports::is_written_as;
@@ -124,6 +125,6 @@ fn is_no_report(alloc: Global, parts: Parts, fault: Option<ReportFault>) -> bool
 #[test]
 fn parts_that_are_no_report_are_refused(rt: HostRuntime) {
     for (parts, fault) in NO_REPORTS {
-        assert!(rt; is_no_report(rt.alloc(), *parts, *fault), "{parts:?}");
+        demand(&rt, parts, is_no_report(rt.alloc(), *parts, *fault));
     }
 }

@@ -1,5 +1,5 @@
 //! Reports of each version: how they are written, and the line at which a text is refused.
-use crate::demands::demand;
+use crate::demands::{demand, demand_none, demand_same};
 use crate::report_texts::{COMPARED, NO_POINTS, NO_POINTS_NOW, ONE_PROCESS, ONE_PROCESS_NOW};
 use reg_history::{ReadFault, ReadWhy, Report, read_report, write_report};
 use std::alloc::{Allocator, Global};
@@ -276,11 +276,9 @@ fn least_read(alloc: Global, bytes: &[u8]) -> usize {
 fn every_shorter_text_is_refused(rt: HostRuntime) {
     for text in [ONE_PROCESS, ONE_PROCESS_NOW, COMPARED] {
         let least = least_read(rt.alloc(), text.as_bytes());
+        demand_same(&rt, &text, &least.wrapping_add(1), &text.len());
         let refused = refusal(rt.alloc(), text, "end\n", "end");
-        assert!(rt;
-            text.len().checked_sub(1) == Some(least) && refused.is_none(),
-            "{least}"
-        );
+        demand_none(&rt, &text, &refused);
     }
 }
 
@@ -316,11 +314,7 @@ fn misread_change(alloc: Global, bytes: &mut [u8]) -> Option<(usize, u8)> {
 
 #[test]
 fn every_changed_byte(rt: HostRuntime) {
-    let mut bytes = ONE_PROCESS_NOW
-        .as_bytes()
-        .to_vec(rt.alloc())
-        .expect(&rt, "memory");
-    let misread = misread_change(rt.alloc(), bytes.as_mut_slice());
-    drop(bytes);
-    assert!(rt; misread.is_none(), "{misread:?}");
+    let bytes = ONE_PROCESS_NOW.as_bytes().to_vec(rt.alloc());
+    let misread = misread_change(rt.alloc(), bytes.expect(&rt, "memory").as_mut_slice());
+    demand_none(&rt, &"a changed byte", &misread);
 }

@@ -1,4 +1,5 @@
 //! What a process tells of what it holds, of what its caller waits for, and of the other process.
+use crate::demands::shape_of;
 use crate::parts::traces::step_of;
 use crate::values::{READ, WRITE_FIVE};
 use reg_base::{Delivered, Shape, Stamp};
@@ -102,7 +103,6 @@ fn untold_by_new(alloc: Global, shape: Shape) -> Option<usize> {
 
 #[test]
 fn what_is_held_and_awaited(rt: HostRuntime) {
-    let shape = Shape::new(2, 1).expect(&rt, "a shape");
-    let place = untold_by_new(rt.alloc(), shape);
+    let place = untold_by_new(rt.alloc(), shape_of(&rt, 2));
     assert!(rt; place.is_none(), "{place:?}");
 }

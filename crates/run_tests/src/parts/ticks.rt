@@ -1,4 +1,5 @@
 //! What a tick puts again.
+use crate::demands::shape_of;
 use crate::values::WRITE_FIVE;
 use reg_base::Shape;
 use reg_frames::{Body, Frame};
@@ -45,6 +46,5 @@ fn new_puts_the_first_sixteen(alloc: Global, shape: Shape, writes: u8) -> bool {
 
 #[test]
 fn tick_puts_the_first_sixteen(rt: HostRuntime) {
-    let shape = Shape::new(2, 1).expect(&rt, "a shape");
-    assert!(rt; new_puts_the_first_sixteen(rt.alloc(), shape, 17));
+    assert!(rt; new_puts_the_first_sixteen(rt.alloc(), shape_of(&rt, 2), 17));
 }

@@ -1,9 +1,9 @@
 //! What steps of processes give, a line for each.
-use crate::demands::demand;
-use reg_base::{Delivered, Op, Shape};
+use crate::demands::{demand, shape_of};
+use reg_base::{Delivered, Op, Shape, Stamp};
 use reg_frames::{Body, Frame};
 use reg_front::FrontEnd;
-use reg_process::{Outcome, Process, ProcessFault, Put, Step};
+use reg_process::{Outcome, Process, ProcessFault, Put, Reply, Step};
 use reg_text::OpLine;
 use std::alloc::{AllocError, Allocator, Global};
 use std::process::Abort;
@@ -49,16 +49,25 @@ fn push_casts(text: &mut String, casts: &[Delivered]) -> Result<(), AllocError> 
     Ok(())
 }
 
-fn push_told<A: Allocator + Copy>(text: &mut String, out: &Outcome<A>) -> Result<(), AllocError> {
-    if let Some(stamp) = out.cast {
-        write!(text, "casts at {} of p{}, ", stamp.time, stamp.process)?;
+fn push_cast(text: &mut String, cast: Option<Stamp>) -> Result<(), AllocError> {
+    match cast {
+        Some(stamp) => write!(text, "casts at {} of p{}, ", stamp.time, stamp.process),
+        None => Ok(()),
     }
-    push_puts(text, out.frames.as_slice())?;
-    push_casts(text, out.delivered.as_slice())?;
-    match out.reply {
+}
+
+pub(crate) fn push_reply(text: &mut String, reply: Option<Reply>) -> Result<(), AllocError> {
+    match reply {
         Some(reply) => write!(text, "{:?} at place {}, ", reply.answer, reply.place),
         None => Ok(()),
     }
+}
+
+fn push_told<A: Allocator + Copy>(text: &mut String, out: &Outcome<A>) -> Result<(), AllocError> {
+    push_cast(text, out.cast)?;
+    push_puts(text, out.frames.as_slice())?;
+    push_casts(text, out.delivered.as_slice())?;
+    push_reply(text, out.reply)
 }
 
 /// What a process gives where it makes the step.
@@ -121,7 +130,20 @@ fn demand_rows<F: FrontEnd>(rt: &(impl Abort + AllocGlobal), all: &mut [Process<
     }
 }
 
-/// The given number of processes, of one register. They stand in a list of ample memory.
+/// Adds a new process.
+fn add_process<F: FrontEnd, A: Allocator + Copy>(
+    all: &mut Vec<Process<F, A>>,
+    alloc: A,
+    shape: Shape,
+    me: u8,
+) -> Result<(), ProcessFault> {
+    match all.push(Process::new(alloc, shape, me)?) {
+        Ok(()) => Ok(()),
+        Err(_) => Err(ProcessFault::OutOfMemory),
+    }
+}
+
+/// The processes of a shape. They stand in a list of ample memory.
 pub(crate) fn all_of<F: FrontEnd, A: Allocator + Copy>(
     alloc: A,
     ample: Global,
@@ -129,17 +151,13 @@ pub(crate) fn all_of<F: FrontEnd, A: Allocator + Copy>(
 ) -> Result<Vec<Process<F, A>>, ProcessFault> {
     let mut all = Vec::new(ample);
     for me in 0..shape.processes() as u8 {
-        let process = Process::<F, A>::new(alloc, shape, me)?;
-        if all.push(process).is_err() {
-            return Err(ProcessFault::OutOfMemory);
-        }
+        add_process(&mut all, alloc, shape, me)?;
     }
     Ok(all)
 }
 
 /// Has processes of one shape make the steps, and demands the line of each.
 pub(crate) fn follow<F: FrontEnd>(rt: &(impl Abort + AllocGlobal), processes: u32, rows: &[Row]) {
-    let shape = Shape::new(processes, 1).expect(rt, "a shape");
-    let mut all = all_of::<F, Global>(rt.alloc(), rt.alloc(), shape).expect(rt, "processes");
-    demand_rows(rt, all.as_mut_slice(), rows);
+    let all = all_of::<F, Global>(rt.alloc(), rt.alloc(), shape_of(rt, processes));
+    demand_rows(rt, all.expect(rt, "processes").as_mut_slice(), rows);
 }
