@@ -7,12 +7,12 @@ use reg_frames::{Body, Frame};
 use reg_history::{Entry, Point};
 use reg_world::{Event, First};
 
-/// The runs of each front end.
-pub(crate) fn compared() -> &'static [Row] {
-    COMPARED
+/// The runs of every front end with compare-and-swaps that all are delivered.
+pub(crate) fn compared_in_order() -> &'static [Row] {
+    ORDERED
 }
 
-const COMPARED: &[Row] = &[
+const ORDERED: &[Row] = &[
     Row {
         name: "a compare-and-swap is done on a register that was never written, and the next one is unequal",
         processes: 1,
@@ -146,6 +146,14 @@ const COMPARED: &[Row] = &[
         refused: &[],
     },
     // Applied twice, the second time would find 5. The first frame is lost, the second one is taken twice.
+];
+
+/// Those in which frames are lost.
+pub(crate) fn compared_lost() -> &'static [Row] {
+    LOST
+}
+
+const LOST: &[Row] = &[
     Row {
         name: "a compare-and-swap whose frame was lost and repeated is applied once",
         processes: 2,

@@ -134,12 +134,12 @@ macro_rules! ids {
 
 const WRITE: Event = call!(0, write_of!(1));
 
-/// The runs of `local-write`.
-pub(crate) fn local_write() -> &'static [Row] {
-    LOCAL_WRITE
+/// The runs of `local-write` in which an operation waits.
+pub(crate) fn local_write_waits() -> &'static [Row] {
+    WAITS
 }
 
-const LOCAL_WRITE: &[Row] = &[
+const WAITS: &[Row] = &[
     Row {
         name: "a local read waits for an own write",
         processes: 2,
@@ -164,22 +164,6 @@ const LOCAL_WRITE: &[Row] = &[
             (0, 1, &[cast!(0, 1, WRITE_FIVE), got!(1)]),
             (1, 0, &[got!(1), ack!(0, 2)]),
         ],
-        refused: &[],
-    },
-    Row {
-        name: "a finished write that nobody delivered stands last",
-        processes: 2,
-        events: &[call!(0, WRITE_FIVE)],
-        history: &[
-            called!(0, 0, 0, WRITE_FIVE),
-            answered!(0, 0, 0, Answer::Done),
-        ],
-        casts: &[],
-        reads: &[],
-        order: &[id!(0, 0)],
-        points: &[],
-        copies: &[(1, 1, false, 0), (0, 0, false, 0)],
-        wires: &[(0, 1, &[cast!(0, 1, WRITE_FIVE)]), (1, 0, &[])],
         refused: &[],
     },
     Row {
@@ -247,6 +231,14 @@ const LOCAL_WRITE: &[Row] = &[
         refused: &[],
     },
     // It expects the value of the own write, which its copy doesn't hold at the call, and does at the delivery.
+];
+
+/// Those with compare-and-swaps.
+pub(crate) fn local_write_compares() -> &'static [Row] {
+    COMPARES
+}
+
+const COMPARES: &[Row] = &[
     Row {
         name: "a compare-and-swap compares at its delivery",
         processes: 2,
@@ -312,6 +304,30 @@ const LOCAL_WRITE: &[Row] = &[
             ),
             (1, 0, &[got!(1), ack!(0, 2)]),
         ],
+        refused: &[],
+    },
+];
+
+/// Those in which frames are lost.
+pub(crate) fn local_write_lost() -> &'static [Row] {
+    LOST
+}
+
+const LOST: &[Row] = &[
+    Row {
+        name: "a finished write that nobody delivered stands last",
+        processes: 2,
+        events: &[call!(0, WRITE_FIVE)],
+        history: &[
+            called!(0, 0, 0, WRITE_FIVE),
+            answered!(0, 0, 0, Answer::Done),
+        ],
+        casts: &[],
+        reads: &[],
+        order: &[id!(0, 0)],
+        points: &[],
+        copies: &[(1, 1, false, 0), (0, 0, false, 0)],
+        wires: &[(0, 1, &[cast!(0, 1, WRITE_FIVE)]), (1, 0, &[])],
         refused: &[],
     },
     Row {

@@ -1,11 +1,13 @@
 //! Each schedule that was worked by hand has its report, and each report is judged too.
 use crate::commands::{Given, gives};
-use crate::replay_rows::ROWS;
+use crate::demands::demand;
+use crate::replay_rows::{Row, linear, local};
 use crate::replays::ONE_PROCESS_SCHEDULE;
 use crate::report_texts::ONE_PROCESS_NOW;
 use crate::streams::demand_each_growth;
 use reg_commands::Command;
 use std::alloc::Global;
+use std::process::Abort;
 
 /// The verdict on a report, by the front end that it names.
 fn verdict_on(report: &str) -> &'static str {
@@ -28,22 +30,36 @@ pub(crate) fn has_report(
         && gives(alloc, Command::Check, (report, ""), verdict)
 }
 
+const ONE_PROCESS: &[Row] = &[Row {
+    schedule: ONE_PROCESS_SCHEDULE,
+    report: ONE_PROCESS_NOW,
+}];
+
+/// Demands that the schedules of these rows have their reports.
+fn demand_reports(rt: &(impl Abort + AllocGlobal), rows: &[Row]) {
+    for row in rows {
+        let parts = (row.schedule, "");
+        let right = has_report(rt.alloc(), Command::Replay, parts, row.report);
+        demand(rt, &row.schedule, right);
+    }
+}
+
 #[test]
 fn each_run_has_its_report(rt: HostRuntime) {
-    let (alloc, replay) = (rt.alloc(), Command::Replay);
-    assert!(rt; has_report(alloc, replay, (ONE_PROCESS_SCHEDULE, ""), ONE_PROCESS_NOW));
-    for row in ROWS {
-        assert!(rt;
-            has_report(alloc, replay, (row.schedule, ""), row.report),
-            "{}",
-            row.schedule
-        );
+    demand_reports(&rt, ONE_PROCESS);
+    demand_reports(&rt, linear());
+    demand_reports(&rt, local());
+}
+
+/// Demands that every growth of the replays of these rows is refused in turn.
+fn demand_growths(rt: &(impl Abort + AllocGlobal), rows: &[Row]) {
+    for row in rows {
+        demand_each_growth(rt, rt.alloc(), Command::Replay, row.schedule, row.report);
     }
 }
 
 #[test]
 fn a_replay_with_each_growth_refused(rt: HostRuntime) {
-    for row in ROWS {
-        demand_each_growth(&rt, rt.alloc(), Command::Replay, row.schedule, row.report);
-    }
+    demand_growths(&rt, linear());
+    demand_growths(&rt, local());
 }

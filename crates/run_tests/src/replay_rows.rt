@@ -6,7 +6,12 @@ pub(crate) struct Row {
     pub(crate) report: &'static str,
 }
 
-pub(crate) const ROWS: &[Row] = &[
+/// The runs of `linear`. (No function names the texts of all runs, since one that names many is slow to prove.)
+pub(crate) fn linear() -> &'static [Row] {
+    LINEAR
+}
+
+const LINEAR: &[Row] = &[
     // A write that the other process acknowledges.
     Row {
         schedule: "processes 2
@@ -81,80 +86,6 @@ p1 #0
 points 2
 p0 #0 at 2
 p1 #0 at 3
-end
-",
-    },
-    // A stale local read.
-    Row {
-        schedule: "processes 3
-registers x
-front local-read
-call 0 write x 5
-take 0 1 0
-take 0 2 0
-take 1 0 1
-take 2 0 1
-call 1 read x
-",
-        report: "awreg report 2
-front local-read
-processes 3
-registers 1
-x
-history 4
-       0  p0    #0       call    write x 5
-       4  p0    #0       answer  done
-       5  p1    #0       call    read x
-       5  p1    #0       answer  value 0
-order 2
-p1 #0
-p0 #0
-end
-",
-    },
-    // A read that waits for the own write.
-    Row {
-        schedule: "processes 2
-registers x
-front local-write
-call 0 write x 5
-call 0 read x
-take 0 1 0
-take 1 0 1
-",
-        report: "awreg report 2
-front local-write
-processes 2
-registers 1
-x
-history 4
-       0  p0    #0       call    write x 5
-       0  p0    #0       answer  done
-       1  p0    #1       call    read x
-       3  p0    #1       answer  value 5
-order 2
-p0 #0
-p0 #1
-end
-",
-    },
-    // A write answered at once and delivered nowhere.
-    Row {
-        schedule: "processes 2
-registers x
-front local-write
-call 0 write x 5
-",
-        report: "awreg report 2
-front local-write
-processes 2
-registers 1
-x
-history 2
-       0  p0    #0       call    write x 5
-       0  p0    #0       answer  done
-order 1
-p0 #0
 end
 ",
     },
@@ -270,6 +201,115 @@ p1 #0 at 6
 end
 ",
     },
+    // Two swaps of one process.
+    Row {
+        schedule: "processes 1
+registers x
+front linear
+call 0 swap x 5
+call 0 swap x 6
+",
+        report: "awreg report 2
+front linear
+processes 1
+registers 1
+x
+history 4
+       0  p0    #0       call    swap x 5
+       0  p0    #0       answer  value 0
+       1  p0    #1       call    swap x 6
+       1  p0    #1       answer  value 5
+order 2
+p0 #0
+p0 #1
+points 2
+p0 #0 at 0
+p0 #1 at 1
+end
+",
+    },
+];
+
+/// The runs of the other front ends.
+pub(crate) fn local() -> &'static [Row] {
+    LOCAL
+}
+
+const LOCAL: &[Row] = &[
+    // A stale local read.
+    Row {
+        schedule: "processes 3
+registers x
+front local-read
+call 0 write x 5
+take 0 1 0
+take 0 2 0
+take 1 0 1
+take 2 0 1
+call 1 read x
+",
+        report: "awreg report 2
+front local-read
+processes 3
+registers 1
+x
+history 4
+       0  p0    #0       call    write x 5
+       4  p0    #0       answer  done
+       5  p1    #0       call    read x
+       5  p1    #0       answer  value 0
+order 2
+p1 #0
+p0 #0
+end
+",
+    },
+    // A read that waits for the own write.
+    Row {
+        schedule: "processes 2
+registers x
+front local-write
+call 0 write x 5
+call 0 read x
+take 0 1 0
+take 1 0 1
+",
+        report: "awreg report 2
+front local-write
+processes 2
+registers 1
+x
+history 4
+       0  p0    #0       call    write x 5
+       0  p0    #0       answer  done
+       1  p0    #1       call    read x
+       3  p0    #1       answer  value 5
+order 2
+p0 #0
+p0 #1
+end
+",
+    },
+    // A write answered at once and delivered nowhere.
+    Row {
+        schedule: "processes 2
+registers x
+front local-write
+call 0 write x 5
+",
+        report: "awreg report 2
+front local-write
+processes 2
+registers 1
+x
+history 2
+       0  p0    #0       call    write x 5
+       0  p0    #0       answer  done
+order 1
+p0 #0
+end
+",
+    },
     // A read answered between two deliveries of one event.
     Row {
         schedule: "processes 2
@@ -296,33 +336,6 @@ order 3
 p0 #0
 p0 #1
 p1 #0
-end
-",
-    },
-    // Two swaps of one process.
-    Row {
-        schedule: "processes 1
-registers x
-front linear
-call 0 swap x 5
-call 0 swap x 6
-",
-        report: "awreg report 2
-front linear
-processes 1
-registers 1
-x
-history 4
-       0  p0    #0       call    swap x 5
-       0  p0    #0       answer  value 0
-       1  p0    #1       call    swap x 6
-       1  p0    #1       answer  value 5
-order 2
-p0 #0
-p0 #1
-points 2
-p0 #0 at 0
-p0 #1 at 1
 end
 ",
     },

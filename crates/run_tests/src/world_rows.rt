@@ -30,12 +30,13 @@ pub(crate) struct Row {
 
 const BEYOND: Op = Op::Read { register: 1 };
 
-/// The runs of `linear`.
-pub(crate) fn linear() -> &'static [Row] {
-    LINEAR
+/// The runs of `linear` that tell when an operation is answered. (No function names all runs, since one that names many
+/// constants is slow to prove.)
+pub(crate) fn linear_answers() -> &'static [Row] {
+    ANSWERS
 }
 
-const LINEAR: &[Row] = &[
+const ANSWERS: &[Row] = &[
     Row {
         name: "one process answers at once",
         processes: 1,
@@ -119,6 +120,14 @@ const LINEAR: &[Row] = &[
         ],
         refused: &[],
     },
+];
+
+/// Those that tell in which order operations stand.
+pub(crate) fn linear_orders() -> &'static [Row] {
+    ORDERS
+}
+
+const ORDERS: &[Row] = &[
     Row {
         name: "an unfinished write that another process delivered",
         processes: 2,
@@ -169,6 +178,55 @@ const LINEAR: &[Row] = &[
         ],
         refused: &[],
     },
+    Row {
+        name: "the order is that of whoever delivers first",
+        processes: 3,
+        events: &[
+            call!(0, write_of!(1)),
+            call!(1, write_of!(2)),
+            take!(0, 2, 0),
+            take!(2, 1, 0),
+            take!(0, 1, 0),
+            take!(1, 0, 0),
+            take!(0, 1, 2),
+            take!(2, 0, 1),
+        ],
+        history: &[
+            called!(0, 0, 0, write_of!(1)),
+            called!(1, 1, 0, write_of!(2)),
+            answered!(6, 1, 0, Answer::Done),
+            answered!(7, 0, 0, Answer::Done),
+        ],
+        casts: &[
+            first!(1, 0, 0, write_of!(1), 4),
+            first!(1, 1, 0, write_of!(2), 6),
+        ],
+        reads: &[],
+        order: &[id!(0, 0), id!(1, 0)],
+        points: &[point!(0, 4), point!(1, 6)],
+        copies: &[(3, 4, false, 2), (5, 4, false, 2), (2, 2, false, 0)],
+        wires: &[
+            (0, 1, &[cast!(0, 1, write_of!(1)), got!(1), ack!(1, 2)]),
+            (0, 2, &[cast!(0, 1, write_of!(1)), ack!(1, 2), got!(1)]),
+            (
+                1,
+                0,
+                &[cast!(0, 1, write_of!(2)), got!(1), ack!(1, 4), got!(2)],
+            ),
+            (1, 2, &[cast!(0, 1, write_of!(2)), got!(1), ack!(1, 4)]),
+            (2, 0, &[got!(1), ack!(0, 2)]),
+            (2, 1, &[ack!(0, 2)]),
+        ],
+        refused: &[],
+    },
+];
+
+/// Those that tell what becomes of frames and of events that are refused.
+pub(crate) fn linear_frames() -> &'static [Row] {
+    FRAMES
+}
+
+const FRAMES: &[Row] = &[
     Row {
         name: "a repeated frame is dropped",
         processes: 2,
@@ -274,46 +332,5 @@ const LINEAR: &[Row] = &[
             (call!(0, BEYOND), WorldFault::Busy),
             (call!(2, BEYOND), WorldFault::NoProcess),
         ],
-    },
-    Row {
-        name: "the order is that of whoever delivers first",
-        processes: 3,
-        events: &[
-            call!(0, write_of!(1)),
-            call!(1, write_of!(2)),
-            take!(0, 2, 0),
-            take!(2, 1, 0),
-            take!(0, 1, 0),
-            take!(1, 0, 0),
-            take!(0, 1, 2),
-            take!(2, 0, 1),
-        ],
-        history: &[
-            called!(0, 0, 0, write_of!(1)),
-            called!(1, 1, 0, write_of!(2)),
-            answered!(6, 1, 0, Answer::Done),
-            answered!(7, 0, 0, Answer::Done),
-        ],
-        casts: &[
-            first!(1, 0, 0, write_of!(1), 4),
-            first!(1, 1, 0, write_of!(2), 6),
-        ],
-        reads: &[],
-        order: &[id!(0, 0), id!(1, 0)],
-        points: &[point!(0, 4), point!(1, 6)],
-        copies: &[(3, 4, false, 2), (5, 4, false, 2), (2, 2, false, 0)],
-        wires: &[
-            (0, 1, &[cast!(0, 1, write_of!(1)), got!(1), ack!(1, 2)]),
-            (0, 2, &[cast!(0, 1, write_of!(1)), ack!(1, 2), got!(1)]),
-            (
-                1,
-                0,
-                &[cast!(0, 1, write_of!(2)), got!(1), ack!(1, 4), got!(2)],
-            ),
-            (1, 2, &[cast!(0, 1, write_of!(2)), got!(1), ack!(1, 4)]),
-            (2, 0, &[got!(1), ack!(0, 2)]),
-            (2, 1, &[ack!(0, 2)]),
-        ],
-        refused: &[],
     },
 ];

@@ -1,9 +1,10 @@
 //! Runs as worked by hand: what a world tells after its events.
-use crate::compared_rows::compared;
-use crate::local_rows::{local_read, local_write};
+use crate::compared_rows::{compared_in_order, compared_lost};
+use crate::demands::{demand, demand_none, shape_of};
+use crate::local_rows::{local_read, local_write_compares, local_write_lost, local_write_waits};
 use crate::macros::{call, take, tick};
 use crate::values::WRITE_FIVE;
-use crate::world_rows::{Row, linear};
+use crate::world_rows::{Row, linear_answers, linear_frames, linear_orders};
 use reg_base::{OpId, Shape};
 use reg_frames::Frame;
 use reg_front::{Front, FrontEnd, Linear, LocalRead, LocalWrite};
@@ -65,8 +66,8 @@ fn has_order<F: FrontEnd>(world: &World<F>, ids: &[OpId]) -> bool {
     }
 }
 
-/// The part of its row that the world doesn't tell, the points aside.
-fn differing<F: FrontEnd>(world: &World<F>, row: &Row) -> Option<&'static str> {
+/// The part of its row that the world doesn't tell, of its events and what they made.
+fn differing_list<F: FrontEnd>(world: &World<F>, row: &Row) -> Option<&'static str> {
     if world.shape().processes() != row.processes || world.accepted() != row.events {
         Some("events")
     } else if world.history().entries() != row.history {
@@ -75,6 +76,16 @@ fn differing<F: FrontEnd>(world: &World<F>, row: &Row) -> Option<&'static str> {
         Some("casts")
     } else if world.reads() != row.reads {
         Some("reads")
+    } else {
+        None
+    }
+}
+
+/// The part of its row that the world doesn't tell, the points aside.
+fn differing<F: FrontEnd>(world: &World<F>, row: &Row) -> Option<&'static str> {
+    let list = differing_list(world, row);
+    if list.is_some() {
+        list
     } else if !has_witness(world, row.order) || !has_order(world, row.order) {
         Some("order")
     } else if !has_copies(world, row.copies) {
@@ -145,28 +156,36 @@ fn differing_front(alloc: Global, front: Front, row: &Row) -> Option<&'static st
     }
 }
 
+/// The runs of a front end alone.
+fn own_runs_of(front: Front) -> [&'static [Row]; 3] {
+    match front {
+        Front::Linear => [linear_answers(), linear_orders(), linear_frames()],
+        Front::LocalRead => [local_read(), &[], &[]],
+        Front::LocalWrite => [
+            local_write_waits(),
+            local_write_compares(),
+            local_write_lost(),
+        ],
+    }
+}
+
 /// The runs of a front end: its own, and those that every front end has.
-pub(crate) fn runs_of(front: Front) -> [&'static [Row]; 2] {
-    let own = match front {
-        Front::Linear => linear(),
-        Front::LocalRead => local_read(),
-        Front::LocalWrite => local_write(),
-    };
-    [own, compared()]
+pub(crate) fn runs_of(front: Front) -> [&'static [Row]; 5] {
+    let own = own_runs_of(front);
+    [own[0], own[1], own[2], compared_in_order(), compared_lost()]
 }
 
 /// Demands that worlds tell what the rows of a front end say.
-fn demand(rt: &(impl Abort + AllocGlobal), front: Front, rows: &[Row]) {
+fn demand_rows(rt: &(impl Abort + AllocGlobal), front: Front, rows: &[Row]) {
     for row in rows {
-        let part = differing_front(rt.alloc(), front, row);
-        assert!(rt; part.is_none(), "{}: {part:?}", row.name);
+        demand_none(rt, &row.name, &differing_front(rt.alloc(), front, row));
     }
 }
 
 #[test]
 fn linear_runs(rt: HostRuntime) {
     for rows in runs_of(Front::Linear) {
-        demand(&rt, Front::Linear, rows);
+        demand_rows(&rt, Front::Linear, rows);
     }
 }
 
@@ -174,7 +193,7 @@ fn linear_runs(rt: HostRuntime) {
 fn local_runs(rt: HostRuntime) {
     for front in [Front::LocalRead, Front::LocalWrite] {
         for rows in runs_of(front) {
-            demand(&rt, front, rows);
+            demand_rows(&rt, front, rows);
         }
     }
 }
@@ -218,8 +237,8 @@ fn runs_so(alloc: Global, shape: Shape, events: &[Event], fault: Option<RunFault
 
 #[test]
 fn a_run_goes_on_behind_its_list(rt: HostRuntime) {
-    let shape = Shape::new(2, 1).expect(&rt, "a shape");
+    let shape = shape_of(&rt, 2);
     for (events, fault) in OWNED {
-        assert!(rt; runs_so(rt.alloc(), shape, events, *fault), "{fault:?}");
+        demand(&rt, fault, runs_so(rt.alloc(), shape, events, *fault));
     }
 }
