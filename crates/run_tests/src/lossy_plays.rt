@@ -1,6 +1,7 @@
 //! Seeded plays with loss: the witness of each beside the plain list of it, and how many are finished. Each comes to
 //! rest where it ended.
-use crate::plays::{LOSSY, SMALL};
+use crate::demands::demand_none;
+use crate::plays::{LOSSY, SMALL, work_of};
 use crate::resting::comes_to_rest;
 use crate::seeded::{are_points, is_right};
 use reg_front::{Front, FrontEnd, Linear, LocalRead, LocalWrite};
@@ -23,23 +24,45 @@ const REPEATS: &str = "repeat = 50\n";
 
 const HALF_LOST: &str = "loss = 50\n";
 
-/// A workload, lines more of it, the front end of its plays, how many seeds play it, and the fewest plays that are
-/// finished.
-const PLAYS: &[(&str, &str, Front, u64, u64)] = &[
-    (SMALL, LOSSY, Front::LocalWrite, 10, 10),
-    (SMALL, LOSSY, Front::LocalWrite, 200, 10),
-    (SMALL, LOSSY, Front::LocalRead, 5, 1),
-    (SMALL, LOSSY, Front::Linear, 5, 1),
-    (SMALL, REPEATS, Front::Linear, 10, 10),
-    (SWAPS, LOSSY, Front::LocalWrite, 5, 1),
-    (SWAPS, LOSSY, Front::LocalRead, 5, 1),
-    (SWAPS, LOSSY, Front::Linear, 5, 1),
-    (COMPARES, LOSSY, Front::LocalWrite, 5, 1),
-    (COMPARES, LOSSY, Front::LocalRead, 5, 1),
-    (COMPARES, LOSSY, Front::Linear, 5, 1),
-    (THREE, HALF_LOST, Front::LocalWrite, 5, 0),
-    (THREE, HALF_LOST, Front::LocalRead, 5, 0),
-    (THREE, HALF_LOST, Front::Linear, 5, 0),
+/// Plays of a workload.
+#[derive(Clone, Copy, Debug)]
+struct Plays {
+    /// The document of the workload.
+    head: &'static str,
+    /// Lines more of it.
+    lines: &'static str,
+    front: Front,
+    /// How many seeds play it.
+    seeds: u64,
+}
+
+macro_rules! plays {
+    ($head:expr, $lines:expr, $front:ident, $seeds:expr) => {
+        Plays {
+            head: $head,
+            lines: $lines,
+            front: Front::$front,
+            seeds: $seeds,
+        }
+    };
+}
+
+/// Plays, and the fewest of them that are finished.
+const PLAYS: &[(Plays, u64)] = &[
+    (plays!(SMALL, LOSSY, LocalWrite, 10), 10),
+    (plays!(SMALL, LOSSY, LocalWrite, 200), 10),
+    (plays!(SMALL, LOSSY, LocalRead, 5), 1),
+    (plays!(SMALL, LOSSY, Linear, 5), 1),
+    (plays!(SMALL, REPEATS, Linear, 10), 10),
+    (plays!(SWAPS, LOSSY, LocalWrite, 5), 1),
+    (plays!(SWAPS, LOSSY, LocalRead, 5), 1),
+    (plays!(SWAPS, LOSSY, Linear, 5), 1),
+    (plays!(COMPARES, LOSSY, LocalWrite, 5), 1),
+    (plays!(COMPARES, LOSSY, LocalRead, 5), 1),
+    (plays!(COMPARES, LOSSY, Linear, 5), 1),
+    (plays!(THREE, HALF_LOST, LocalWrite, 5), 0),
+    (plays!(THREE, HALF_LOST, LocalRead, 5), 0),
+    (plays!(THREE, HALF_LOST, Linear, 5), 0),
 ];
 
 /// Whether a play is finished. None where it has too many events, its witness isn't the plain list and a serial order,
@@ -59,15 +82,17 @@ fn end_of_seed<F: FrontEnd>(alloc: Global, work: &Workload, seed: u64) -> Option
 }
 
 /// The same of a linear play, whose points are looked at too.
-fn end_of_linear(alloc: Global, work: &Workload, seed: u64) -> Option<bool> {
+fn end_of_linear(alloc: Global, play: &mut Play<Linear>, budget: u32) -> Option<bool> {
+    if !are_points(alloc, &play.world) {
+        return None;
+    }
+    end_of(alloc, play, budget)
+}
+
+/// The same of the linear play of a seed.
+fn end_of_linear_seed(alloc: Global, work: &Workload, seed: u64) -> Option<bool> {
     match play_seeded::<Linear, _, _>(alloc, work, SeedWords::new(seed)) {
-        Ok(mut play) => {
-            if are_points(alloc, &play.world) {
-                end_of(alloc, &mut play, work.budget)
-            } else {
-                None
-            }
-        }
+        Ok(mut play) => end_of_linear(alloc, &mut play, work.budget),
         Err(_) => None,
     }
 }
@@ -81,7 +106,7 @@ fn finished_plays(alloc: Global, work: &Workload, front: Front, seeds: u64) -> R
     let mut count = 0u64;
     for seed in 0..seeds {
         let end = match front {
-            Front::Linear => end_of_linear(alloc, work, seed),
+            Front::Linear => end_of_linear_seed(alloc, work, seed),
             Front::LocalRead => end_of_seed::<LocalRead>(alloc, work, seed),
             Front::LocalWrite => end_of_seed::<LocalWrite>(alloc, work, seed),
         };
@@ -93,32 +118,36 @@ fn finished_plays(alloc: Global, work: &Workload, front: Front, seeds: u64) -> R
     Ok(count)
 }
 
-/// How many plays of the first seeds are finished, of the two parts of a document. An error where one is wrong.
-fn finished_of(
-    alloc: Global,
-    document: (&str, &str),
-    budget: u32,
-    front: Front,
-    seeds: u64,
-) -> Result<u64, u64> {
-    let (head, lines) = document;
-    let Ok(text) = format!(in alloc; "{head}{lines}budget = {budget}\n") else {
-        return Err(0);
-    };
-    match Workload::from_toml(alloc, text.as_str()) {
-        Ok(work) => finished_plays(alloc, &work, front, seeds),
-        Err(_) => Err(0),
+/// How many of these plays are finished. An error where one is wrong.
+fn finished_of(alloc: Global, plays: &Plays, budget: u32) -> Result<u64, u64> {
+    match work_of(alloc, plays.head, plays.lines, budget) {
+        Some(work) => finished_plays(alloc, &work, plays.front, plays.seeds),
+        None => Err(0),
+    }
+}
+
+/// How many of these plays are finished, where they are too few or one is wrong.
+fn too_few(alloc: Global, plays: &Plays, least: u64) -> Option<Result<u64, u64>> {
+    match finished_of(alloc, plays, 100_000) {
+        Ok(count) if count >= least => None,
+        count => Some(count),
     }
 }
 
 #[test]
 fn the_witness_of_each_play_is_the_plain_list(rt: HostRuntime) {
-    for (head, lines, front, seeds, least) in PLAYS {
-        let count = finished_of(rt.alloc(), (head, lines), 100_000, *front, *seeds);
-        assert!(rt;
-            matches!(count, Ok(count) if count >= *least),
-            "{head}{lines}: {count:?}"
-        );
+    for (plays, least) in PLAYS {
+        demand_none(&rt, plays, &too_few(rt.alloc(), plays, *least));
+    }
+}
+
+const TIGHT: Plays = plays!(SMALL, LOSSY, LocalWrite, 10);
+
+/// How many plays of this budget are finished, where they are too many or one is wrong.
+fn too_many(alloc: Global, budget: u32) -> Option<Result<u64, u64>> {
+    match finished_of(alloc, &TIGHT, budget) {
+        Ok(count) if budget > 2 || count == 0 => None,
+        count => Some(count),
     }
 }
 
@@ -126,10 +155,6 @@ fn the_witness_of_each_play_is_the_plain_list(rt: HostRuntime) {
 #[test]
 fn a_lossy_play_keeps_a_tight_budget(rt: HostRuntime) {
     for budget in 1..40u32 {
-        let count = finished_of(rt.alloc(), (SMALL, LOSSY), budget, Front::LocalWrite, 10);
-        assert!(rt;
-            count.is_ok() && (budget > 2 || count == Ok(0)),
-            "{budget}: {count:?}"
-        );
+        demand_none(&rt, &budget, &too_many(rt.alloc(), budget));
     }
 }

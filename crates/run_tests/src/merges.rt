@@ -1,6 +1,7 @@
 //! Logs of seeded plays, put into one order again: whole, with an entry cut off, and with a reply changed.
+use crate::demands::demand_none;
 use crate::lossy_plays::{SWAPS, THREE};
-use crate::plays::{LOSSY, SMALL};
+use crate::plays::{LOSSY, SMALL, work_of};
 use reg_base::Shape;
 use reg_front::{Front, FrontEnd, Linear, LocalRead, LocalWrite};
 use reg_process::{Reply, Step};
@@ -227,31 +228,36 @@ fn is_right<F: FrontEnd>(alloc: Global, work: &Workload, seed: u64) -> bool {
     }
 }
 
+/// The same with this front end.
+fn is_right_by(alloc: Global, work: &Workload, front: Front, seed: u64) -> bool {
+    match front {
+        Front::Linear => is_right::<Linear>(alloc, work, seed),
+        Front::LocalRead => is_right::<LocalRead>(alloc, work, seed),
+        Front::LocalWrite => is_right::<LocalWrite>(alloc, work, seed),
+    }
+}
+
 /// The first seed whose play isn't right.
-fn first_wrong(alloc: Global, head: &str, front: Front, seeds: u64) -> Option<u64> {
-    let Ok(text) = format!(in alloc; "{head}{LOSSY}budget = 120\n") else {
-        return Some(seeds);
-    };
-    let Ok(work) = Workload::from_toml(alloc, text.as_str()) else {
-        return Some(seeds);
-    };
+fn first_wrong(alloc: Global, work: &Workload, front: Front, seeds: u64) -> Option<u64> {
     for seed in 0..seeds {
-        let right = match front {
-            Front::Linear => is_right::<Linear>(alloc, &work, seed),
-            Front::LocalRead => is_right::<LocalRead>(alloc, &work, seed),
-            Front::LocalWrite => is_right::<LocalWrite>(alloc, &work, seed),
-        };
-        if !right {
+        if !is_right_by(alloc, work, front, seed) {
             return Some(seed);
         }
     }
     None
 }
 
+/// The same of the workload that a document says.
+fn first_wrong_of(alloc: Global, head: &str, front: Front, seeds: u64) -> Option<u64> {
+    match work_of(alloc, head, LOSSY, 120) {
+        Some(work) => first_wrong(alloc, &work, front, seeds),
+        None => Some(seeds),
+    }
+}
+
 #[test]
 fn logs_of_plays_are_put_in_order_again(rt: HostRuntime) {
     for (head, front, seeds) in PLAYS {
-        let wrong = first_wrong(rt.alloc(), head, *front, *seeds);
-        assert!(rt; wrong.is_none(), "{head}: {wrong:?}");
+        demand_none(&rt, head, &first_wrong_of(rt.alloc(), head, *front, *seeds));
     }
 }

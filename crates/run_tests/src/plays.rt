@@ -1,4 +1,5 @@
 //! Plays of a small workload: how they end, and the words of seeds.
+use crate::demands::demand_same;
 use reg_front::LocalWrite;
 use reg_workload::{Play, SeedWords, Words, Workload, play_fair, play_seeded};
 use std::alloc::{AllocError, Global};
@@ -13,6 +14,12 @@ pub(crate) const LOSSY: &str = "loss = 20\nrepeat = 20\n";
 /// The document of the small workload, with these lines more.
 pub(crate) fn small_with(alloc: Global, lines: &str) -> Result<String, AllocError> {
     format!(in alloc; "{SMALL}{lines}")
+}
+
+/// The workload of a document in two parts, with this budget. None where it isn't one, or memory is refused.
+pub(crate) fn work_of(alloc: Global, head: &str, lines: &str, budget: u32) -> Option<Workload> {
+    let text = format!(in alloc; "{head}{lines}budget = {budget}\n").ok()?;
+    Workload::from_toml(alloc, text.as_str()).ok()
 }
 
 /// A source of words of a user's own, which gives 0 each time.
@@ -76,10 +83,7 @@ fn end_of_small(alloc: Global, lines: &str, source: Source) -> Option<(bool, u32
 fn plays_end_as_worked_by_hand(rt: HostRuntime) {
     for (lines, source, finished, events) in ENDS {
         let end = end_of_small(rt.alloc(), lines, *source);
-        assert!(rt;
-            end == Some((*finished, *events)),
-            "{source:?} {lines}: {end:?}"
-        );
+        demand_same(&rt, &(lines, source), &end, &Some((*finished, *events)));
     }
 }
 
@@ -106,11 +110,15 @@ const WORDS: &[(u64, [u32; 4])] = &[
     ),
 ];
 
+/// The first words of a seed.
+fn words_of(seed: u64) -> [u32; 4] {
+    let mut source = SeedWords::new(seed);
+    [source.word(), source.word(), source.word(), source.word()]
+}
+
 #[test]
 fn seeds_have_their_words(rt: HostRuntime) {
     for (seed, words) in WORDS {
-        let mut source = SeedWords::new(*seed);
-        let drawn = [source.word(), source.word(), source.word(), source.word()];
-        assert!(rt; drawn == *words, "{seed}: {drawn:?}");
+        demand_same(&rt, seed, &words_of(*seed), words);
     }
 }
