@@ -1,5 +1,6 @@
 //! The commands as a user meets them, on reports and schedules worked by hand.
 use crate::commands::{Given, gives, gives_from};
+use crate::demands::{demand, demand_none};
 use crate::report_texts::ONE_PROCESS_NOW;
 use crate::sources::whole;
 use reg_commands::Command;
@@ -155,8 +156,7 @@ fn misjudged(alloc: Global, head: &str, rests: &[Judged]) -> Option<&'static str
 #[test]
 fn orders_are_judged(rt: HostRuntime) {
     for (head, rests) in JUDGED {
-        let rest = misjudged(rt.alloc(), head, rests);
-        assert!(rt; rest.is_none(), "{head}{rest:?}");
+        demand_none(&rt, head, &misjudged(rt.alloc(), head, rests));
     }
 }
 
@@ -186,7 +186,9 @@ end
 ";
 
 /// What is cut off the report of one process, what is put after it, and what its check gives then.
-const CHANGED: &[(&str, &str, Given<'static>)] = &[
+type Changed = (&'static str, &'static str, Given<'static>);
+
+const CHANGED: &[Changed] = &[
     ("", "", Given::Accepted("serial yes\npoints yes\n")),
     (
         FROM_THE_FIRST_ANSWER,
@@ -203,14 +205,17 @@ const CHANGED: &[(&str, &str, Given<'static>)] = &[
     ("", "end\n", Given::Refused("line 18: end\n")),
 ];
 
+/// Whether the check of a changed report gives this.
+fn is_read_so(alloc: Global, row: &Changed) -> bool {
+    let (cut, behind, given) = *row;
+    let front = ONE_PROCESS_NOW.strip_suffix(cut).unwrap_or("");
+    gives(alloc, Command::Check, (front, behind), given)
+}
+
 #[test]
 fn reports_are_read_as_they_were_written(rt: HostRuntime) {
-    for (cut, behind, given) in CHANGED {
-        let front = ONE_PROCESS_NOW.strip_suffix(*cut).unwrap_or("");
-        assert!(rt;
-            gives(rt.alloc(), Command::Check, (front, behind), *given),
-            "{cut} by {behind}"
-        );
+    for row in CHANGED {
+        demand(&rt, &(row.0, row.1), is_read_so(rt.alloc(), row));
     }
 }
 
@@ -228,6 +233,6 @@ fn an_input_is_text(rt: HostRuntime) {
         Command::Replay,
         Command::Play { fair: true },
     ] {
-        assert!(rt; refuses_bytes(rt.alloc(), command));
+        demand(&rt, &command, refuses_bytes(rt.alloc(), command));
     }
 }

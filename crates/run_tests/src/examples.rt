@@ -1,6 +1,7 @@
 //! Examples that stand in no other table, with what the tutorial says of them. The texts are those of the folder
 //! `examples`.
 use crate::commands::{Given, gives};
+use crate::demands::demand;
 use reg_commands::Command;
 
 /// An example, the command that reads it, and what it gives.
@@ -135,10 +136,7 @@ end
 fn each_example_is_answered_as_the_tutorial_says(rt: HostRuntime) {
     for example in EXAMPLES {
         let parts = (example.text, "");
-        assert!(rt;
-            gives(rt.alloc(), example.command, parts, example.given),
-            "{}",
-            example.text
-        );
+        let right = gives(rt.alloc(), example.command, parts, example.given);
+        demand(&rt, &example.text, right);
     }
 }

@@ -119,10 +119,14 @@ fn is_shown(alloc: Global, fault: Fault, line: &str) -> bool {
     }
 }
 
+/// Whether a fault is told and shown so.
+fn has_line(alloc: Global, fault: Fault, line: &str) -> bool {
+    is_told(alloc, fault, line) && is_shown(alloc, fault, line)
+}
+
 #[test]
 fn faults_have_their_lines(rt: HostRuntime) {
     for (fault, line) in LINES {
-        let has_line = is_told(rt.alloc(), *fault, line) && is_shown(rt.alloc(), *fault, line);
-        demand(&rt, line, has_line);
+        demand(&rt, line, has_line(rt.alloc(), *fault, line));
     }
 }

@@ -1,8 +1,9 @@
 //! Each growth of what is read and played refused in turn: the answer is out of memory, or the one with ample memory.
 use crate::answers::{shown, unless_memory};
+use crate::demands::demand_refusals;
 use crate::plays::{LOSSY, small_with};
 use reg_front::LocalWrite;
-use reg_heap::{Trial, refusals};
+use reg_heap::Trial;
 use reg_inputs::read_table;
 use reg_workload::{
     Play, Schedule, ScheduleFault, SeedWords, Workload, WorkloadFault, parse_schedule, play_fair,
@@ -93,7 +94,7 @@ impl Trial for Read {
 #[test]
 fn each_growth_of_what_is_read_and_played_is_refused(rt: HostRuntime) -> Result<(), Fail> {
     for (read, least) in [(Read::Schedule, 2), (Read::Fair, 10), (Read::Seeded, 10)] {
-        assert!(rt; refusals(&read, rt.alloc())? > least);
+        demand_refusals(&rt, &read, least)?;
     }
     Ok(())
 }

@@ -1,8 +1,10 @@
 //! The largest shapes, and the reports of both versions, as a user meets them.
 use crate::commands::{Given, gives};
+use crate::demands::demand;
 use crate::replays::ONE_PROCESS_SCHEDULE;
 use crate::report_texts::{ONE_PROCESS, ONE_PROCESS_NOW};
 use reg_commands::Command;
+use std::alloc::Global;
 
 /// The last of 64 processes reads.
 const LAST_PROCESS: &str = "processes 64
@@ -28,7 +30,9 @@ end
 const BOTH: &str = "serial yes\npoints yes\n";
 
 /// A command, the two parts of its input, and what it gives.
-const LARGEST: &[(Command, &str, &str, Given<'static>)] = &[
+type Row = (Command, &'static str, &'static str, Given<'static>);
+
+const LARGEST: &[Row] = &[
     (
         Command::Replay,
         ONE_PROCESS_SCHEDULE,
@@ -69,12 +73,15 @@ const LARGEST: &[(Command, &str, &str, Given<'static>)] = &[
     ),
 ];
 
+/// Whether the command gives that.
+fn is_given(alloc: Global, row: &Row) -> bool {
+    let (command, head, tail, given) = *row;
+    gives(alloc, command, (head, tail), given)
+}
+
 #[test]
 fn the_largest_shapes_and_both_versions(rt: HostRuntime) {
-    for (command, head, tail, given) in LARGEST {
-        assert!(rt;
-            gives(rt.alloc(), *command, (head, tail), *given),
-            "{head}{tail}"
-        );
+    for row in LARGEST {
+        demand(&rt, &(row.1, row.2), is_given(rt.alloc(), row));
     }
 }

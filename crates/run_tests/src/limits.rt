@@ -1,4 +1,5 @@
 //! The limits of a run and of a process.
+use crate::demands::{demand, shape_of};
 use crate::macros::{call, tick};
 use crate::values::{READ, WRITE_FIVE};
 use reg_base::Shape;
@@ -49,9 +50,9 @@ fn is_limited(alloc: Global, shape: Shape, row: &(Event, u32, WorldFault, usize)
 
 #[test]
 fn a_run_has_so_many_operations_and_events(rt: HostRuntime) {
-    let shape = Shape::new(1, 1).expect(&rt, "a shape");
+    let shape = shape_of(&rt, 1);
     for row in &LIMITS {
-        assert!(rt; is_limited(rt.alloc(), shape, row), "{:?}", row.2);
+        demand(&rt, &row.2, is_limited(rt.alloc(), shape, row));
     }
 }
 
@@ -75,6 +76,5 @@ fn new_calls_enough(alloc: Global, shape: Shape) -> bool {
 
 #[test]
 fn operations_end(rt: HostRuntime) {
-    let shape = Shape::new(1, 1).expect(&rt, "a shape");
-    assert!(rt; new_calls_enough(rt.alloc(), shape));
+    assert!(rt; new_calls_enough(rt.alloc(), shape_of(&rt, 1)));
 }

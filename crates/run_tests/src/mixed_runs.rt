@@ -1,4 +1,5 @@
 //! A run of the front end of a user's own.
+use crate::demands::shape_of;
 use crate::macros::{answered, call, called, id, take};
 use crate::mixed::Mixed;
 use crate::values::{READ, WRITE_FIVE};
@@ -52,6 +53,5 @@ fn new_sees_its_write(alloc: Global, shape: Shape) -> bool {
 
 #[test]
 fn reads_of_the_mixed_front_end_see_own_writes(rt: HostRuntime) {
-    let shape = Shape::new(2, 1).expect(&rt, "a shape");
-    assert!(rt; new_sees_its_write(rt.alloc(), shape));
+    assert!(rt; new_sees_its_write(rt.alloc(), shape_of(&rt, 2)));
 }

@@ -1,10 +1,11 @@
 //! Serial orders and point orders of small histories, found: those worked out by hand, the limit, and memory refused.
 use crate::answers::{shown, unless_memory};
+use crate::demands::demand_refusals;
 use crate::histories::{STALE_READ, history_of};
 use crate::macros::{answered, called, id, point, write_of};
 use crate::values::{READ, WRITE_FIVE};
 use reg_base::{Answer, Op, OpId};
-use reg_heap::{Trial, refusals};
+use reg_heap::Trial;
 use reg_history::{Entry, History, Point, check_points, check_serial};
 use reg_outcomes::{InterleavingFault, find_points, find_serial};
 use std::alloc::{AllocError, Allocator, Global};
@@ -325,6 +326,5 @@ impl Trial for Starved {
 
 #[test]
 fn want_of_memory(rt: HostRuntime) -> Result<(), Fail> {
-    assert!(rt; refusals(&Starved, rt.alloc())? > 10);
-    Ok(())
+    demand_refusals(&rt, &Starved, 10)
 }

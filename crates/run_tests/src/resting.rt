@@ -1,13 +1,14 @@
 //! Worlds brought to rest: a lost write, as worked by hand, runs behind each of their events, large shapes, the most
 //! events, and each growth refused.
 use crate::answers::{shown, unless_memory};
+use crate::demands::{demand, demand_none, demand_refusals, shape_of};
 use crate::macros::{call, take, tick};
 use crate::values::WRITE_FIVE;
 use crate::world_rows::Row;
 use crate::worlds::runs_of;
 use reg_base::Shape;
 use reg_front::{Front, FrontEnd, Linear, LocalRead, LocalWrite};
-use reg_heap::{Trial, refusals};
+use reg_heap::Trial;
 use reg_process::Process;
 use reg_records::{SettleFault, settle};
 use reg_world::{Event, PackedWires, RunFault, WireStore, World, WorldFault};
@@ -70,8 +71,8 @@ fn settles_by(alloc: Global, shape: Shape, events: &[Event]) -> bool {
 #[test]
 fn a_lost_write_is_settled_as_worked_by_hand(rt: HostRuntime) {
     for (processes, events) in [(2, TWO), (3, THREE)] {
-        let shape = Shape::new(processes, 1).expect(&rt, "a shape");
-        assert!(rt; settles_by(rt.alloc(), shape, events), "{processes}");
+        let right = settles_by(rt.alloc(), shape_of(&rt, processes), events);
+        demand(&rt, &processes, right);
     }
 }
 
@@ -136,8 +137,7 @@ fn restless_row(alloc: Global, front: Front, row: &Row) -> Option<usize> {
 /// Demands that the runs of these rows come to rest behind each event.
 fn demand_rests(rt: &(impl Abort + AllocGlobal), front: Front, rows: &[Row]) {
     for row in rows {
-        let count = restless_row(rt.alloc(), front, row);
-        assert!(rt; count.is_none(), "{}: {count:?}", row.name);
+        demand_none(rt, &row.name, &restless_row(rt.alloc(), front, row));
     }
 }
 
@@ -171,11 +171,8 @@ fn rests_behind_writes(alloc: Global, shape: Shape, writers: u8) -> bool {
 #[test]
 fn large_shapes_settle(rt: HostRuntime) {
     for (processes, writers) in [(16, 16), (64, 1)] {
-        let shape = Shape::new(processes, 1).expect(&rt, "a shape");
-        assert!(rt;
-            rests_behind_writes(rt.alloc(), shape, writers),
-            "{processes}"
-        );
+        let right = rests_behind_writes(rt.alloc(), shape_of(&rt, processes), writers);
+        demand(&rt, &processes, right);
     }
 }
 
@@ -248,8 +245,8 @@ impl Trial for Rests {
 #[test]
 fn each_growth_of_a_rest_is_refused(rt: HostRuntime) -> Result<(), Fail> {
     for processes in 2..=3 {
-        let shape = Shape::new(processes, 1)?;
-        assert!(rt; refusals(&Rests { shape }, rt.alloc())? > 4);
+        let shape = shape_of(&rt, processes);
+        demand_refusals(&rt, &Rests { shape }, 4)?;
     }
     Ok(())
 }

@@ -1,4 +1,5 @@
 //! Schedules as they are read, and the lines that they are refused at.
+use crate::demands::demand;
 use crate::macros::{call, cas_of, take, tick};
 use crate::values::READ;
 use reg_base::Op;
@@ -72,7 +73,7 @@ const HEADERS: &[(&str, u64, Why)] = &[
 #[test]
 fn a_header_is_refused_at_its_line(rt: HostRuntime) {
     for (text, line, why) in HEADERS {
-        assert!(rt; is_judged(rt.alloc(), text, *line, *why), "{text}");
+        demand(&rt, text, is_judged(rt.alloc(), text, *line, *why));
     }
 }
 
@@ -108,6 +109,6 @@ fn is_no_event(alloc: Global, line: &str, why: Why) -> bool {
 #[test]
 fn an_event_is_refused_at_its_line(rt: HostRuntime) {
     for (line, why) in NO_EVENTS {
-        assert!(rt; is_no_event(rt.alloc(), line, *why), "{line}");
+        demand(&rt, line, is_no_event(rt.alloc(), line, *why));
     }
 }

@@ -1,4 +1,5 @@
 //! A plain list of the witness, by a scan of all reads for each place, beside the merged one on pseudo-random runs.
+use crate::demands::{demand, shape_of};
 use crate::values::READ;
 use reg_base::{Op, OpId, Shape};
 use reg_frames::{Body, Frame};
@@ -309,18 +310,19 @@ fn all_agree(alloc: Global, shape: Shape, seed: u64) -> bool {
 
 #[test]
 fn the_witness_is_the_plain_list(rt: HostRuntime) {
-    let shape = Shape::new(3, 1).expect(&rt, "a shape");
+    let shape = shape_of(&rt, 3);
     for seed in 0..40 {
-        assert!(rt; all_agree(rt.alloc(), shape, seed));
+        demand(&rt, &seed, all_agree(rt.alloc(), shape, seed));
     }
 }
 
 #[test]
 fn some_casts_are_lost_and_some_reads_share_a_place(rt: HostRuntime) {
-    let shape = Shape::new(3, 1).expect(&rt, "a shape");
+    let shape = shape_of(&rt, 3);
     let mut seen = NOTHING;
     for seed in 0..40 {
-        assert!(rt; agrees::<LocalWrite>(&mut seen, rt.alloc(), shape, seed));
+        let right = agrees::<LocalWrite>(&mut seen, rt.alloc(), shape, seed);
+        demand(&rt, &seed, right);
     }
     assert!(rt; seen.lost && seen.reads);
 }

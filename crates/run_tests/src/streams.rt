@@ -1,5 +1,6 @@
 //! Inputs read byte by byte, as long as they may be and without end, and memory refused in the midst of a command.
 use crate::commands::{Given, gives_from, is_given};
+use crate::demands::demand;
 use crate::replays::ONE_PROCESS_SCHEDULE;
 use crate::report_texts::ONE_PROCESS_NOW;
 use crate::sources::{Source, Spaces, whole};
@@ -83,7 +84,9 @@ pub(crate) fn demand_each_growth(
 }
 
 /// A command, what it reads, and what it gives.
-const COMMANDS: &[(Command, &str, &str)] = &[
+type Row = (Command, &'static str, &'static str);
+
+const COMMANDS: &[Row] = &[
     (Command::Replay, ONE_PROCESS_SCHEDULE, ONE_PROCESS_NOW),
     (Command::Check, ONE_PROCESS_NOW, "serial yes\npoints yes\n"),
 ];
@@ -109,14 +112,19 @@ fn an_input_up_to_the_limit(rt: HostRuntime) {
     assert!(rt; gives_from(rt.alloc(), Command::Check, &mut reader, given));
 }
 
+/// Whether the command gives that where it reads a byte at a time.
+fn gives_byte_by_byte(alloc: Global, row: &Row) -> bool {
+    let (command, input, output) = *row;
+    let mut reader = Source {
+        most: 1,
+        ..whole(input.as_bytes(), &[])
+    };
+    gives_from(alloc, command, &mut reader, Given::Accepted(output))
+}
+
 #[test]
 fn one_byte_at_a_time(rt: HostRuntime) {
-    for (command, input, output) in COMMANDS {
-        let mut reader = Source {
-            most: 1,
-            ..whole(input.as_bytes(), &[])
-        };
-        let given = Given::Accepted(output);
-        assert!(rt; gives_from(rt.alloc(), *command, &mut reader, given));
+    for row in COMMANDS {
+        demand(&rt, row, gives_byte_by_byte(rt.alloc(), row));
     }
 }
