@@ -120,7 +120,7 @@ fn field_of(column: Column, bytes: &[u8]) -> Option<(u64, &[u8])> {
 fn other_field(column: Column, rows: &[(&'static str, Field)]) -> Option<&'static str> {
     for (text, field) in rows {
         if !is_field(field_of(column, text.as_bytes()), *field) {
-            return Some(text);
+            return Some(*text);
         }
     }
     None
@@ -230,7 +230,7 @@ fn is_no_operation(names: &Names, text: &str, why: Option<Why>) -> bool {
 fn misread_operation(alloc: Global, names: &Names) -> Option<&'static str> {
     for (text, op) in OPERATIONS {
         if !is_operation(alloc, names, text, *op) {
-            return Some(text);
+            return Some(*text);
         }
     }
     None
@@ -240,7 +240,7 @@ fn misread_operation(alloc: Global, names: &Names) -> Option<&'static str> {
 fn read_as_one(names: &Names) -> Option<&'static str> {
     for (text, why) in NO_OPERATIONS {
         if !is_no_operation(names, text, *why) {
-            return Some(text);
+            return Some(*text);
         }
     }
     None

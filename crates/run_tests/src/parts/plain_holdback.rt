@@ -1,7 +1,9 @@
 //! The hold-back queue beside a plain list of stamps, in which the least is searched for.
+use crate::demands::shape_of;
 use crate::values::WRITE_FIVE;
-use reg_base::{Shape, Stamp};
+use reg_base::Stamp;
 use reg_holdback::Holdback;
+use std::alloc::Global;
 
 /// The queue of process 1 of three as a list.
 #[derive(Drop)]
@@ -95,22 +97,30 @@ fn popped_by_both(held: &mut Holdback, plain: &mut Plain) -> Option<u32> {
     Some(popped)
 }
 
-#[test]
-fn agrees_with_a_plain_list(rt: HostRuntime) {
-    let shape = Shape::new(3, 1).expect(&rt, "a shape");
-    let own = Stamp {
-        time: 40,
-        process: 1,
-    };
-    let mut held = Holdback::new(rt.alloc(), 1, shape).expect(&rt, "memory");
+/// An own cast.
+const OWN: Stamp = Stamp {
+    time: 40,
+    process: 1,
+};
+
+/// The same of a queue that holds the own cast, beside a list of it.
+fn popped_beside_list(alloc: Global, held: &mut Holdback) -> Option<u32> {
     let mut plain = Plain {
         seen: [0; 3],
-        held: Vec::new(rt.alloc()),
+        held: Vec::new(alloc),
     };
-    let added = held.cast(own, WRITE_FIVE).is_ok() && plain.held.push(own).is_ok();
-    let popped = popped_by_both(&mut held, &mut plain);
+    plain.held.push(OWN).ok()?;
+    popped_by_both(held, &mut plain)
+}
+
+#[test]
+fn agrees_with_a_plain_list(rt: HostRuntime) {
+    let mut held = Holdback::new(rt.alloc(), 1, shape_of(&rt, 3)).expect(&rt, "memory");
+    let cast = held.cast(OWN, WRITE_FIVE).is_ok();
+    let popped = popped_beside_list(rt.alloc(), &mut held);
+    drop(held);
     assert!(rt;
-        added && matches!(popped, Some(popped) if popped > 50),
+        cast && matches!(popped, Some(popped) if popped > 50),
         "{popped:?}"
     );
 }
