@@ -1,4 +1,5 @@
--- The first answer that none explains, by those of the keys. It carries a proof: no promise speaks of it.
+-- The first answer that none explains, by those of the keys. It carries a proof: of what stands here promises speak of
+-- `IsAnswerAt` alone.
 use Rattle.std.specs.Prelude.{ℕ, ◌≡◌, ◌<◌, ◌≤◌, ◌⊎◌, List, Option, Some, None}
 use Rattle.reg_base.specs.declared.memory.Answer.{Answer}
 use Rattle.reg_base.specs.declared.memory.OpId.{OpId}
