@@ -1,9 +1,8 @@
 -- Candidates gathered, and those that are possible.
-use Rattle.std.proofs.Common.{◌≡◌, ◌⊎◌, inl, inr, ℕ, ◌+◌, ◌<◌, ◌≤◌, ◌↔◌, Bool, true, false, cond, List, [], ◌∷◌, ◌++◌, Option, Some, None, MatchOption, length, refl, sym, ◌∙◌, subst, arith}
+use Rattle.std.proofs.Common.{◌≡◌, ◌⊎◌, inl, inr, ℕ, ◌+◌, ◌<◌, ◌≤◌, ◌↔◌, Bool, true, false, cond, List, [], ◌∷◌, ◌++◌, Option, Some, MatchOption, length, refl, sym, ◌∙◌, subst, arith}
 use Rattle.std.specs.Bool.{IsTrue}
 use Rattle.std.specs.Option.{unwrap_or}
 use Rattle.std.proofs.lemmas.Bool.{cases_eq}
-use Rattle.std.proofs.lemmas.Option.{same_Some}
 use Rattle.reg_base.specs.declared.memory.Answer.{Answer}
 use Rattle.reg_base.specs.declared.memory.Answer.TheVariants.{Done, Value, Unequal}
 use Rattle.reg_base.specs.declared.memory.OpId.{OpId}
@@ -15,7 +14,7 @@ use Rattle.reg_checkers.specs.History.{IsAnswered, IsAt, IsCalled, IsFinished}
 use Rattle.reg_checkers.specs.Table.{IsTable, Rows}
 use Rattle.reg_checkers.proofs.Places.{get_push_other, get_push_same, same_at, within}
 use Rattle.reg_checkers.proofs.Pushing.{at_push}
-use Rattle.reg_judge.specs.Candidates.{AreAnswersOf, AreAnswersTo, AreCandidates, AreLeft, AreLeftTo, ArePossibleOf, ArePossibleTo, HasMore, HasValue, IsChange, IsSince, Leaves}
+use Rattle.reg_judge.specs.Candidates.{AreAnswersTo, AreCandidates, AreLeftTo, ArePossibleOf, ArePossibleTo, HasMore, IsChange, IsSince, Leaves}
 use Rattle.reg_judge.specs.Possible.{ArePossible, Has, IsPossible}
 
 -- it stands in the list
@@ -33,18 +32,6 @@ in_more xs x y (k, at) = elim (at_push xs k x y at) [ inl old ↦ inl (k, old) |
 
 -- Values
 
-pub more_none : (values : List ℕ) → HasMore values None values
-more_none values = record { kept = λ v has. has; has = λ v e. absurd cc }
-
-pub more_had : (values : List ℕ) (v : ℕ) → HasValue values v → HasMore values (Some v) values
-more_had values v there = record { kept = λ w has. has; has = λ w e. subst (HasValue values) (same_Some v w e) there }
-
-pub more_new : (values : List ℕ) (v : ℕ) → HasMore values (Some v) (values ++ v ∷ [])
-more_new values v = record { kept = λ w has. in_old values v w has; has = λ w e. subst (HasValue (values ++ v ∷ [])) (same_Some v w e) (in_new values v) }
-
-pub left_none : {A : Type 0} (rows : Rows A) (h : List Entry) (since : Option ℕ) (values : List ℕ) → (since ≡ None → HasValue values 0) → AreLeftTo 0 rows h since values
-left_none rows h since values first = record { first = first; left = λ k at id op v lt. absurd (omega (arith, lt)) }
-
 pub left_more : {A : Type 0} (rows : Rows A) (h : List Entry) (since : Option ℕ) (old new : List ℕ) (i : ℕ) (e : Entry) (event : ℕ) (told : Option ℕ) → IsAt h i e → event ≡ unwrap_or since 0 → Leaves rows event e told → HasMore old told new → AreLeftTo i rows h since old → AreLeftTo (i + 1) rows h since new
 left_more rows h since old new i e event told here from leaves more before = record {
   first = λ none. more.kept 0 (before.first none);
@@ -56,9 +43,6 @@ left_more rows h since old new i e event told here from leaves more before = rec
     | inr not ↦ more.kept v (before.left k at id op v (omega (arith, lt, not)) there makes over)
   ];
 }
-
-pub left_all : {A : Type 0} (rows : Rows A) (h : List Entry) (since : Option ℕ) (values : List ℕ) (i : ℕ) → length h ≤ i → AreLeftTo i rows h since values → AreLeft rows h since values
-left_all rows h since values i end are = record { first = are.first; left = λ k at id op v lt there makes over. are.left k at id op v (omega (arith, lt, end)) there makes over }
 
 -- Answers
 
@@ -72,9 +56,6 @@ answers_more values old new i v here grown are = subst (AreAnswersTo (i + 1) val
   ];
 })
 
-pub answers_all : (values : List ℕ) (answers : List Answer) (i : ℕ) → length values ≤ i → AreAnswersTo i values answers → AreAnswersOf values answers
-answers_all values answers i end are = record { done = are.done; unequal = are.unequal; value = λ k v lt there. are.value k v (omega (arith, lt, end)) there }
-
 -- a change of the table is one of the history
 pub change_since : {A : Type 0} (rows : Rows A) (h : List Entry) (id : OpId) (event called : ℕ) → IsTable h rows → IsChange rows id event called → IsSince h event (Some called)
 change_since rows h id event called table (f, g, v, is, answered, lt, makes, same) =
@@ -84,9 +65,6 @@ change_since rows h id event called table (f, g, v, is, answered, lt, makes, sam
 
 -- Those that are possible
 module _ (registers : ℕ) (h : List Entry) (place : ℕ) (candidates : List Answer) where
-  pub possible_none : ArePossibleTo 0 registers h place candidates []
-  possible_none answer = ((λ (k, at). absurd cc), λ ((k, lt, at), is). absurd (omega (arith, lt)))
-
   module _ (i : ℕ) (candidate : Answer) (here : IsAt candidates i candidate) (old : List Answer) (before : ArePossibleTo i registers h place candidates old) where
     earlier : (answer : Answer) → Has old answer → ((k : ℕ) × (k < i + 1) × IsAt candidates k answer) × IsPossible registers h place answer
     earlier answer has =
