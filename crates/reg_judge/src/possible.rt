@@ -231,8 +231,8 @@ fn possible_of<A: Allocator + Copy>(
 }
 
 /// The answers that an operation might have had in place of the one at this place of a history of one register: with
-/// each of them the entries up to it have a point order, and with no other answer. None where there may be more than can
-/// be looked for. No clause says in which order they stand, nor how many can be.
+/// each of them the entries up to it have a point order, and with no other answer. None where there may be more than
+/// can be looked for. No clause says in which order they stand, nor how many can be.
 ///
 /// # Errors
 ///
