@@ -64,6 +64,10 @@ pub any_ok : {T E P : Type 0} (r : Result T E) → P → OnOk r P
 any_ok (Ok x) p = p
 any_ok (Err f) p = tt
 
+pub both_ok : {T E P Q R : Type 0} (r : Result T E) → (P → Q → R) → OnOk r P → OnOk r Q → OnOk r R
+both_ok (Ok x) f p q = f p q
+both_ok (Err e) f p q = tt
+
 pub looks : (s : State) (op : Op) (start : Start) (frames : List Put) (cast : Option Stamp) (ds : List Delivered) (reply : Option Reply) (s' : State) → start ≡ Looks → frames ≡ [] → cast ≡ None → ds ≡ [] → reply ≡ Some (look s op) → s' ≡ record s { calls = s.calls + 1; running = None } → Goes (length s.peers) (called s op start) frames cast ds reply s'
 looks s op start frames cast ds reply s' e f m d r q = subst (λ st. Goes (length s.peers) (called s op st) frames cast ds reply s') (sym e) (record {
   state = q;

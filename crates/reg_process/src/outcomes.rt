@@ -1,4 +1,7 @@
 //! What goes out of one event.
+ghost use Rattle.std.specs.Prelude.{◌≡◌, [], None};
+ghost use Rattle.reg_process.specs.Sending.{puts_of};
+
 use crate::sends::Sends;
 use crate::steps::Reply;
 use reg_base::{Delivered, Stamp};
@@ -26,9 +29,52 @@ pub struct Effect<A: Allocator + Copy = Global> {
     pub reply: Option<Reply>,
 }
 
-/// What goes out of one event that isn't a tick, with its frames in short.
+/// What goes out of one event, with its frames in short, but for those of a tick. It takes the place of what went out
+/// of the event before, so that a later event takes no memory for the list.
 #[derive(Drop)]
 pub struct Brief<A: Allocator + Copy = Global> {
     pub sends: Sends,
     pub effect: Effect<A>,
+}
+
+impl<A: Allocator + Copy> Effect<A> {
+    /// Nothing.
+    pub(crate) fn new(alloc: A) -> Effect<A>
+        ensures made { result.cast ≡ None }
+        ensures casts { result.delivered.items ≡ [] }
+        ensures answer { result.reply ≡ None }
+    {
+        Effect {
+            cast: None,
+            delivered: Vec::new(alloc),
+            reply: None,
+        }
+    }
+}
+
+impl<A: Allocator + Copy> Brief<A> {
+    /// Nothing.
+    pub fn new(alloc: A) -> Brief<A>
+        ensures made { result.effect.cast ≡ None }
+        ensures casts { result.effect.delivered.items ≡ [] }
+        ensures answer { result.effect.reply ≡ None }
+    {
+        Brief {
+            sends: Sends::Nothing,
+            effect: Effect::new(alloc),
+        }
+    }
+
+    /// Nothing goes out but this, without a cast or a delivery.
+    pub(crate) fn say(&mut self, sends: Sends, reply: Option<Reply>)
+        ensures put { puts_of self.new.sends ≡ puts_of sends }
+        ensures made { self.new.effect.cast ≡ None }
+        ensures casts { self.new.effect.delivered.items ≡ [] }
+        ensures answer { self.new.effect.reply ≡ reply }
+    {
+        self.sends = sends;
+        self.effect.cast = None;
+        self.effect.delivered.clear();
+        self.effect.reply = reply;
+    }
 }

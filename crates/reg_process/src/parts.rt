@@ -5,11 +5,10 @@ ghost use Rattle.reg_process.specs.Parts.{state_of, first_parts};
 ghost use Rattle.reg_process.specs.Puts.{puts};
 ghost use Rattle.reg_base.specs.declared.limits.TheConstants.{MOST_PROCESSES};
 
-use crate::outcomes::Effect;
+use crate::outcomes::Brief;
 use crate::puts::{is_pending_in, new_inboxes, new_outboxes, pending_in, resend_all, resend_at};
 use crate::running::Current;
 use crate::spare::Spare;
-use crate::steps::Reply;
 use reg_base::{Clock, Registers, Shape};
 use reg_frames::{Frame, Put};
 use reg_holdback::Holdback;
@@ -155,16 +154,12 @@ impl<A: Allocator + Copy> Core<A> {
         resend_at(&self.outboxes, to, self.me, place)
     }
 
-    /// What goes out of an event without a cast or a delivery, its frames aside.
-    pub(crate) fn quiet(&self, reply: Option<Reply>) -> Effect<A>
-        ensures made { result.cast ≡ None }
-        ensures casts { result.delivered.items ≡ [] }
-        ensures answer { result.reply ≡ reply }
+    /// What goes out of an event, while nothing does.
+    pub(crate) fn nothing(&self) -> Brief<A>
+        ensures made { result.effect.cast ≡ None }
+        ensures casts { result.effect.delivered.items ≡ [] }
+        ensures answer { result.effect.reply ≡ None }
     {
-        Effect {
-            cast: None,
-            delivered: Vec::new(self.alloc),
-            reply,
-        }
+        Brief::new(self.alloc)
     }
 }

@@ -17,6 +17,7 @@ use crate::known::Known;
 use crate::outcomes::{Brief, Effect, Outcome};
 use crate::parts::Core;
 use crate::puts::put_sends;
+use crate::sends::Sends;
 use crate::spare::Spare;
 use crate::steps::Step;
 use crate::stops::is_stop;
@@ -168,14 +169,15 @@ impl<F: FrontEnd, A: Allocator + Copy> Process<F, A> {
 
     /// What goes out of a tick, aside from its frames, which `resend` gives: nothing. The process stays as it is.
     /// `Failed` is the only fault. It takes no memory.
-    pub fn tick_brief(&self) -> Result<Effect<A>, ProcessFault>
-        ensures ticked { MatchResult result (λ e. Briefs F.start self.now Tick (puts (resent self.now.state) (length self.now.state.peers)) e.cast e.delivered.items e.reply self.now) (λ fault. Refused F.start self.now Tick fault self.now) }
+    pub fn tick_brief(&self, brief: &mut Brief<A>) -> Result<(), ProcessFault>
+        ensures ticked { MatchResult result (λ _. Briefs F.start self.now Tick (puts (resent self.now.state) (length self.now.state.peers)) brief.new.effect.cast brief.new.effect.delivered.items brief.new.effect.reply self.now) (λ fault. Refused F.start self.now Tick fault self.now) }
         ensures memory { IfErr result (λ fault. fault ≡ ProcessFault.Failed) }
     {
         if self.failed {
             return Err(ProcessFault::Failed);
         }
-        Ok(self.core.quiet(None))
+        brief.say(Sends::Nothing, None);
+        Ok(())
     }
 
     /// Puts unacknowledged data frames again: on each link the first `limits::MOST_RESENT`. The process stays as it is.
@@ -191,7 +193,7 @@ impl<F: FrontEnd, A: Allocator + Copy> Process<F, A> {
             self.failed = true;
             return Err(ProcessFault::OutOfMemory);
         };
-        Ok(outcome(frames, self.core.quiet(None)))
+        Ok(outcome(frames, self.core.nothing().effect))
     }
 
     /// Takes a frame that another process put for it. A data frame out of turn is dropped and answered by the count of
@@ -204,18 +206,25 @@ impl<F: FrontEnd, A: Allocator + Copy> Process<F, A> {
         ensures taken { MatchResult result (λ o. Steps F.start self.old (Take from frame.now) o.frames.items o.cast o.delivered.items o.reply self.new) (λ fault. Refused F.start self.old (Take from frame.now) fault self.new) }
         ensures memory { IsErrOf result ProcessFault.OutOfMemory → takes_memory self.old.state self.old.room from frame.now ≡ true }
     {
-        let brief = self.take_brief(from, frame)?;
+        let mut brief = self.core.nothing();
+        self.take_brief(from, frame, &mut brief)?;
         let alloc = *brief.effect.delivered.allocator();
         let list = self.list_for(alloc, is_numbered(frame));
         self.tell(list, brief)
     }
 
-    /// Takes a frame as `take` does, and tells what is put in short, which takes no memory. What can take some is a
-    /// cast, and an acknowledgement that makes a cast clear.
+    /// Takes a frame as `take` does, and tells in short what is put, which takes no memory. What can take some is a
+    /// cast, and an acknowledgement that makes a cast clear. Where the frame is refused, nothing is claimed of what is
+    /// told.
     // (in line: it runs at each take, and a frame handed on by a call would be copied once more)
     #[inline(always)]
-    pub fn take_brief(&mut self, from: u8, frame: &Frame) -> Result<Brief<A>, ProcessFault>
-        ensures taken { MatchResult result (λ b. Briefs F.start self.old (Take from frame.now) (puts_of b.sends) b.effect.cast b.effect.delivered.items b.effect.reply self.new) (λ fault. Refused F.start self.old (Take from frame.now) fault self.new) }
+    pub fn take_brief(
+        &mut self,
+        from: u8,
+        frame: &Frame,
+        brief: &mut Brief<A>,
+    ) -> Result<(), ProcessFault>
+        ensures taken { MatchResult result (λ _. Briefs F.start self.old (Take from frame.now) (puts_of brief.new.sends) brief.new.effect.cast brief.new.effect.delivered.items brief.new.effect.reply self.new) (λ fault. Refused F.start self.old (Take from frame.now) fault self.new) }
         ensures memory { IsErrOf result ProcessFault.OutOfMemory → takes_memory self.old.state 1 from frame.now ≡ true }
     {
         if self.failed {
@@ -224,8 +233,8 @@ impl<F: FrontEnd, A: Allocator + Copy> Process<F, A> {
         if !self.core.is_peer(from) {
             return Err(ProcessFault::NoProcess);
         }
-        match self.core.take_frame(from, frame) {
-            Ok(brief) => Ok(brief),
+        match self.core.take_frame(from, frame, brief) {
+            Ok(()) => Ok(()),
             Err(fault) => {
                 self.failed = is_stop(fault);
                 Err(fault)
@@ -239,15 +248,17 @@ impl<F: FrontEnd, A: Allocator + Copy> Process<F, A> {
         ensures called { MatchResult result (λ o. Steps F.start self.old (Call op) o.frames.items o.cast o.delivered.items o.reply self.new) (λ fault. Refused F.start self.old (Call op) fault self.new) }
         ensures memory { IsErrOf result ProcessFault.OutOfMemory → is_cast (F.start op (unsettled self.old.state)) ≡ true }
     {
-        let brief = self.call_brief(op)?;
+        let mut brief = self.core.nothing();
+        self.call_brief(op, &mut brief)?;
         let alloc = *brief.effect.delivered.allocator();
         let list = self.list_for(alloc, brief.effect.cast.is_some());
         self.tell(list, brief)
     }
 
-    /// Calls its next operation as `call` does, and tells what is put in short.
-    pub fn call_brief(&mut self, op: Op) -> Result<Brief<A>, ProcessFault>
-        ensures called { MatchResult result (λ b. Briefs F.start self.old (Call op) (puts_of b.sends) b.effect.cast b.effect.delivered.items b.effect.reply self.new) (λ fault. Refused F.start self.old (Call op) fault self.new) }
+    /// Calls its next operation as `call` does, and tells in short what is put. Where the call is refused, nothing is
+    /// claimed of what is told.
+    pub fn call_brief(&mut self, op: Op, brief: &mut Brief<A>) -> Result<(), ProcessFault>
+        ensures called { MatchResult result (λ _. Briefs F.start self.old (Call op) (puts_of brief.new.sends) brief.new.effect.cast brief.new.effect.delivered.items brief.new.effect.reply self.new) (λ fault. Refused F.start self.old (Call op) fault self.new) }
         ensures memory { IsErrOf result ProcessFault.OutOfMemory → is_cast (F.start op (unsettled self.old.state)) ≡ true }
     {
         if self.failed {
@@ -257,8 +268,8 @@ impl<F: FrontEnd, A: Allocator + Copy> Process<F, A> {
             return Err(fault);
         }
         let start = F::start(&op, self.core.unsettled());
-        match self.core.begin(op, start) {
-            Ok(brief) => Ok(brief),
+        match self.core.begin(op, start, brief) {
+            Ok(()) => Ok(()),
             Err(fault) => {
                 self.failed = true;
                 Err(fault)

@@ -130,11 +130,12 @@ pub fn queue_on_all<A: Allocator + Copy>(
     me: u8,
     body: Body,
     got: Option<(u8, u64)>,
-) -> Result<Sends, AllocError>
+    sends: &mut Sends,
+) -> Result<(), AllocError>
     requires me { me < length (outs_of me outboxes.old) }
     requires few { length (outs_of me outboxes.old) ≤ MOST_PROCESSES }
     requires numbers { HasNumbers (outs_of me outboxes.old) }
-    ensures frames { IfOk result (λ sends. puts_of sends ≡ puts (all_frames got me body (outs_of me outboxes.old)) (length (outs_of me outboxes.old))) }
+    ensures frames { OnOk result (puts_of sends.new ≡ puts (all_frames got me body (outs_of me outboxes.old)) (length (outs_of me outboxes.old))) }
     ensures queued { OnOk result (outs_of me outboxes.new ≡ queue_outs 0 me body (outs_of me outboxes.old)) }
     ensures grown { IsGrown (outs_of me outboxes.old) (outs_of me outboxes.new) }
     ensures length { length (outs_of me outboxes.new) ≡ length (outs_of me outboxes.old) }
@@ -147,7 +148,8 @@ pub fn queue_on_all<A: Allocator + Copy>(
         body,
         got,
     };
-    Ok(Sends::Broadcast { processes, sent })
+    *sends = Sends::Broadcast { processes, sent };
+    Ok(())
 }
 
 /// The frame at this place of those that are put again for a process: at most `limits::MOST_RESENT`.

@@ -83,6 +83,8 @@ impl<A: Allocator + Copy> Accepted<A> {
     }
 
     /// Adds an accepted event, in the place of the first one that is ahead, where one is.
+    // (in line: it runs at each event, which would be copied for a call)
+    #[inline(always)]
     pub(crate) fn add(&mut self, event: Event)
         requires { 1 ≤ self.old.room }
         ensures taken { self.new.taken ≡ self.old.taken ++ event ∷ [] }

@@ -6,10 +6,10 @@ ghost use Rattle.reg_world.specs.WorldParts.{IsWorld, IsMove, Advances, PartsGoO
 use crate::books::Book;
 use crate::faults::{RunFault, WorldFault};
 use crate::finding::found;
-use crate::members::Member;
+use crate::members::{Member, StepEffect};
 use crate::stores::WireStore;
 use reg_front::FrontEnd;
-use reg_process::{Event, Reply, Step};
+use reg_process::{Brief, Event, Reply, Step};
 use std::alloc::{AllocError, Allocator};
 
 /// Makes the step of an event. Where memory is refused the book hasn't changed.
@@ -19,18 +19,20 @@ pub(crate) fn advance<F: FrontEnd, A: Allocator + Copy, W: WireStore<A>>(
     members: &mut Vec<Member<F, A, W>, A>,
     book: &mut Book<A>,
     event: Event,
-    process: u8,
-    step: &Step,
+    moved: &(u8, Step),
+    brief: &mut Brief<A>,
 ) -> Result<Option<Reply>, AllocError>
     requires world { IsWorld F.start false members.old.items book.old }
-    requires moves { IsMove F.start book.old event (process, step.now) }
+    requires moves { IsMove F.start book.old event (moved.now.0, moved.now.1) }
     ensures made { MatchResult result (λ reply. Advances F.start book.old event reply members.new.items book.new) (λ _. (book.new ≡ book.old) × (length members.new.items ≡ length members.old.items)) }
     ensures ahead { OnOk result (book.new.ahead ≡ drop 1 book.old.ahead) }
 {
+    let (process, step) = (moved.0, &moved.1);
     let member = &mut members[usize::from(process)];
-    let made = member.act(step)?;
-    book.enter(event, process, step, &made)?;
-    Ok(made.effect.reply)
+    let runs = member.act(step, brief)?;
+    let effect = &brief.effect;
+    book.enter(event, process, step, &StepEffect { effect, runs })?;
+    Ok(effect.reply)
 }
 
 /// Makes an event, or tells why it is refused.
@@ -39,13 +41,14 @@ pub(crate) fn advance<F: FrontEnd, A: Allocator + Copy, W: WireStore<A>>(
 fn step_parts<F: FrontEnd, A: Allocator + Copy, W: WireStore<A>>(
     members: &mut Vec<Member<F, A, W>, A>,
     book: &mut Book<A>,
+    brief: &mut Brief<A>,
     event: Event,
 ) -> Result<(), WorldFault>
     requires { IsWorld F.start false members.old.items book.old }
     ensures made { MatchResult result (λ _. PartsGoOn F.start book.old event members.new.items book.new) (λ fault. PartsRefuse F.start book.old event fault) }
 {
-    let (process, step) = found(members, book, &event)?;
-    match advance(members, book, event, process, &step) {
+    let moved = found(members, book, &event)?;
+    match advance(members, book, event, &moved, brief) {
         Ok(_) => Ok(()),
         Err(_) => Err(WorldFault::OutOfMemory),
     }
@@ -55,6 +58,7 @@ fn step_parts<F: FrontEnd, A: Allocator + Copy, W: WireStore<A>>(
 pub(crate) fn run_ahead<F: FrontEnd, A: Allocator + Copy, W: WireStore<A>>(
     members: &mut Vec<Member<F, A, W>, A>,
     book: &mut Book<A>,
+    brief: &mut Brief<A>,
     count: usize,
 ) -> Result<(), RunFault>
     requires world { IsWorld F.start false members.old.items book.old }
@@ -68,7 +72,7 @@ pub(crate) fn run_ahead<F: FrontEnd, A: Allocator + Copy, W: WireStore<A>>(
         let Some(event) = book.next_ahead() else {
             unreachable!()
         };
-        if let Err(fault) = step_parts(members, book, event) {
+        if let Err(fault) = step_parts(members, book, brief, event) {
             return Err(RunFault { at, fault });
         }
     }

@@ -115,6 +115,8 @@ fn enter_caller<A: Allocator + Copy>(
 }
 
 /// Adds the call of an operation.
+// (in line: it runs at each event, and what it adds would be copied for a call)
+#[inline(always)]
 fn push_call<A: Allocator + Copy>(history: &mut History<A>, at: u32, id: OpId, step: &Step)
     requires room { 1 ≤ history.old.room }
     requires in_place { IsHistory history.old.shape.processes history.old.shape.registers (history.old.entries ++ calls_in at id step.now) }
@@ -131,6 +133,8 @@ fn push_call<A: Allocator + Copy>(history: &mut History<A>, at: u32, id: OpId, s
 }
 
 /// Adds the answer of an operation.
+// (in line: it runs at each event, and what it adds would be copied for a call)
+#[inline(always)]
 fn push_answer<A: Allocator + Copy>(
     history: &mut History<A>,
     at: u32,
@@ -297,12 +301,12 @@ impl<A: Allocator + Copy> Book<A> {
         event: Event,
         process: u8,
         step: &Step,
-        made: &StepEffect<A>,
+        made: &StepEffect<'_, A>,
     ) -> Result<(), AllocError>
-        requires { MayEnter self.old process step.now made.now.runs made.now.effect.cast made.now.effect.delivered.items made.now.effect.reply }
-        ensures { MatchResult result (λ _. self.new ≡ entered self.old event process step.now made.now.runs made.now.effect.cast made.now.effect.delivered.items made.now.effect.reply) (λ _. self.new ≡ self.old) }
+        requires { MayEnter self.old process step.now made.now.runs made.now.effect.now.cast made.now.effect.now.delivered.items made.now.effect.now.reply }
+        ensures { MatchResult result (λ _. self.new ≡ entered self.old event process step.now made.now.runs made.now.effect.now.cast made.now.effect.now.delivered.items made.now.effect.now.reply) (λ _. self.new ≡ self.old) }
     {
-        let effect = &made.effect;
+        let effect = made.effect;
         let at = self.accepted.len() as u32;
         reserve_all(
             &mut self.accepted,

@@ -15,15 +15,15 @@ use crate::stores::WireStore;
 use reg_base::Shape;
 use reg_frames::Frame;
 use reg_front::FrontEnd;
-use reg_process::{Brief, Effect, Process, ProcessFault, Step};
+use reg_process::{Brief, Effect, Process, ProcessFault, Sends, Step};
 use std::alloc::{AllocError, Allocator, Global};
 use std::marker::Model;
 
 /// What a step did, but for its frames, which were put on their wires.
-#[derive(Drop)]
-pub(crate) struct StepEffect<A: Allocator + Copy = Global> {
+#[derive(Clone, Copy)]
+pub(crate) struct StepEffect<'a, A: Allocator + Copy = Global> {
     /// What goes out of it.
-    pub(crate) effect: Effect<A>,
+    pub(crate) effect: &'a Effect<A>,
     /// Whether the process runs an operation after it.
     pub(crate) runs: bool,
 }
@@ -79,57 +79,51 @@ impl<F: FrontEnd, A: Allocator + Copy, W: WireStore<A>> Member<F, A, W> {
         self.wires.frame_at(to, number)
     }
 
-    /// Makes a step that no fault applies to, and puts its frames on their wires. It fails only where memory is
-    /// refused; nothing is claimed of the member then.
-    // (in line: it runs at each event, and what a call hands back would be copied once more)
+    /// Makes a step that no fault applies to, and puts its frames on their wires. Says what goes out of it, and whether
+    /// the process runs an operation after it. It fails only where memory is refused; nothing is claimed of the member
+    /// then.
+    // (in line: it runs at each event, and does little more than calls)
     #[inline(always)]
-    pub(crate) fn act(&mut self, step: &Step) -> Result<StepEffect<A>, AllocError>
+    pub(crate) fn act(&mut self, step: &Step, brief: &mut Brief<A>) -> Result<bool, AllocError>
         requires { MayAct F.start self.old step.now }
-        ensures made { IfOk result (λ o. Acts F.start self.old step.now o.effect.cast o.effect.delivered.items o.effect.reply self.new) }
-        ensures runs { IfOk result (λ o. o.runs ≡ is_some self.new.state.running) }
+        ensures made { OnOk result (Acts F.start self.old step.now brief.new.effect.cast brief.new.effect.delivered.items brief.new.effect.reply self.new) }
+        ensures runs { IfOk result (λ runs. runs ≡ is_some self.new.state.running) }
     {
-        let effect = self.make(step)?;
-        Ok(StepEffect {
-            effect,
-            runs: self.process.busy(),
-        })
+        self.make(step, brief)?;
+        Ok(self.process.busy())
     }
 
-    /// Makes a step, and hands over what goes out of it but for its frames, which are put on their wires.
-    // (in line: it runs at each event, and what a call hands back would be copied once more)
+    /// Makes a step, says what goes out of it, and puts its frames on their wires.
+    // (in line: it runs at each event, and does little more than calls)
     #[inline(always)]
-    fn make(&mut self, step: &Step) -> Result<Effect<A>, AllocError>
+    fn make(&mut self, step: &Step, brief: &mut Brief<A>) -> Result<(), AllocError>
         requires { MayAct F.start self.old step.now }
-        ensures { IfOk result (λ o. Acts F.start self.old step.now o.cast o.delivered.items o.reply self.new) }
+        ensures { OnOk result (Acts F.start self.old step.now brief.new.effect.cast brief.new.effect.delivered.items brief.new.effect.reply self.new) }
     {
         match *step {
             Step::Call { op } => {
-                let brief = allocated(self.process.call_brief(op))?;
-                self.put(brief)
+                allocated(self.process.call_brief(op, brief))?;
+                self.put(&brief.sends)
             }
             Step::Take { from, frame } => {
-                let brief = allocated(self.process.take_brief(from, &frame))?;
-                self.put(brief)
+                allocated(self.process.take_brief(from, &frame, brief))?;
+                self.put(&brief.sends)
             }
             Step::Tick => {
-                let effect = allocated(self.process.tick_brief())?;
-                put_again(&mut self.wires, &self.process)?;
-                Ok(effect)
+                allocated(self.process.tick_brief(brief))?;
+                put_again(&mut self.wires, &self.process)
             }
         }
     }
 
-    /// Puts the frames of a step that was made, and hands over the rest.
-    // (in line: it runs at each event, and what a call hands back would be copied once more)
+    /// Puts the frames of a step that was made.
+    // (in line: it runs at each event, and does little more than a call)
     #[inline(always)]
-    fn put(&mut self, brief: Brief<A>) -> Result<Effect<A>, AllocError>
-        requires { (p : Put) → In p (puts_of brief.sends) → p.to < length self.old.wires }
-        ensures put { OnOk result (self.new ≡ record self.old { wires = sent (puts_of brief.sends) self.old.wires }) }
-        ensures rest { IfOk result (λ o. (o.cast ≡ brief.effect.cast) × (o.delivered.items ≡ brief.effect.delivered.items) × (o.reply ≡ brief.effect.reply)) }
+    fn put(&mut self, sends: &Sends) -> Result<(), AllocError>
+        requires { (p : Put) → In p (puts_of sends.now) → p.to < length self.old.wires }
+        ensures { OnOk result (self.new ≡ record self.old { wires = sent (puts_of sends.now) self.old.wires }) }
     {
-        let Brief { sends, effect } = brief;
-        put_sends(&mut self.wires, &sends)?;
-        Ok(effect)
+        put_sends(&mut self.wires, sends)
     }
 }
 

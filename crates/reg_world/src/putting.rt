@@ -80,10 +80,10 @@ pub(crate) fn put_sends<A: Allocator + Copy, W: WireStore<A>>(
     requires { (p : Put) → In p (puts_of sends.now) → p.to < length (W.wires wires.old) }
     ensures { OnOk result (W.wires wires.new ≡ sent_on (puts_of sends.now) (W.wires wires.old)) }
 {
-    match *sends {
+    match sends {
         Sends::Nothing => Ok(()),
-        Sends::Count { to, count } => wires.put(to, &Frame::Got { count }),
-        Sends::Broadcast { processes, sent } => put_all(wires, processes, &sent),
+        Sends::Count { to, count } => wires.put(*to, &Frame::Got { count: *count }),
+        Sends::Broadcast { processes, sent } => put_all(wires, *processes, sent),
     }
 }
 

@@ -27,7 +27,7 @@ use reg_base::{OpId, Shape};
 use reg_checkers::{History, Point};
 use reg_frames::Frame;
 use reg_front::{FrontEnd, RealTime};
-use reg_process::{Event, Process, Reply};
+use reg_process::{Brief, Event, Process, Reply};
 use std::alloc::{AllocError, Allocator, Global};
 use std::marker::Model;
 
@@ -41,6 +41,8 @@ pub struct World<F: FrontEnd, A: Allocator + Copy = Global, W: WireStore<A> = Wi
     failed: bool,
     members: Vec<Member<F, A, W>, A>,
     book: Book<A>,
+    /// What went out of the last event.
+    brief: Brief<A>,
 }
 
 impl<F: FrontEnd, A: Allocator + Copy, W: WireStore<A>> Model for World<F, A, W> {
@@ -70,6 +72,7 @@ impl<F: FrontEnd, A: Allocator + Copy, W: WireStore<A>> World<F, A, W> {
             failed: false,
             members,
             book,
+            brief: Brief::new(alloc),
         })
     }
 
@@ -103,8 +106,9 @@ impl<F: FrontEnd, A: Allocator + Copy, W: WireStore<A>> World<F, A, W> {
         if self.failed {
             return Err(WorldFault::Failed);
         }
-        let (process, step) = found(&self.members, &self.book, event)?;
-        match advance(&mut self.members, &mut self.book, *event, process, &step) {
+        let moved = found(&self.members, &self.book, event)?;
+        let (members, book) = (&mut self.members, &mut self.book);
+        match advance(members, book, *event, &moved, &mut self.brief) {
             Ok(reply) => Ok(reply),
             Err(_) => {
                 self.failed = true;
@@ -153,7 +157,7 @@ impl<F: FrontEnd, A: Allocator + Copy, W: WireStore<A>> World<F, A, W> {
         };
         let count = events.len();
         world.book.put_ahead(events);
-        run_ahead(&mut world.members, &mut world.book, count)?;
+        run_ahead(&mut world.members, &mut world.book, &mut world.brief, count)?;
         // (for the proof: by this getter's contract the history is that of the accepted events)
         world.history();
         Ok(world)

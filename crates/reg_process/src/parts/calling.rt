@@ -67,31 +67,32 @@ impl<A: Allocator + Copy> Core<A> {
     }
 
     /// Starts an operation.
-    pub(crate) fn begin(&mut self, op: Op, start: Start) -> Result<Brief<A>, ProcessFault>
+    pub(crate) fn begin(
+        &mut self,
+        op: Op,
+        start: Start,
+        brief: &mut Brief<A>,
+    ) -> Result<(), ProcessFault>
         requires register { register_of op < length self.old.copy }
         requires calls { self.old.calls < MOST_OPERATIONS }
         requires may { MayStart op (unsettled self.old) start }
-        ensures goes { IfOk result (λ b. Goes (length self.old.peers) (called self.old op start) (puts_of b.sends) b.effect.cast b.effect.delivered.items b.effect.reply self.new) }
+        ensures goes { OnOk result (Goes (length self.old.peers) (called self.old op start) (puts_of brief.new.sends) brief.new.effect.cast brief.new.effect.delivered.items brief.new.effect.reply self.new) }
         ensures room { OnOk result (full_at self.old.clock start ≡ None) }
         ensures fault { IfErr result (λ fault. StopsAt (full_at self.old.clock start) fault) }
         ensures memory { IfErr result (λ _. is_cast start ≡ true) }
     {
         match start {
-            Start::Cast => self.broadcast(op, true),
-            Start::CastAndAnswer => self.broadcast(op, false),
+            Start::Cast => self.broadcast(op, true, brief),
+            Start::CastAndAnswer => self.broadcast(op, false, brief),
             Start::Look => {
                 let reply = self.look(op);
-                Ok(Brief {
-                    sends: Sends::Nothing,
-                    effect: self.quiet(Some(reply)),
-                })
+                brief.say(Sends::Nothing, Some(reply));
+                Ok(())
             }
             Start::Hold => {
                 self.hold(op);
-                Ok(Brief {
-                    sends: Sends::Nothing,
-                    effect: self.quiet(None),
-                })
+                brief.say(Sends::Nothing, None);
+                Ok(())
             }
         }
     }
@@ -124,25 +125,25 @@ impl<A: Allocator + Copy> Core<A> {
     }
 
     /// Casts an operation, and delivers what is clear.
-    fn broadcast(&mut self, op: Op, runs: bool) -> Result<Brief<A>, ProcessFault>
+    fn broadcast(&mut self, op: Op, runs: bool, brief: &mut Brief<A>) -> Result<(), ProcessFault>
         requires register { register_of op < length self.old.copy }
         requires calls { self.old.calls < MOST_OPERATIONS }
-        ensures goes { IfOk result (λ b. Goes (length self.old.peers) (called self.old op (cast_start runs)) (puts_of b.sends) b.effect.cast b.effect.delivered.items b.effect.reply self.new) }
+        ensures goes { OnOk result (Goes (length self.old.peers) (called self.old op (cast_start runs)) (puts_of brief.new.sends) brief.new.effect.cast brief.new.effect.delivered.items brief.new.effect.reply self.new) }
         ensures room { OnOk result (self.old.clock < LAST_TIME) }
         ensures fault { IfErr result (λ fault. Stops (nat_le LAST_TIME self.old.clock) fault) }
     {
         let place = self.delivered_count();
-        let (stamp, sends) = self.cast(op, runs)?;
-        let mut effect = self.finish(Some(stamp))?;
-        effect.reply = reply_to(runs, effect.reply, place);
-        Ok(Brief { sends, effect })
+        let stamp = self.cast(op, runs, &mut brief.sends)?;
+        self.finish(Some(stamp), &mut brief.effect)?;
+        brief.effect.reply = reply_to(runs, brief.effect.reply, place);
+        Ok(())
     }
 
     /// Makes an own cast, which the operation may run for: its stamp, and what is put.
-    fn cast(&mut self, op: Op, runs: bool) -> Result<(Stamp, Sends), ProcessFault>
+    fn cast(&mut self, op: Op, runs: bool, sends: &mut Sends) -> Result<Stamp, ProcessFault>
         requires register { register_of op < length self.old.copy }
         requires calls { self.old.calls < MOST_OPERATIONS }
-        ensures { MatchResult result (λ made. MakesCast self.old op runs made.0 (puts_of made.1) self.new) (λ fault. Stops (nat_le LAST_TIME self.old.clock) fault) }
+        ensures { MatchResult result (λ stamp. MakesCast self.old op runs stamp (puts_of sends.new) self.new) (λ fault. Stops (nat_le LAST_TIME self.old.clock) fault) }
     {
         let Ok(time) = self.clock.tick() else {
             return Err(ProcessFault::ClockFull);
@@ -152,7 +153,7 @@ impl<A: Allocator + Copy> Core<A> {
             process: self.me,
         };
         let body = Body::Cast { time, op };
-        let Ok(sends) = queue_on_all(&mut self.outboxes, self.me, body, None) else {
+        let Ok(()) = queue_on_all(&mut self.outboxes, self.me, body, None, sends) else {
             return Err(ProcessFault::OutOfMemory);
         };
         let Ok(()) = self.waiting.cast(stamp, op) else {
@@ -161,6 +162,6 @@ impl<A: Allocator + Copy> Core<A> {
         self.unsettled += 1;
         self.calls += 1;
         self.running = own(runs, stamp, op);
-        Ok((stamp, sends))
+        Ok(stamp)
     }
 }

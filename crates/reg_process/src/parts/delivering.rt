@@ -1,5 +1,5 @@
 //! Delivery: one clear cast after another.
-ghost use Rattle.std.specs.Prelude.{◌≡◌, ◌≢◌, ◌<◌, ◌+◌, ◌^◌, [], length, MatchOption, IfOk, IfErr, Some, None};
+ghost use Rattle.std.specs.Prelude.{◌≡◌, ◌≢◌, ◌<◌, ◌+◌, ◌^◌, [], length, MatchOption, IfOk, IfErr, OnOk, Some, None};
 ghost use Rattle.reg_base.specs.Memory.{after, register_of};
 ghost use Rattle.reg_process.specs.Process.{still, clear_casts};
 ghost use Rattle.reg_process.specs.Delivery.{reply_by};
@@ -59,14 +59,14 @@ fn settle<A: Allocator + Copy>(
     }
 }
 
-/// What runs after a reply.
-fn runs_on(running: Option<Current>, reply: Option<Reply>) -> Option<Current>
-    ensures { result ≡ still reply running }
+/// What was answered runs no more.
+fn end_answered(running: &mut Option<Current>, reply: Option<Reply>)
+    ensures { running.new ≡ still reply running.old }
 {
-    match reply {
-        Some(_) => None,
-        None => running,
-    }
+    let Some(_) = reply else {
+        return;
+    };
+    *running = None;
 }
 
 impl<A: Allocator + Copy> Core<A> {
@@ -87,7 +87,7 @@ impl<A: Allocator + Copy> Core<A> {
             self.delivered,
         );
         self.delivered += 1;
-        self.running = runs_on(self.running, reply);
+        end_answered(&mut self.running, reply);
         Some((cast, reply))
     }
 
@@ -109,20 +109,22 @@ impl<A: Allocator + Copy> Core<A> {
     }
 
     /// Delivers all clear casts in an event that has made this cast.
-    pub(crate) fn finish(&mut self, cast: Option<Stamp>) -> Result<Effect<A>, ProcessFault>
-        ensures made { IfOk result (λ o. o.cast ≡ cast) }
-        ensures done { IfOk result (λ o. Delivers self.old o.delivered.items o.reply self.new) }
+    pub(crate) fn finish(
+        &mut self,
+        cast: Option<Stamp>,
+        effect: &mut Effect<A>,
+    ) -> Result<(), ProcessFault>
+        ensures made { OnOk result (effect.new.cast ≡ cast) }
+        ensures done { OnOk result (Delivers self.old effect.new.delivered.items effect.new.reply self.new) }
         ensures fault { IfErr result (λ fault. fault ≡ ProcessFault.OutOfMemory) }
         ensures memory { IfErr result (λ _. clear_casts self.old ≢ []) }
     {
-        let mut delivered = Vec::new(self.alloc);
-        let Ok(reply) = self.deliver(&mut delivered) else {
+        effect.delivered.clear();
+        let Ok(reply) = self.deliver(&mut effect.delivered) else {
             return Err(ProcessFault::OutOfMemory);
         };
-        Ok(Effect {
-            cast,
-            delivered,
-            reply,
-        })
+        effect.cast = cast;
+        effect.reply = reply;
+        Ok(())
     }
 }

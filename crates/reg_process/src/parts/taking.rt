@@ -90,25 +90,30 @@ impl<A: Allocator + Copy> Core<A> {
     /// Takes a frame.
     // (in line: it runs at each take, and a frame handed on by a call would be copied once more)
     #[inline(always)]
-    pub(crate) fn take_frame(&mut self, from: u8, frame: &Frame) -> Result<Brief<A>, ProcessFault>
+    pub(crate) fn take_frame(
+        &mut self,
+        from: u8,
+        frame: &Frame,
+        brief: &mut Brief<A>,
+    ) -> Result<(), ProcessFault>
         requires peer { from < length self.old.peers }
         requires other { from ≡ self.old.me → ⊥ }
-        ensures goes { IfOk result (λ b. Goes (length self.old.peers) (taken self.old from frame.now) (puts_of b.sends) b.effect.cast b.effect.delivered.items b.effect.reply self.new) }
+        ensures goes { OnOk result (Goes (length self.old.peers) (taken self.old from frame.now) (puts_of brief.new.sends) brief.new.effect.cast brief.new.effect.delivered.items brief.new.effect.reply self.new) }
         ensures room { OnOk result (frame_fault self.old from frame.now ≡ None) }
         ensures fault { IfErr result (λ fault. FrameRefused (frame_fault self.old from frame.now) self.old fault self.new) }
         ensures memory { IsErrOf result ProcessFault.OutOfMemory → takes_memory self.old 1 from frame.now ≡ true }
     {
         match *frame {
-            Frame::Numbered { number, body } => self.take_body(from, number, body),
-            Frame::Got { count } => self.take_got(from, count),
+            Frame::Numbered { number, body } => self.take_body(from, number, body, brief),
+            Frame::Got { count } => self.take_got(from, count, brief),
         }
     }
 
     /// Takes a count.
-    fn take_got(&mut self, from: u8, count: u64) -> Result<Brief<A>, ProcessFault>
+    fn take_got(&mut self, from: u8, count: u64, brief: &mut Brief<A>) -> Result<(), ProcessFault>
         requires peer { from < length self.old.peers }
         requires other { from ≡ self.old.me → ⊥ }
-        ensures goes { IfOk result (λ b. Goes (length self.old.peers) (taken self.old from (Got count)) (puts_of b.sends) b.effect.cast b.effect.delivered.items b.effect.reply self.new) }
+        ensures goes { OnOk result (Goes (length self.old.peers) (taken self.old from (Got count)) (puts_of brief.new.sends) brief.new.effect.cast brief.new.effect.delivered.items brief.new.effect.reply self.new) }
         ensures room { OnOk result (frame_fault self.old from (Got count) ≡ None) }
         ensures fault { IfErr result (λ fault. FrameRefused (frame_fault self.old from (Got count)) self.old fault self.new) }
         ensures ahead { IfErr result (λ fault. fault ≡ ProcessFault.Ahead) }
@@ -116,10 +121,8 @@ impl<A: Allocator + Copy> Core<A> {
         if !self.acknowledge(from, count) {
             return Err(ProcessFault::Ahead);
         }
-        Ok(Brief {
-            sends: Sends::Nothing,
-            effect: self.quiet(None),
-        })
+        brief.say(Sends::Nothing, None);
+        Ok(())
     }
 
     /// Drops what a process has accepted. False where the count is above what was queued.
@@ -135,28 +138,31 @@ impl<A: Allocator + Copy> Core<A> {
     /// Takes a data frame.
     // (in line: it runs at each take, and a frame handed on by a call would be copied once more)
     #[inline(always)]
-    fn take_body(&mut self, from: u8, number: u64, body: Body) -> Result<Brief<A>, ProcessFault>
+    fn take_body(
+        &mut self,
+        from: u8,
+        number: u64,
+        body: Body,
+        brief: &mut Brief<A>,
+    ) -> Result<(), ProcessFault>
         requires peer { from < length self.old.peers }
         requires other { from ≡ self.old.me → ⊥ }
-        ensures goes { IfOk result (λ b. Goes (length self.old.peers) (taken self.old from (Numbered number body)) (puts_of b.sends) b.effect.cast b.effect.delivered.items b.effect.reply self.new) }
+        ensures goes { OnOk result (Goes (length self.old.peers) (taken self.old from (Numbered number body)) (puts_of brief.new.sends) brief.new.effect.cast brief.new.effect.delivered.items brief.new.effect.reply self.new) }
         ensures room { OnOk result (frame_fault self.old from (Numbered number body) ≡ None) }
         ensures fault { IfErr result (λ fault. FrameRefused (frame_fault self.old from (Numbered number body)) self.old fault self.new) }
         ensures memory { IsErrOf result ProcessFault.OutOfMemory → takes_memory self.old 1 from (Numbered number body) ≡ true }
     {
         let expected = self.expected(from);
         if number != expected {
-            return Ok(Brief {
-                sends: Sends::Count {
-                    to: from,
-                    count: expected,
-                },
-                effect: self.quiet(None),
-            });
+            let to = from;
+            let count = expected;
+            brief.say(Sends::Count { to, count }, None);
+            return Ok(());
         }
         if let Some(fault) = self.refuses_body(from, &body) {
             return Err(fault);
         }
-        self.accept(from, body)
+        self.accept(from, &body, brief)
     }
 
     /// Whether a body's cast names no register.
@@ -170,6 +176,8 @@ impl<A: Allocator + Copy> Core<A> {
     }
 
     /// Why an expected body is refused, a full clock aside.
+    // (in line: it is a few tests, and a body would be copied for a call)
+    #[inline(always)]
     fn refuses_body(&self, from: u8, body: &Body) -> Option<ProcessFault>
         requires peer { from < length self.now.peers }
         requires other { from ≡ self.now.me → ⊥ }
@@ -189,41 +197,46 @@ impl<A: Allocator + Copy> Core<A> {
     }
 
     /// Accepts an expected body, and delivers what is clear.
-    fn accept(&mut self, from: u8, body: Body) -> Result<Brief<A>, ProcessFault>
+    fn accept(&mut self, from: u8, body: &Body, brief: &mut Brief<A>) -> Result<(), ProcessFault>
         requires peer { from < length self.old.peers }
         requires other { from ≡ self.old.me → ⊥ }
-        requires early { early_body self.old from body ≡ None }
-        ensures goes { IfOk result (λ b. Goes (length self.old.peers) (accepted self.old from body) (puts_of b.sends) b.effect.cast b.effect.delivered.items b.effect.reply self.new) }
-        ensures room { OnOk result (full_by self.old body ≡ None) }
-        ensures fault { IfErr result (λ fault. StopsAt (full_by self.old body) fault) }
-        ensures memory { IsErrOf result ProcessFault.OutOfMemory → body_memory self.old 1 from body ≡ true }
+        requires early { early_body self.old from body.now ≡ None }
+        ensures goes { OnOk result (Goes (length self.old.peers) (accepted self.old from body.now) (puts_of brief.new.sends) brief.new.effect.cast brief.new.effect.delivered.items brief.new.effect.reply self.new) }
+        ensures room { OnOk result (full_by self.old body.now ≡ None) }
+        ensures fault { IfErr result (λ fault. StopsAt (full_by self.old body.now) fault) }
+        ensures memory { IsErrOf result ProcessFault.OutOfMemory → body_memory self.old 1 from body.now ≡ true }
     {
-        let sends = self.accept_body(from, body)?;
-        let effect = self.finish(None)?;
-        Ok(Brief { sends, effect })
+        self.accept_body(from, body, &mut brief.sends)?;
+        self.finish(None, &mut brief.effect)
     }
 
     /// Accepts an expected body, and tells what is put.
-    fn accept_body(&mut self, from: u8, body: Body) -> Result<Sends, ProcessFault>
+    fn accept_body(&mut self, from: u8, body: &Body, sends: &mut Sends) -> Result<(), ProcessFault>
         requires peer { from < length self.old.peers }
         requires other { from ≡ self.old.me → ⊥ }
-        requires early { early_body self.old from body ≡ None }
-        ensures taken { MatchResult result (λ sends. TakesBody self.old from body (puts_of sends) self.new) (λ fault. StopsAt (full_by self.old body) fault) }
-        ensures memory { IsErrOf result ProcessFault.OutOfMemory → body_memory self.old 1 from body ≡ true }
+        requires early { early_body self.old from body.now ≡ None }
+        ensures taken { MatchResult result (λ _. TakesBody self.old from body.now (puts_of sends.new) self.new) (λ fault. StopsAt (full_by self.old body.now) fault) }
+        ensures memory { IsErrOf result ProcessFault.OutOfMemory → body_memory self.old 1 from body.now ≡ true }
     {
-        match body {
-            Body::Cast { time, op } => self.accept_cast(from, time, op),
-            Body::Ack { time } => self.accept_ack(from, time),
+        match *body {
+            Body::Cast { time, op } => self.accept_cast(from, time, op, sends),
+            Body::Ack { time } => self.accept_ack(from, time, sends),
         }
     }
 
     /// Takes in a cast of another process, and acknowledges it to all.
-    fn accept_cast(&mut self, from: u8, time: u64, op: Op) -> Result<Sends, ProcessFault>
+    fn accept_cast(
+        &mut self,
+        from: u8,
+        time: u64,
+        op: Op,
+        sends: &mut Sends,
+    ) -> Result<(), ProcessFault>
         requires peer { from < length self.old.peers }
         requires other { from ≡ self.old.me → ⊥ }
         requires register { register_of op < length self.old.copy }
         requires fresh { seen_at self.old from < time }
-        ensures { MatchResult result (λ sends. TakesCast self.old from time op (puts_of sends) self.new) (λ fault. Stops (nat_le LAST_TIME (max self.old.clock time)) fault) }
+        ensures { MatchResult result (λ _. TakesCast self.old from time op (puts_of sends.new) self.new) (λ fault. Stops (nat_le LAST_TIME (max self.old.clock time)) fault) }
     {
         let Ok(now) = self.clock.receive(time) else {
             return Err(ProcessFault::ClockFull);
@@ -231,7 +244,7 @@ impl<A: Allocator + Copy> Core<A> {
         let count = self.inboxes[from as usize].expected() + 1;
         let ack = Body::Ack { time: now };
         let got = Some((from, count));
-        let Ok(sends) = queue_on_all(&mut self.outboxes, self.me, ack, got) else {
+        let Ok(()) = queue_on_all(&mut self.outboxes, self.me, ack, got, sends) else {
             return Err(ProcessFault::OutOfMemory);
         };
         let stamp = Stamp {
@@ -242,15 +255,15 @@ impl<A: Allocator + Copy> Core<A> {
             return Err(ProcessFault::OutOfMemory);
         };
         expect_next(&mut self.inboxes, from, Body::Cast { time, op });
-        Ok(sends)
+        Ok(())
     }
 
     /// Takes in an acknowledgement of another process. It takes no memory.
-    fn accept_ack(&mut self, from: u8, time: u64) -> Result<Sends, ProcessFault>
+    fn accept_ack(&mut self, from: u8, time: u64, sends: &mut Sends) -> Result<(), ProcessFault>
         requires peer { from < length self.old.peers }
         requires other { from ≡ self.old.me → ⊥ }
         requires fresh { seen_at self.old from < time }
-        ensures taken { MatchResult result (λ sends. TakesAck self.old from time (puts_of sends) self.new) (λ fault. Stops (nat_le LAST_TIME (max self.old.clock time)) fault) }
+        ensures taken { MatchResult result (λ _. TakesAck self.old from time (puts_of sends.new) self.new) (λ fault. Stops (nat_le LAST_TIME (max self.old.clock time)) fault) }
         ensures memory { IfErr result (λ fault. fault ≡ ProcessFault.ClockFull) }
     {
         let Ok(_) = self.clock.receive(time) else {
@@ -263,6 +276,7 @@ impl<A: Allocator + Copy> Core<A> {
         };
         hear(&mut self.waiting, stamp);
         expect_next(&mut self.inboxes, from, Body::Ack { time });
-        Ok(Sends::Count { to: from, count })
+        *sends = Sends::Count { to: from, count };
+        Ok(())
     }
 }

@@ -56,15 +56,14 @@ module _ (start : Op → ℕ → Start) (k : Kept) (wires : List (List Frame)) (
         let lines = ap (λ (s : Standing). length s.wires) view in
         omega (arith, l, size, peers, lines)
 
-    -- the frames were put, and the rest was handed over
-    pub acted : {T E : Type 0} (r : Result T E) (casts : T → Option Stamp) (delivers : T → List Delivered) (replies : T → Option Reply) (new : Standing)
-        → OnOk r (new ≡ record { failed = mid.failed; state = mid.state; wires = sent frames wires }) → IfOk r (λ x. (casts x ≡ cast) × (delivers x ≡ ds) × (replies x ≡ reply)) → IfOk r (λ x. Acts start old e (casts x) (delivers x) (replies x) new)
-    acted (Ok x) casts delivers replies new put rest = subst (λ (s : Standing). Acts start s e (casts x) (delivers x) (replies x) new) view (record {
+    -- the frames were put
+    pub acted : {T E : Type 0} (r : Result T E) (new : Standing) → OnOk r (new ≡ record { failed = mid.failed; state = mid.state; wires = sent frames wires }) → OnOk r (Acts start old e cast ds reply new)
+    acted (Ok x) new put = subst (λ (s : Standing). Acts start s e cast ds reply new) view (record {
       runs = ap (λ (s : Standing). s.failed) put ∙ made.state.0;
       state = ap (λ (s : Standing). s.state) put ∙ made.state.1;
       wires = ap (λ (s : Standing). s.wires) put ∙ ap (λ l. sent l wires) made.outcome.put;
-      cast = rest.0 ∙ made.outcome.made;
-      delivered = rest.1 ∙ made.outcome.casts;
-      reply = rest.2 ∙ made.outcome.answer;
+      cast = made.outcome.made;
+      delivered = made.outcome.casts;
+      reply = made.outcome.answer;
     })
-    acted (Err f) casts delivers replies new put rest = tt
+    acted (Err f) new put = tt

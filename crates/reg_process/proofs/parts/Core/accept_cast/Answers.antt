@@ -53,7 +53,7 @@ invariant_of-self-2 g c =
     let other : c.args.from ≡ c.self.inside.me → ⊥ = λ q. c.requires.other (q ∙ ap (λ (s : State). s.me) c.self.view_is) in
     let l : c.args.from < length c.self.inside.inboxes.items = let z = i.ins in omega (arith, z, peer) in
     let count : c.expected-count.result + 1 ≡ slice_index c.self.inside.inboxes.items c.args.from + 1 = ap (λ n. n + 1) (c.expected-count.ensures.value ∙ c.index.ensures ∙ get_or_default c.self.inside.inboxes.items c.args.from _ 0 l) in
-    accepted_good p i c.args.from c.args.time c.args.op peer register c.in-Ok.now c.receive.new.self (c.expected-count.result + 1) c.hold_cast.new.waiting (outs_of c.self.inside.me c.queue_on_all.new.outboxes) c.expect_next.new.inboxes.items (puts_of c.in-Ok-queue_on_all.sends) t.0 other t.1 k count c.in-Ok-hold_cast.ensures.held c.in-Ok-queue_on_all.ensures.queued c.expect_next.ensures c.in-Ok-queue_on_all.ensures.frames c.queue_on_all.ensures.grown c.queue_on_all.ensures.length
+    accepted_good p i c.args.from c.args.time c.args.op peer register c.in-Ok.now c.receive.new.self (c.expected-count.result + 1) c.hold_cast.new.waiting (outs_of c.self.inside.me c.queue_on_all.new.outboxes) c.expect_next.new.inboxes.items (puts_of c.queue_on_all.new.sends) t.0 other t.1 k count c.in-Ok-hold_cast.ensures.held c.in-Ok-queue_on_all.ensures.queued c.expect_next.ensures c.in-Ok-queue_on_all.ensures.frames c.queue_on_all.ensures.grown c.queue_on_all.ensures.length
 
 pub returns : goal.returns
 returns g c =
@@ -66,8 +66,8 @@ returns g c =
     let other : c.args.from ≡ c.self.inside.me → ⊥ = λ q. c.requires.other (q ∙ ap (λ (s : State). s.me) c.self.view_is) in
     let l : c.args.from < length c.self.inside.inboxes.items = let z = i.ins in omega (arith, z, peer) in
     let count : c.expected-count.result + 1 ≡ slice_index c.self.inside.inboxes.items c.args.from + 1 = ap (λ n. n + 1) (c.expected-count.ensures.value ∙ c.index.ensures ∙ get_or_default c.self.inside.inboxes.items c.args.from _ 0 l) in
-    subst (λ (s : State). TakesCast s c.args.from c.args.time c.args.op (puts_of c.in-Ok-queue_on_all.sends) (state_of (record p { clock = c.receive.new.self; waiting = c.hold_cast.new.waiting; expected = c.expect_next.new.inboxes.items; outs = (outs_of c.self.inside.me c.queue_on_all.new.outboxes) }))) c.self.view_is
-    (accepted_takes p i c.args.from c.args.time c.args.op peer register c.in-Ok.now c.receive.new.self (c.expected-count.result + 1) c.hold_cast.new.waiting (outs_of c.self.inside.me c.queue_on_all.new.outboxes) c.expect_next.new.inboxes.items (puts_of c.in-Ok-queue_on_all.sends) t.0 other t.1 k count c.in-Ok-hold_cast.ensures.held c.in-Ok-queue_on_all.ensures.queued c.expect_next.ensures c.in-Ok-queue_on_all.ensures.frames c.queue_on_all.ensures.grown c.queue_on_all.ensures.length)
+    subst (λ (s : State). TakesCast s c.args.from c.args.time c.args.op (puts_of c.queue_on_all.new.sends) (state_of (record p { clock = c.receive.new.self; waiting = c.hold_cast.new.waiting; expected = c.expect_next.new.inboxes.items; outs = (outs_of c.self.inside.me c.queue_on_all.new.outboxes) }))) c.self.view_is
+    (accepted_takes p i c.args.from c.args.time c.args.op peer register c.in-Ok.now c.receive.new.self (c.expected-count.result + 1) c.hold_cast.new.waiting (outs_of c.self.inside.me c.queue_on_all.new.outboxes) c.expect_next.new.inboxes.items (puts_of c.queue_on_all.new.sends) t.0 other t.1 k count c.in-Ok-hold_cast.ensures.held c.in-Ok-queue_on_all.ensures.queued c.expect_next.ensures c.in-Ok-queue_on_all.ensures.frames c.queue_on_all.ensures.grown c.queue_on_all.ensures.length)
 
 pub queue_on_all-requires-clause-numbers : goal.queue_on_all-requires-clause-numbers
 queue_on_all-requires-clause-numbers g c =

@@ -1,5 +1,5 @@
-use Rattle.std.proofs.Common.{Some, [], length, refl, sym, ap, subst, ◌∙◌}
-use Rattle.std.specs.Prelude.{IfOk}
+use Rattle.std.proofs.Common.{Some, length, sym, ap, subst, ◌∙◌}
+use Rattle.std.specs.Prelude.{OnOk}
 use Rattle.reg_front.specs.declared.starts.Start.{Start}
 use Rattle.reg_process.specs.Process.{called}
 use Rattle.reg_process.specs.Sending.{puts_of}
@@ -9,14 +9,14 @@ use Rattle.reg_process.proofs.Calls.{looks, holds, room_at, stops_at, any_err}
 use Rattle.reg_process.proofs.parts.Core.begin.Goals as goal
 
 pub returns-in-Look-clause-goes : goal.returns-in-Look-clause-goes
-returns-in-Look-clause-goes g c = looks c.args.self.now c.args.op c.args.start [] c.quiet.result.cast c.quiet.result.delivered.items c.quiet.result.reply c.look-reply.new.self c.in-Look.is refl c.quiet.ensures.made c.quiet.ensures.casts (c.quiet.ensures.answer ∙ ap Some c.look-reply.ensures.reply) c.look-reply.ensures.after
+returns-in-Look-clause-goes g c = looks c.args.self.now c.args.op c.args.start (puts_of c.say.new.self.sends) c.say.new.self.effect.cast c.say.new.self.effect.delivered.items c.say.new.self.effect.reply c.look-reply.new.self c.in-Look.is c.say.ensures.put c.say.ensures.made c.say.ensures.casts (c.say.ensures.answer ∙ ap Some c.look-reply.ensures.reply) c.look-reply.ensures.after
 
 pub returns-in-Hold-clause-goes : goal.returns-in-Hold-clause-goes
-returns-in-Hold-clause-goes g c = holds c.args.self.now c.args.op c.args.start [] c.quiet-in-Hold.result.cast c.quiet-in-Hold.result.delivered.items c.quiet-in-Hold.result.reply c.hold.new.self c.in-Hold.is refl c.quiet-in-Hold.ensures.made c.quiet-in-Hold.ensures.casts c.quiet-in-Hold.ensures.answer c.hold.ensures
+returns-in-Hold-clause-goes g c = holds c.args.self.now c.args.op c.args.start (puts_of c.say-in-Hold.new.self.sends) c.say-in-Hold.new.self.effect.cast c.say-in-Hold.new.self.effect.delivered.items c.say-in-Hold.new.self.effect.reply c.hold.new.self c.in-Hold.is c.say-in-Hold.ensures.put c.say-in-Hold.ensures.made c.say-in-Hold.ensures.casts c.say-in-Hold.ensures.answer c.hold.ensures
 
 pub returns-in-Cast-clause-goes : goal.returns-in-Cast-clause-goes
 returns-in-Cast-clause-goes g c =
-    subst (λ (st : Start). IfOk c.broadcast.result (λ b. Goes (length c.args.self.now.peers) (called c.args.self.now c.args.op st) (puts_of b.sends) b.effect.cast b.effect.delivered.items b.effect.reply c.broadcast.new.self)) (sym c.in-Cast.is) c.broadcast.ensures.goes
+    subst (λ (st : Start). OnOk c.broadcast.result (Goes (length c.args.self.now.peers) (called c.args.self.now c.args.op st) (puts_of c.broadcast.new.brief.sends) c.broadcast.new.brief.effect.cast c.broadcast.new.brief.effect.delivered.items c.broadcast.new.brief.effect.reply c.broadcast.new.self)) (sym c.in-Cast.is) c.broadcast.ensures.goes
 
 pub returns-in-Cast-clause-room : goal.returns-in-Cast-clause-room
 returns-in-Cast-clause-room g c = room_at c.broadcast.result c.args.self.now.clock c.args.start (ap is_cast c.in-Cast.is) c.broadcast.ensures.room
@@ -29,7 +29,7 @@ returns-in-Cast-clause-memory g c = any_err c.broadcast.result (ap is_cast c.in-
 
 pub returns-in-CastAndAnswer-clause-goes : goal.returns-in-CastAndAnswer-clause-goes
 returns-in-CastAndAnswer-clause-goes g c =
-    subst (λ (st : Start). IfOk c.broadcast-in-CastAndAnswer.result (λ b. Goes (length c.args.self.now.peers) (called c.args.self.now c.args.op st) (puts_of b.sends) b.effect.cast b.effect.delivered.items b.effect.reply c.broadcast-in-CastAndAnswer.new.self)) (sym c.in-CastAndAnswer.is) c.broadcast-in-CastAndAnswer.ensures.goes
+    subst (λ (st : Start). OnOk c.broadcast-in-CastAndAnswer.result (Goes (length c.args.self.now.peers) (called c.args.self.now c.args.op st) (puts_of c.broadcast-in-CastAndAnswer.new.brief.sends) c.broadcast-in-CastAndAnswer.new.brief.effect.cast c.broadcast-in-CastAndAnswer.new.brief.effect.delivered.items c.broadcast-in-CastAndAnswer.new.brief.effect.reply c.broadcast-in-CastAndAnswer.new.self)) (sym c.in-CastAndAnswer.is) c.broadcast-in-CastAndAnswer.ensures.goes
 
 pub returns-in-CastAndAnswer-clause-room : goal.returns-in-CastAndAnswer-clause-room
 returns-in-CastAndAnswer-clause-room g c = room_at c.broadcast-in-CastAndAnswer.result c.args.self.now.clock c.args.start (ap is_cast c.in-CastAndAnswer.is) c.broadcast-in-CastAndAnswer.ensures.room

@@ -47,7 +47,7 @@ invariant_of-self-2 g c =
     let k = c.in-Ok.ensures.after in
     let few : c.self.inside.calls < MOST_OPERATIONS = let z = ap (λ (s : State). s.calls) c.self.view_is in let y = c.requires.calls in omega (arith, z, y) in
     let register : register_of c.args.op < length c.self.inside.copy = let z = ap (λ (s : State). length s.copy) c.self.view_is in let y = c.requires.register in omega (arith, z, y) in
-    made_cast_good p c.self.invariant c.args.op c.args.runs t.0 few register c.in-Ok.time c.tick.new.self c.cast.new.self (outs_of c.self.inside.me c.queue_on_all.new.outboxes) c.own-self-inside.result (puts_of c.in-Ok-queue_on_all.sends) t.1 k c.in-Ok-cast.ensures c.in-Ok-queue_on_all.ensures.queued c.own-self-inside.ensures c.in-Ok-queue_on_all.ensures.frames c.queue_on_all.ensures.grown c.queue_on_all.ensures.length
+    made_cast_good p c.self.invariant c.args.op c.args.runs t.0 few register c.in-Ok.time c.tick.new.self c.cast.new.self (outs_of c.self.inside.me c.queue_on_all.new.outboxes) c.own-self-inside.result (puts_of c.queue_on_all.new.sends) t.1 k c.in-Ok-cast.ensures c.in-Ok-queue_on_all.ensures.queued c.own-self-inside.ensures c.in-Ok-queue_on_all.ensures.frames c.queue_on_all.ensures.grown c.queue_on_all.ensures.length
 
 pub returns : goal.returns
 returns g c =
@@ -56,8 +56,8 @@ returns g c =
     let k = c.in-Ok.ensures.after in
     let few : c.self.inside.calls < MOST_OPERATIONS = let z = ap (λ (s : State). s.calls) c.self.view_is in let y = c.requires.calls in omega (arith, z, y) in
     let register : register_of c.args.op < length c.self.inside.copy = let z = ap (λ (s : State). length s.copy) c.self.view_is in let y = c.requires.register in omega (arith, z, y) in
-    subst (λ (s : State). MakesCast s c.args.op c.args.runs (record { time = c.in-Ok.time; process = c.self.inside.me }) (puts_of c.in-Ok-queue_on_all.sends) (state_of (record p { clock = c.tick.new.self; waiting = c.cast.new.self; outs = (outs_of c.self.inside.me c.queue_on_all.new.outboxes); unsettled = c.self.inside.unsettled + 1; running = c.own-self-inside.result; calls = c.self.inside.calls + 1 }))) c.self.view_is
-    (made_cast_makes p c.self.invariant c.args.op c.args.runs t.0 few register c.in-Ok.time c.tick.new.self c.cast.new.self (outs_of c.self.inside.me c.queue_on_all.new.outboxes) c.own-self-inside.result (puts_of c.in-Ok-queue_on_all.sends) t.1 k c.in-Ok-cast.ensures c.in-Ok-queue_on_all.ensures.queued c.own-self-inside.ensures c.in-Ok-queue_on_all.ensures.frames c.queue_on_all.ensures.grown c.queue_on_all.ensures.length)
+    subst (λ (s : State). MakesCast s c.args.op c.args.runs (record { time = c.in-Ok.time; process = c.self.inside.me }) (puts_of c.queue_on_all.new.sends) (state_of (record p { clock = c.tick.new.self; waiting = c.cast.new.self; outs = (outs_of c.self.inside.me c.queue_on_all.new.outboxes); unsettled = c.self.inside.unsettled + 1; running = c.own-self-inside.result; calls = c.self.inside.calls + 1 }))) c.self.view_is
+    (made_cast_makes p c.self.invariant c.args.op c.args.runs t.0 few register c.in-Ok.time c.tick.new.self c.cast.new.self (outs_of c.self.inside.me c.queue_on_all.new.outboxes) c.own-self-inside.result (puts_of c.queue_on_all.new.sends) t.1 k c.in-Ok-cast.ensures c.in-Ok-queue_on_all.ensures.queued c.own-self-inside.ensures c.in-Ok-queue_on_all.ensures.frames c.queue_on_all.ensures.grown c.queue_on_all.ensures.length)
 
 pub queue_on_all-requires-clause-numbers : goal.queue_on_all-requires-clause-numbers
 queue_on_all-requires-clause-numbers g c =

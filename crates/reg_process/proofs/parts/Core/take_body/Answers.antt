@@ -1,5 +1,5 @@
 use Rattle.std.proofs.Common.{◌∷◌, [], length, refl, subst, ◌∙◌}
-use Rattle.std.specs.Prelude.{IfOk}
+use Rattle.std.specs.Prelude.{OnOk}
 use Rattle.std.proofs.lemmas.Result.{on_ok_weaker}
 use Rattle.reg_process.specs.Process.{State, Outcome}
 use Rattle.reg_process.specs.Faults.{full_by}
@@ -12,15 +12,15 @@ use Rattle.reg_process.proofs.parts.Core.take_body.Goals as goal
 
 pub returns-then-number-expected-clause-goes : goal.returns-then-number-expected-clause-goes
 returns-then-number-expected-clause-goes g c =
-    drop_goes c.args.self.now c.args.from c.args.number c.expected-expected.result c.args.body (put_to c.args.from (Got c.expected-expected.result) ∷ []) c.quiet.result.cast c.quiet.result.delivered.items c.quiet.result.reply c.expected-expected.ensures c.if-number-expected.true c.requires.peer
-    refl c.quiet.ensures.made c.quiet.ensures.casts c.quiet.ensures.answer
+    drop_goes c.args.self.now c.args.from c.args.number c.expected-expected.result c.args.body (puts_of c.say.new.self.sends) c.say.new.self.effect.cast c.say.new.self.effect.delivered.items c.say.new.self.effect.reply c.expected-expected.ensures c.if-number-expected.true c.requires.peer
+    c.say.ensures.put c.say.ensures.made c.say.ensures.casts c.say.ensures.answer
 
 pub returns-then-number-expected-clause-room : goal.returns-then-number-expected-clause-room
 returns-then-number-expected-clause-room g c = other_fault c.args.self.now c.args.from c.args.number c.expected-expected.result c.args.body c.expected-expected.ensures c.if-number-expected.true
 
 pub returns-clause-goes : goal.returns-clause-goes
 returns-clause-goes g c =
-    subst (λ (x : State × Outcome). IfOk c.accept.result (λ b. Goes (length c.args.self.now.peers) x (puts_of b.sends) b.effect.cast b.effect.delivered.items b.effect.reply c.accept.new.self))
+    subst (λ (x : State × Outcome). OnOk c.accept.result (Goes (length c.args.self.now.peers) x (puts_of c.accept.new.brief.sends) c.accept.new.brief.effect.cast c.accept.new.brief.effect.delivered.items c.accept.new.brief.effect.reply c.accept.new.self))
     (next_taken c.args.self.now c.args.from c.args.number c.expected-expected.result c.args.body c.expected-expected.ensures c.if-number-expected.false) c.accept.ensures.goes
 
 pub returns-clause-room : goal.returns-clause-room

@@ -8,4 +8,4 @@ use Rattle.reg_process.proofs.processes.Process.call.Goals as goal
 pub returns-clause-memory : goal.returns-clause-memory
 returns-clause-memory g c = λ said.
     let s = c.args.self.now.state in
-    call_memory s c.args.op (g.F.FrontEnd.start c.args.op (unsettled s)) (vec_capacity c.list_for-list.result) (puts_of c.in_ok-brief.brief.sends) c.in_ok-brief.ensures.called.outcome.put (err_says c.tell.result _ said c.tell.ensures.memory)
+    call_memory s c.args.op (g.F.FrontEnd.start c.args.op (unsettled s)) (vec_capacity c.list_for-list.result) (puts_of c.call_brief.new.brief.sends) c.in_ok-call_brief.ensures.called.outcome.put (err_says c.tell.result _ said c.tell.ensures.memory)

@@ -7,7 +7,7 @@ use Rattle.reg_process.proofs.processes.Process.call_brief.Goals as goal
 
 pub returns-in-Ok-clause-called : goal.returns-in-Ok-clause-called
 returns-in-Ok-clause-called g c =
-    let b = c.in-Ok.brief in
+    let b = c.begin.new.brief in
     subst (λ (k : Kept). Briefs g.F.FrontEnd.start k (Call c.args.op) (puts_of b.sends) b.effect.cast b.effect.delivered.items b.effect.reply (record { failed = c.self.inside.failed; state = c.begin.new.self; room = c.self.inside.spare })) c.self.view_is
     (call_briefs g.F.FrontEnd.start c.self.inside.failed c.self.inside.core c.self.inside.spare c.args.op c.start-start.result c.begin.new.self c.if-self.false c.in_default.ensures (c.start-start.ensures ∙ ap (g.F.FrontEnd.start c.args.op) c.unsettled.ensures) (puts_of b.sends) b.effect.cast b.effect.delivered.items b.effect.reply c.in-Ok.ensures.room c.in-Ok.ensures.goes)
 

@@ -11,7 +11,7 @@ pub push_call-requires-clause-in_place : goal.push_call-requires-clause-in_place
 push_call-requires-clause-in_place g c =
     let b : Pages = c.args.self.now in
     let view = c.self.view_is in
-    call_good b c.args.process c.args.step.now c.args.made.now.effect.reply c.requires.history c.reserve_all.new.history.shape c.reserve_all.new.history.entries c.len-at.result c.in_ok-ids.ids.called
+    call_good b c.args.process c.args.step.now c.args.made.now.effect.now.reply c.requires.history c.reserve_all.new.history.shape c.reserve_all.new.history.entries c.len-at.result c.in_ok-ids.ids.called
     (c.reserve_all.ensures.shape ∙ ap (λ (x : Pages). x.shape) view)
     (c.reserve_all.ensures.entries ∙ ap (λ (x : Pages). x.entries) view)
     (c.len-at.ensures ∙ (ap (λ (x : Pages). length x.accepted) view))
@@ -21,7 +21,7 @@ pub push_answer-requires-clause-in_place : goal.push_answer-requires-clause-in_p
 push_answer-requires-clause-in_place g c =
     let b : Pages = c.args.self.now in
     let view = c.self.view_is in
-    answer_good b c.args.process c.args.step.now c.args.made.now.effect.reply c.requires.history c.push_call.new.history.shape c.push_call.new.history.entries c.len-at.result c.in_ok-ids.ids.called c.in_ok-ids.ids.answered
+    answer_good b c.args.process c.args.step.now c.args.made.now.effect.now.reply c.requires.history c.push_call.new.history.shape c.push_call.new.history.entries c.len-at.result c.in_ok-ids.ids.called c.in_ok-ids.ids.answered
     (c.push_call.ensures.shape ∙ (c.reserve_all.ensures.shape ∙ ap (λ (x : Pages). x.shape) view))
     (c.push_call.ensures.entries ∙ ap (λ z. z ++ calls_in c.len-at.result c.in_ok-ids.ids.called c.args.step.now) (c.reserve_all.ensures.entries ∙ ap (λ (x : Pages). x.entries) view))
     (c.len-at.ensures ∙ (ap (λ (x : Pages). length x.accepted) view))
@@ -59,5 +59,5 @@ enter_caller-requires-clause-calls g c = subst (λ (x : Pages). CallFits c.args.
 
 pub push_firsts-requires-clause-differ : goal.push_firsts-requires-clause-differ
 push_firsts-requires-clause-differ g c =
-    let same = c.in_ok-ids.ensures.callers ∙ ap (λ (x : Pages). tallies_after x.tallies c.args.process c.args.step.now c.args.made.now.runs c.args.made.now.effect.cast) c.self.view_is in
+    let same = c.in_ok-ids.ensures.callers ∙ ap (λ (x : Pages). tallies_after x.tallies c.args.process c.args.step.now c.args.made.now.runs c.args.made.now.effect.now.cast) c.self.view_is in
     subst (λ (l : List Tally). (q : ℕ) (t : Tally) → IsAt l q t → TimesDiffer t.casts) (sym same) c.requires.once

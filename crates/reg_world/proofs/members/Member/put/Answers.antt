@@ -6,4 +6,4 @@ use Rattle.reg_world.specs.Members.{Standing}
 use Rattle.reg_world.proofs.members.Member.put.Goals as goal
 
 pub put_sends-requires : goal.put_sends-requires
-put_sends-requires g c = subst (λ (x : Standing). (p : Put) → In p (puts_of c.args.brief.sends) → p.to < length x.wires) (sym c.self.view_is) c.requires
+put_sends-requires g c = subst (λ (x : Standing). (p : Put) → In p (puts_of c.args.sends.now) → p.to < length x.wires) (sym c.self.view_is) c.requires

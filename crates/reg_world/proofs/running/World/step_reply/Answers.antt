@@ -6,16 +6,16 @@ use Rattle.reg_world.specs.WorldParts.{IsWorld, found}
 use Rattle.reg_world.proofs.code.Stepping.{refuses_is, move_found, none_is, accepts_is, grows_is, stopped_is, stopped_world}
 use Rattle.reg_world.proofs.running.World.step_reply.Goals as goal
 
-pub returns-in_err-process-clause-made : goal.returns-in_err-process-clause-made
-returns-in_err-process-clause-made g c =
+pub returns-in_err-moved-clause-made : goal.returns-in_err-moved-clause-made
+returns-in_err-moved-clause-made g c =
     let p = err_from_is_err_and c.from_residual.result c.from_residual.ensures.1 in
-    rw (p.1, p.2) (refuses_is g.F.FrontEnd.start c.self.inside.failed c.self.inside.book c.self.inside.members.items c.self.invariant c.if-self.false c.args.event.now c.args.self.now c.self.view_is c.in_err-process.field-0.0
-    (ap (λ l. found l c.self.inside.book c.args.event.now) (sym c.deref.ensures.value) ∙ (sym c.found.ensures ∙ c.in_err-process.was)))
+    rw (p.1, p.2) (refuses_is g.F.FrontEnd.start c.self.inside.failed c.self.inside.book c.self.inside.members.items c.self.invariant c.if-self.false c.args.event.now c.args.self.now c.self.view_is c.in_err-moved.field-0.0
+    (ap (λ l. found l c.self.inside.book c.args.event.now) (sym c.deref.ensures.value) ∙ (sym c.found.ensures ∙ c.in_err-moved.was)))
 
 pub advance-requires-clause-moves : goal.advance-requires-clause-moves
 advance-requires-clause-moves g c =
-    move_found g.F.FrontEnd.start c.self.inside.failed c.self.inside.book c.self.inside.members.items c.self.invariant c.if-self.false c.args.event.now c.args.self.now c.self.view_is (c.in_ok-process.process, c.in_ok-process.step)
-    (ap (λ l. found l c.self.inside.book c.args.event.now) (sym c.deref.ensures.value) ∙ (sym c.found.ensures ∙ c.in_ok-process.was))
+    move_found g.F.FrontEnd.start c.self.inside.failed c.self.inside.book c.self.inside.members.items c.self.invariant c.if-self.false c.args.event.now c.args.self.now c.self.view_is c.in_ok-moved.moved
+    (ap (λ l. found l c.self.inside.book c.args.event.now) (sym c.deref.ensures.value) ∙ (sym c.found.ensures ∙ c.in_ok-moved.was))
 
 pub invariant_of-self-in-Err : goal.invariant_of-self-in-Err
 invariant_of-self-in-Err g c =
@@ -23,8 +23,8 @@ invariant_of-self-in-Err g c =
 
 pub returns-in-Ok-clause-made : goal.returns-in-Ok-clause-made
 returns-in-Ok-clause-made g c =
-    accepts_is g.F.FrontEnd.start c.self.inside.failed c.self.inside.book c.self.inside.members.items c.self.invariant c.if-self.false c.args.event.now c.args.self.now c.self.view_is (c.in_ok-process.process, c.in_ok-process.step)
-    (ap (λ l. found l c.self.inside.book c.args.event.now) (sym c.deref.ensures.value) ∙ (sym c.found.ensures ∙ c.in_ok-process.was)) c.in-Ok.reply c.advance.new.members.items c.advance.new.book c.in-Ok.ensures.made
+    accepts_is g.F.FrontEnd.start c.self.inside.failed c.self.inside.book c.self.inside.members.items c.self.invariant c.if-self.false c.args.event.now c.args.self.now c.self.view_is c.in_ok-moved.moved
+    (ap (λ l. found l c.self.inside.book c.args.event.now) (sym c.deref.ensures.value) ∙ (sym c.found.ensures ∙ c.in_ok-moved.was)) c.in-Ok.reply c.advance.new.members.items c.advance.new.book c.in-Ok.ensures.made
 
 pub returns-in-Ok-clause-history : goal.returns-in-Ok-clause-history
 returns-in-Ok-clause-history g c =
@@ -35,8 +35,8 @@ returns-in-Ok-clause-accepted g c = ap Made.accepted (returns-in-Ok-clause-made 
 
 pub returns-in-Err-clause-made : goal.returns-in-Err-clause-made
 returns-in-Err-clause-made g c = (
-  none_is g.F.FrontEnd.start c.self.inside.failed c.self.inside.book c.self.inside.members.items c.self.invariant c.if-self.false c.args.event.now c.args.self.now c.self.view_is (c.in_ok-process.process, c.in_ok-process.step)
-      (ap (λ l. found l c.self.inside.book c.args.event.now) (sym c.deref.ensures.value) ∙ (sym c.found.ensures ∙ c.in_ok-process.was)),
+  none_is g.F.FrontEnd.start c.self.inside.failed c.self.inside.book c.self.inside.members.items c.self.invariant c.if-self.false c.args.event.now c.args.self.now c.self.view_is c.in_ok-moved.moved
+      (ap (λ l. found l c.self.inside.book c.args.event.now) (sym c.deref.ensures.value) ∙ (sym c.found.ensures ∙ c.in_ok-moved.was)),
   stopped_is g.F.FrontEnd.start c.self.inside.failed c.self.inside.book c.self.inside.members.items c.self.invariant c.if-self.false c.args.event.now c.args.self.now c.self.view_is c.advance.new.book c.in-Err.ensures.made.0,
 )
 
@@ -52,8 +52,8 @@ returns-in-Err-clause-history g c = ap (λ (b : Pages). b.entries) c.in-Err.ensu
 pub returns-in-Err-clause-accepted : goal.returns-in-Err-clause-accepted
 returns-in-Err-clause-accepted g c = ap (λ (b : Pages). b.accepted) c.in-Err.ensures.made.0 ∙ ap Made.accepted c.self.view_is
 
-pub returns-in_err-process-clause-history : goal.returns-in_err-process-clause-history
-returns-in_err-process-clause-history g c = let p = err_from_is_err_and c.from_residual.result c.from_residual.ensures.1 in rw p.1 refl
+pub returns-in_err-moved-clause-history : goal.returns-in_err-moved-clause-history
+returns-in_err-moved-clause-history g c = let p = err_from_is_err_and c.from_residual.result c.from_residual.ensures.1 in rw p.1 refl
 
-pub returns-in_err-process-clause-accepted : goal.returns-in_err-process-clause-accepted
-returns-in_err-process-clause-accepted g c = let p = err_from_is_err_and c.from_residual.result c.from_residual.ensures.1 in rw p.1 refl
+pub returns-in_err-moved-clause-accepted : goal.returns-in_err-moved-clause-accepted
+returns-in_err-moved-clause-accepted g c = let p = err_from_is_err_and c.from_residual.result c.from_residual.ensures.1 in rw p.1 refl
