@@ -65,6 +65,12 @@ puts_two contents a b c xs ys p q = record {
 pub puts_as : {X : Type 0} (contents : X → Option (List ℕ)) (a b : Sink X) (xs ys : List ℕ) → xs ≡ ys → Puts contents a b xs → Puts contents a b ys
 puts_as contents a b xs ys e p = subst (λ bs. Puts contents a b bs) e p
 
+-- after a first write that took n bytes, the rest was put
+pub puts_rest : {S : Type 0} (held : S → Option (List ℕ)) (a b c : Sink S) (n : ℕ) (bs : List ℕ) → a.failed ≡ false → b.failed ≡ false → b.writer.ghost_name ≡ a.writer.ghost_name → Appends (held a.writer.now) (held b.writer.now) (take n bs) → Puts held b c (drop n bs) → Puts held a c bs
+puts_rest held a b c n bs begun going same first p =
+    let sent : Sends a.failed b.failed (held a.writer.now) (held b.writer.now) (take n bs) = rw (begun, going) first in
+    puts_as held a c (take n bs ++ drop n bs) bs (take-append-drop n bs) (puts_two held a b c (take n bs) (drop n bs) (record { same = same; sent = sent; }) p)
+
 -- several things were put, one after another
 pub puts_three : {S : Type 0} (held : S → Option (List ℕ)) (a b c d : Sink S) (xs ys zs : List ℕ) → Puts held a b xs → Puts held b c ys → Puts held c d zs → Puts held a d (xs ++ (ys ++ zs))
 puts_three held a b c d xs ys zs p q r = puts_two held a b d xs (ys ++ zs) p (puts_two held b c d ys zs q r)

@@ -1,5 +1,5 @@
 //! Writing of which all or a first part went out.
-ghost use Rattle.std.specs.Prelude.{◌≡◌, ◌++◌, false, true, MatchResult};
+ghost use Rattle.std.specs.Prelude.{◌≡◌, ◌≤◌, ◌++◌, length, drop, false, true, MatchResult};
 ghost use Rattle.std.specs.Fmt.{decimal};
 ghost use Rattle.std.specs.Io.KnownBytes.{Appends};
 ghost use Rattle.reg_text.specs.Writing.{AppendsPart, Puts};
@@ -55,12 +55,34 @@ impl<'a, W: Write> Sink<'a, W> {
     }
 
     /// Writes bytes, unless the writer has failed. Where it fails here, what went out is a first part of them.
+    #[inline(always)]
     pub fn put(&mut self, bytes: &[u8])
         ensures { Puts W.contents self.old self.new bytes.now }
     {
-        if !self.failed && write_bytes(self.writer, bytes).is_err() {
-            self.failed = true;
+        if self.failed {
+            return;
         }
+        match self.writer.write(bytes) {
+            Ok(count) if count == bytes.len() => {}
+            Ok(count) => self.put_rest(bytes, count),
+            Err(_) => self.failed = true,
+        }
+    }
+
+    /// Writes what is left of these bytes after a first write took this many of them. It stands apart, so that the
+    /// first write is inlined, and bytes of a known number are stored with no call.
+    #[cold]
+    #[inline(never)]
+    fn put_rest(&mut self, bytes: &[u8], taken: usize)
+        requires going { self.old.failed ≡ false }
+        requires taken { taken ≤ length bytes.now }
+        ensures { Puts W.contents self.old self.new (drop taken bytes.now) }
+    {
+        if taken == 0 {
+            self.failed = true;
+            return;
+        }
+        self.failed = write_bytes(self.writer, &bytes[taken..]).is_err();
     }
 
     /// Whether all that was put went out.
