@@ -1,4 +1,5 @@
 pub mod Decimals
+pub mod Spaced
 pub mod Spaces
 pub mod Digits
 pub mod Marks

@@ -69,7 +69,7 @@ puts_as contents a b xs ys e p = subst (λ bs. Puts contents a b bs) e p
 pub puts_rest : {S : Type 0} (held : S → Option (List ℕ)) (a b c : Sink S) (n : ℕ) (bs : List ℕ) → a.failed ≡ false → b.failed ≡ false → b.writer.ghost_name ≡ a.writer.ghost_name → Appends (held a.writer.now) (held b.writer.now) (take n bs) → Puts held b c (drop n bs) → Puts held a c bs
 puts_rest held a b c n bs begun going same first p =
     let sent : Sends a.failed b.failed (held a.writer.now) (held b.writer.now) (take n bs) = rw (begun, going) first in
-    puts_as held a c (take n bs ++ drop n bs) bs (take-append-drop n bs) (puts_two held a b c (take n bs) (drop n bs) (record { same = same; sent = sent; }) p)
+    puts_as held a c (take n bs ++ drop n bs) bs (take-append-drop n bs) (puts_two held a b c (take n bs) (drop n bs) (record { same = same; sent = sent }) p)
 
 -- several things were put, one after another
 pub puts_three : {S : Type 0} (held : S → Option (List ℕ)) (a b c d : Sink S) (xs ys zs : List ℕ) → Puts held a b xs → Puts held b c ys → Puts held c d zs → Puts held a d (xs ++ (ys ++ zs))

@@ -8,7 +8,7 @@ ghost use Rattle.reg_text.specs.Writing.{Puts};
 
 use crate::fields::{cut_at, numeral, skip};
 use crate::writing::{Sink, put_number};
-use itoa::Buffer;
+use itoa::write_digits;
 use reg_base::{Answer, Names, Op};
 use std::alloc::Allocator;
 use std::fmt;
@@ -90,13 +90,21 @@ pub fn name_of_op<A: Allocator + Copy>(names: &Names<A>, op: Op) -> &str
     }
 }
 
+/// Puts a space and a number in decimal.
+fn put_spaced<W: Write>(sink: &mut Sink<'_, W>, number: u64)
+    ensures { Puts W.contents sink.old sink.new (32 ∷ decimal number) }
+{
+    // (the digits are written over the last of more spaces than they need: one piece goes to the sink)
+    let mut spaced = [b' '; 21];
+    let start = write_digits(number, &mut spaced, 21);
+    sink.put(&spaced[start - 1..]);
+}
+
 fn put_valued<W: Write>(sink: &mut Sink<'_, W>, name: &str, value: u64)
     ensures { Puts W.contents sink.old sink.new (name.now ++ 32 ∷ decimal value) }
 {
-    let mut digits = Buffer::new();
     sink.put(name.as_bytes());
-    sink.put(b" ");
-    sink.put(digits.format(value).as_bytes());
+    put_spaced(sink, value);
 }
 
 /// Puts the text of an operation, in which a register past the last has an empty name.
@@ -124,7 +132,7 @@ pub fn put_op<A: Allocator + Copy, W: Write>(sink: &mut Sink<'_, W>, names: &Nam
         } => {
             sink.put(b"cas ");
             put_valued(sink, name, expected);
-            put_number(sink, " ", value);
+            put_spaced(sink, value);
         }
     }
 }

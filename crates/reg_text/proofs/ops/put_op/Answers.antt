@@ -39,6 +39,6 @@ returns-in-CompareAndSwap g c =
     let value = decimal c.in-CompareAndSwap.value in
     let line : codes "cas " ++ ((name ++ 32 ∷ expected) ++ 32 ∷ value) ≡ op_text c.args.names.now c.args.op =
     ap (λ l. codes "cas " ++ l) (append_assoc name (32 ∷ expected) (32 ∷ value)) ∙ ap (op_line name) (sym c.in-CompareAndSwap.is) ∙ c.name_of_op-name.ensures in
-    puts_as held c.args.sink.now c.put_number.new.sink (codes "cas " ++ ((name ++ 32 ∷ expected) ++ 32 ∷ value)) (op_text c.args.names.now c.args.op) line
-    (puts_two held c.args.sink.now c.put-in-CompareAndSwap.new.self c.put_number.new.sink (codes "cas ") ((name ++ 32 ∷ expected) ++ 32 ∷ value) c.put-in-CompareAndSwap.ensures
-    (puts_two held c.put-in-CompareAndSwap.new.self c.put_valued-in-CompareAndSwap.new.sink c.put_number.new.sink (name ++ 32 ∷ expected) (32 ∷ value) c.put_valued-in-CompareAndSwap.ensures c.put_number.ensures))
+    puts_as held c.args.sink.now c.put_spaced.new.sink (codes "cas " ++ ((name ++ 32 ∷ expected) ++ 32 ∷ value)) (op_text c.args.names.now c.args.op) line
+    (puts_two held c.args.sink.now c.put-in-CompareAndSwap.new.self c.put_spaced.new.sink (codes "cas ") ((name ++ 32 ∷ expected) ++ 32 ∷ value) c.put-in-CompareAndSwap.ensures
+    (puts_two held c.put-in-CompareAndSwap.new.self c.put_valued-in-CompareAndSwap.new.sink c.put_spaced.new.sink (name ++ 32 ∷ expected) (32 ∷ value) c.put_valued-in-CompareAndSwap.ensures c.put_spaced.ensures))
