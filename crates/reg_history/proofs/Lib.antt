@@ -9,6 +9,7 @@ pub mod Whole
 pub mod Writing
 pub mod WithinLimits
 pub mod Columned
+pub mod Digits
 mod Counted
 mod PassedOn
 mod Firsts

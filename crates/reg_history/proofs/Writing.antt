@@ -1,15 +1,13 @@
 -- The lines as they are written are those of the text.
 use Rattle.std.specs.List.{list_all}
-use Rattle.std.proofs.Common.{Bool, true, false, cond, ℕ, ◌≡◌, ◌+◌, ◌-◌, replicate, arith, List, [], ◌∷◌, ◌++◌, length, map, codes, Option, Some, refl, sym, ap, subst, ◌∙◌, append_assoc, append-nil, ◌<◌, take, get_or}
+use Rattle.std.proofs.Common.{Bool, true, false, cond, ℕ, ◌≡◌, List, [], ◌∷◌, ◌++◌, length, map, codes, Option, Some, refl, sym, ap, subst, ◌∙◌, append_assoc, append-nil}
 use Rattle.std.specs.Fmt.{decimal}
 use Rattle.reg_text.specs.declared.writing.Sink.{Sink}
 use Rattle.reg_text.specs.Writing.{Puts}
 use Rattle.reg_text.proofs.Sent.{puts_two, puts_as}
-use Rattle.reg_text.proofs.Lining.{puts_line}
 use Rattle.std.proofs.lemmas.Grind.{flat_map-append}
 use Rattle.std.proofs.lemmas.List.Folds.{flat_map-map}
 use Rattle.reg_base.specs.declared.memory.OpId.{OpId}
-use Rattle.reg_text.specs.Columns.{to_right}
 use Rattle.reg_text.specs.Lines.{text_of, lines_by}
 use Rattle.reg_checkers.specs.declared.entries.Point.{Point}
 use Rattle.reg_checkers.specs.declared.entries.Entry.{Entry}
@@ -25,25 +23,6 @@ pub counted_text : {X : Type 0} (mark : List ℕ) (f : X → List ℕ) (xs : Lis
 counted_text mark f xs rest =
     ap (λ l. (mark ++ decimal (length xs) ++ 10 ∷ []) ++ l) (flat_map-append (λ line. line ++ 10 ∷ []) (map f xs) rest ∙ ap (λ l. l ++ text_of rest) (flat_map-map (λ line. line ++ 10 ∷ []) f xs))
 
-right_none : (d : List ℕ) → to_right 0 d ≡ d
-right_none d = let none : 0 - length d ≡ 0 = omega arith in ap (λ k. replicate k 32 ++ d) none
-
--- the parts of lines, joined otherwise
-pub id_joined : (p n mark : List ℕ) → codes "p" ++ ((to_right 0 p ++ codes " #") ++ (to_right 0 n ++ mark)) ≡ (codes "p" ++ (p ++ 32 ∷ (codes "#" ++ n))) ++ mark
-id_joined p n mark =
-    ap (λ l. codes "p" ++ ((l ++ codes " #") ++ (to_right 0 n ++ mark))) (right_none p)
-    ∙ ap (λ l. codes "p" ++ ((p ++ codes " #") ++ (l ++ mark))) (right_none n)
-    ∙ ap (λ l. codes "p" ++ l) (append_assoc p (codes " #") (n ++ mark) ∙ sym (append_assoc p (codes " #" ++ n) mark))
-
-pub point_joined : (p : Point) → (id_text p.id ++ codes " at ") ++ (decimal p.at ++ 10 ∷ []) ≡ point_text p ++ 10 ∷ []
-point_joined p =
-    let process = decimal p.id.process in
-    let number = decimal p.id.number in
-    let at = decimal p.at in
-    append_assoc (id_text p.id) (codes " at ") (at ++ 10 ∷ [])
-    ∙ ap (λ l. codes "p" ++ l) (append_assoc process (codes " #" ++ number) (codes " at " ++ (at ++ 10 ∷ []))
-    ∙ sym (append_assoc process (codes " #" ++ (number ++ (codes " at " ++ at))) (10 ∷ []) ∙ ap (λ l. process ++ (codes " #" ++ l)) (append_assoc number (codes " at " ++ at) (10 ∷ []))))
-
 columns_end : (a p n x y : List ℕ) → (a ++ (codes "  p" ++ (p ++ (codes "  #" ++ (n ++ x))))) ++ y ≡ a ++ (codes "  p" ++ (p ++ (codes "  #" ++ (n ++ (x ++ y)))))
 columns_end a p n x y =
     append_assoc a (codes "  p" ++ (p ++ (codes "  #" ++ (n ++ x)))) y
@@ -54,17 +33,6 @@ entry_joined a p n mark rest =
     columns_end a p n mark (rest ++ 10 ∷ [])
     ∙ ap (λ l. a ++ (codes "  p" ++ (p ++ (codes "  #" ++ (n ++ l))))) (sym (append_assoc mark rest (10 ∷ [])))
     ∙ sym (columns_end a p n (mark ++ rest) (10 ∷ []))
-
-pub columns_joined : (a p n mark : List ℕ) → (a ++ codes "  p") ++ ((p ++ codes "  #") ++ (n ++ mark)) ≡ a ++ (codes "  p" ++ (p ++ (codes "  #" ++ (n ++ mark))))
-columns_joined a p n mark =
-    append_assoc a (codes "  p") ((p ++ codes "  #") ++ (n ++ mark)) ∙ ap (λ l. a ++ (codes "  p" ++ l)) (append_assoc p (codes "  #") (n ++ mark))
-
--- one more point
-pub puts_point : {S : Type 0} (held : S → Option (List ℕ)) (a b c d : Sink S) (ps : List Point) (i : ℕ) (p : Point) → i < length ps → Puts held a b (lines_by point_text (take i ps)) → Puts held b c (id_text (get_or ps i p).id ++ codes " at ") → Puts held c d (decimal (get_or ps i p).at ++ 10 ∷ []) → Puts held a d (lines_by point_text (take (i + 1) ps))
-puts_point held a b c d ps i p l h k m =
-    let q = get_or ps i p in
-    puts_line held a b d point_text ps i p l h (puts_as held b d ((id_text q.id ++ codes " at ") ++ (decimal q.at ++ 10 ∷ [])) (point_text q ++ 10 ∷ []) (point_joined q)
-    (puts_two held b c d (id_text q.id ++ codes " at ") (decimal q.at ++ 10 ∷ []) k m))
 
 pub head_text : (front : List ℕ) (p : ℕ) (names : List (List ℕ))
     → (codes "front " ++ front ++ 10 ∷ []) ++ ((codes "processes " ++ decimal p ++ 10 ∷ []) ++ ((codes "registers " ++ decimal (length names) ++ 10 ∷ []) ++ lines_by (λ name. name) names)) ≡ text_of (newer_head_lines front p names [])

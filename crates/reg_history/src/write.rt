@@ -1,5 +1,5 @@
 //! Writing a report.
-ghost use Rattle.std.specs.Prelude.{◌≡◌, ◌≤◌, ◌++◌, ◌∷◌, [], codes, option_map, drop, replicate};
+ghost use Rattle.std.specs.Prelude.{◌≡◌, ◌+◌, ◌≤◌, ◌<◌, ◌^◌, ◌++◌, ◌∷◌, [], codes, length, option_map, take, drop, replicate};
 ghost use Rattle.std.specs.Fmt.{decimal};
 ghost use Rattle.reg_history.specs.EntryLines.{entry_text};
 ghost use Rattle.reg_text.specs.Ops.{answer_text, op_text};
@@ -16,17 +16,44 @@ use reg_text::{Sink, name_at, put_op};
 use std::alloc::Allocator;
 use std::io::Write;
 
-/// No number of 64 bits has more digits.
-const DIGITS: usize = 20;
-
-/// Puts a number at the right of `places` places, and the mark that stands after twenty spaces.
-fn put_right<W: Write>(sink: &mut Sink<'_, W>, number: u64, places: usize, marked: &mut [u8])
-    requires places { places ≤ DIGITS }
-    requires marked { marked.old ≡ replicate DIGITS 32 ++ drop DIGITS marked.old }
-    ensures { Puts W.contents sink.old sink.new (to_right places (decimal number) ++ drop DIGITS marked.old) }
+/// Writes bytes in front of `end`, and gives where they begin.
+#[inline(always)]
+fn write_before(bytes: &[u8], line: &mut [u8], end: usize) -> usize
+    requires { (length bytes.now ≤ end) × (end ≤ length line.old) }
+    ensures start { result + length bytes.now ≡ end }
+    ensures written { drop result line.new ≡ bytes.now ++ drop end line.old }
 {
-    let start = write_digits(number, marked, DIGITS);
-    sink.put(&marked[start.min(DIGITS - places)..]);
+    let start = end - bytes.len();
+    line[start..end].copy_from_slice(bytes);
+    start
+}
+
+/// How many digits a number of at most six has.
+#[inline]
+fn count_digits(number: u32) -> usize
+    requires { number < 10 ^ 6 }
+    ensures count { result ≡ length (decimal number) }
+    ensures few { result ≤ 6 }
+{
+    match number {
+        0..=9 => 1,
+        10..=99 => 2,
+        100..=999 => 3,
+        1_000..=9_999 => 4,
+        10_000..=99_999 => 5,
+        _ => 6,
+    }
+}
+
+/// Writes a number of at most six digits from `start` on.
+#[inline]
+fn write_left(number: u32, line: &mut [u8], start: usize)
+    requires small { number < 10 ^ 6 }
+    requires room { start + 6 ≤ length line.old }
+    ensures written { drop start line.new ≡ decimal number ++ drop (start + length (decimal number)) line.old }
+    ensures before { take start line.new ≡ take start line.old }
+{
+    write_digits(number as u64, line, start + count_digits(number));
 }
 
 /// Puts a number at the left of `places` places, and the mark that stands after as many spaces.
@@ -40,25 +67,55 @@ fn put_left<W: Write>(sink: &mut Sink<'_, W>, number: u64, places: usize, marked
     sink.put(&marked[digits.len().min(places)..]);
 }
 
-/// Puts the columns that a line of the history begins with, and the mark that stands after six spaces.
-fn put_columns<W: Write>(sink: &mut Sink<'_, W>, at: u32, id: OpId, marked: &[u8])
+/// Puts the columns that a line of the history begins with, whose numbers may be wider than they are, and the mark that
+/// stands after six spaces.
+#[cold]
+#[inline(never)]
+fn put_wide_columns<W: Write>(sink: &mut Sink<'_, W>, at: u32, id: OpId, marked: &[u8])
     requires { marked.now ≡ replicate 6 32 ++ drop 6 marked.now }
     ensures { Puts W.contents sink.old sink.new (to_right 8 (decimal at) ++ (codes "  p" ++ (to_left 3 (decimal id.process) ++ (codes "  #" ++ (to_left 6 (decimal id.number) ++ drop 6 marked.now))))) }
 {
-    // (twenty spaces and more are room for the digits, which are written over them: one piece goes to the sink, and no
-    // string is made)
-    let mut event = *b"                      p";
-    put_right(sink, at as u64, 8, &mut event);
+    let mut event = *b"            p";
+    let start = write_digits(at as u64, &mut event, 10);
+    sink.put(&event[start.min(2)..]);
     put_left(sink, id.process as u64, 3, b"     #");
     put_left(sink, id.number as u64, 6, marked);
+}
+
+/// Puts the columns that a line of the history begins with, and the mark that stands after them in a line whose columns
+/// are blank.
+fn put_columns<W: Write>(sink: &mut Sink<'_, W>, at: u32, id: OpId, line: &mut [u8; 33])
+    requires { line.old ≡ codes "          p     #      " ++ drop 23 line.old }
+    ensures { Puts W.contents sink.old sink.new (to_right 8 (decimal at) ++ (codes "  p" ++ (to_left 3 (decimal id.process) ++ (codes "  #" ++ (to_left 6 (decimal id.number) ++ drop 23 line.old))))) }
+{
+    if at > 99_999_999 || id.number > 999_999 {
+        put_wide_columns(sink, at, id, &line[17..]);
+        return;
+    }
+    // (the digits are written over the blanks: one piece of a known length goes to the sink)
+    write_digits(at as u64, line, 8);
+    write_left(id.process as u32, line, 11);
+    write_left(id.number, line, 17);
+    sink.put(line);
 }
 
 /// Puts a number, and ends the line.
 fn put_last<W: Write>(sink: &mut Sink<'_, W>, number: u64)
     ensures { Puts W.contents sink.old sink.new (decimal number ++ 10 ∷ []) }
 {
-    let mut marked = *b"                    \n";
-    put_right(sink, number, 0, &mut marked);
+    let mut line = *b"                    \n";
+    let start = write_digits(number, &mut line, 20);
+    sink.put(&line[start..]);
+}
+
+/// Puts the answer that is a value, and ends the line.
+fn put_value<W: Write>(sink: &mut Sink<'_, W>, value: u64)
+    ensures { Puts W.contents sink.old sink.new (codes "value " ++ (decimal value ++ 10 ∷ [])) }
+{
+    let mut line = *b"                          \n";
+    let digits = write_digits(value, &mut line, 26);
+    let start = write_before(b"value ", &mut line, digits);
+    sink.put(&line[start..]);
 }
 
 /// Puts an answer, and ends the line.
@@ -68,10 +125,7 @@ fn put_answer<W: Write>(sink: &mut Sink<'_, W>, answer: Answer)
     match answer {
         Answer::Done => sink.put(b"done\n"),
         Answer::Unequal => sink.put(b"unequal\n"),
-        Answer::Value(value) => {
-            sink.put(b"value ");
-            put_last(sink, value);
-        }
+        Answer::Value(value) => put_value(sink, value),
     }
 }
 
@@ -89,11 +143,13 @@ fn put_entry<A: Allocator + Copy, W: Write>(sink: &mut Sink<'_, W>, names: &Name
 {
     match entry {
         Entry::Called { at, id, op } => {
-            put_columns(sink, at, id, b"        call    ");
+            let mut line = *b"          p     #        call    ";
+            put_columns(sink, at, id, &mut line);
             put_op_line(sink, names, op);
         }
         Entry::Answered { at, id, answer } => {
-            put_columns(sink, at, id, b"        answer  ");
+            let mut line = *b"          p     #        answer  ";
+            put_columns(sink, at, id, &mut line);
             put_answer(sink, answer);
         }
     }
@@ -112,15 +168,26 @@ pub fn put_entries<A: Allocator + Copy, W: Write>(
     }
 }
 
-/// Puts an operation of an order, and the mark that stands after twenty spaces.
-fn put_id<W: Write>(sink: &mut Sink<'_, W>, id: OpId, marked: &mut [u8])
-    requires { marked.old ≡ replicate DIGITS 32 ++ drop DIGITS marked.old }
-    ensures { Puts W.contents sink.old sink.new (id_text id ++ drop DIGITS marked.old) }
+/// Writes an operation of an order in front of `end`, and gives where it begins.
+#[inline]
+fn write_id(id: OpId, line: &mut [u8], end: usize) -> usize
+    requires { (16 ≤ end) × (end ≤ length line.old) }
+    ensures bound { result ≤ end }
+    ensures written { drop result line.new ≡ id_text id ++ drop end line.old }
 {
-    sink.put(b"p");
-    let mut process = *b"                     #";
-    put_right(sink, id.process as u64, 0, &mut process);
-    put_right(sink, id.number as u64, 0, marked);
+    let number = write_digits(id.number as u64, line, end);
+    let mark = write_before(b" #", line, number);
+    let process = write_digits(id.process as u64, line, mark);
+    write_before(b"p", line, process)
+}
+
+/// Puts the line of an operation of an order.
+fn put_id<W: Write>(sink: &mut Sink<'_, W>, id: OpId)
+    ensures { Puts W.contents sink.old sink.new (id_text id ++ 10 ∷ []) }
+{
+    let mut line = *b"                \n";
+    let start = write_id(id, &mut line, 16);
+    sink.put(&line[start..]);
 }
 
 /// Puts a line for each operation.
@@ -128,9 +195,19 @@ pub fn put_ids<W: Write>(sink: &mut Sink<'_, W>, ids: &[OpId])
     ensures { Puts W.contents sink.old sink.new (lines_by id_text ids.now) }
 {
     for id in ids {
-        let mut marked = *b"                    \n";
-        put_id(sink, *id, &mut marked);
+        put_id(sink, *id);
     }
+}
+
+/// Puts the line of a point.
+fn put_point<W: Write>(sink: &mut Sink<'_, W>, point: Point)
+    ensures { Puts W.contents sink.old sink.new (point_text point ++ 10 ∷ []) }
+{
+    let mut line = *b"                              \n";
+    let at = write_digits(point.at as u64, &mut line, 30);
+    let id = write_before(b" at ", &mut line, at);
+    let start = write_id(point.id, &mut line, id);
+    sink.put(&line[start..]);
 }
 
 /// Puts a line for each point.
@@ -138,9 +215,7 @@ pub fn put_points<W: Write>(sink: &mut Sink<'_, W>, points: &[Point])
     ensures { Puts W.contents sink.old sink.new (lines_by point_text points.now) }
 {
     for point in points {
-        let mut marked = *b"                     at ";
-        put_id(sink, point.id, &mut marked);
-        put_last(sink, point.at as u64);
+        put_point(sink, *point);
     }
 }
 

@@ -59,7 +59,7 @@ impl<'a, W: Write> Sink<'a, W> {
     pub fn put(&mut self, bytes: &[u8])
         ensures { Puts W.contents self.old self.new bytes.now }
     {
-        if self.failed {
+        if self.failed || bytes.is_empty() {
             return;
         }
         match self.writer.write(bytes) {
