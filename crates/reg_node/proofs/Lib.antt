@@ -14,3 +14,4 @@ pub mod Sealed
 pub mod Journals
 pub mod Owned
 pub mod Fours
+pub mod Standings

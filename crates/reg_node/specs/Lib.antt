@@ -14,3 +14,5 @@ pub mod LogTexts
 pub mod LogFaults
 pub mod LineFaults
 pub mod Fours
+pub mod Chapters
+pub mod Rooms

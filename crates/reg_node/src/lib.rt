@@ -3,6 +3,7 @@
 //! what processes did, as text (`transcripts`).
 #![tactic(auto)]
 
+mod chapters;
 mod faults;
 pub mod laws;
 mod logged;
@@ -10,8 +11,10 @@ mod meetings;
 mod nodes;
 mod outputs;
 mod replaying;
+mod rooms;
 mod transcripts;
 
+pub use chapters::{Chapter, Told, ToldFault};
 pub use faults::{HelloFault, LoggedFault, MeetingFault, NodeFault, NotLogged, OpenFault};
 pub use logged::LoggedNode;
 pub use meetings::MeetingNode;
@@ -19,6 +22,7 @@ pub use nodes::Node;
 pub use outputs::Output;
 pub use reg_process::{ProcessFault, Put, Reply, Step};
 pub use reg_records::LogEntry;
+pub use rooms::{NoRoom, Room, room_in};
 pub use transcripts::{
     LineFault, Log, LogFault, LogId, ReadLog, Record, RecordFault, Recorded, begin_log,
     parse_record, read_log, recorded_line, sealed_entry, text_of_record,
