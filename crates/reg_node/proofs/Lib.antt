@@ -15,3 +15,4 @@ pub mod Journals
 pub mod Owned
 pub mod Fours
 pub mod Standings
+pub mod Ended

@@ -4,7 +4,7 @@ use Rattle.std.specs.Int.{w64, to_be_bytes}
 use Rattle.std.proofs.Math.Seq.{take-add}
 use Rattle.std.proofs.lemmas.Grind.{flat_map-append}
 use Rattle.std.proofs.lemmas.List.{drop-drop, take_more}
-use Rattle.reg_node.specs.Chapters.{Standing, SpellsStanding, bit, flags_of, numbers_bytes, standing_bytes}
+use Rattle.reg_node.specs.Chapters.{Standing, SpellsStanding, bit, numbers_bytes}
 
 -- one more number
 pub numbers_more : (ns : List ℕ) (n : ℕ) → numbers_bytes (ns ++ n ∷ []) ≡ numbers_bytes ns ++ to_be_bytes w64 n
@@ -14,10 +14,11 @@ pub numbers_taken : (ns : List ℕ) (i : ℕ) → i < length ns → numbers_byte
 numbers_taken ns i within = ap numbers_bytes (take_more ns i 0 within) ∙ numbers_more (take i ns) (get_or ns i 0)
 
 -- the bytes of so many numbers, and those of one more
-pub eight_more : (bytes ns : List ℕ) (k n : ℕ) → take (k * 8) bytes ≡ numbers_bytes ns → to_be_bytes w64 n ≡ take 8 (drop (k * 8) bytes) → take ((k + 1) * 8) bytes ≡ numbers_bytes (ns ++ n ∷ [])
-eight_more bytes ns k n so_far is =
+pub eight_more : (bytes ns new : List ℕ) (k at n : ℕ) → at ≡ k → take (k * 8) bytes ≡ numbers_bytes ns → to_be_bytes w64 n ≡ take 8 (drop (at * 8) bytes) → new ≡ ns ++ n ∷ [] → take ((k + 1) * 8) bytes ≡ numbers_bytes new
+eight_more bytes ns new k at n here so_far is grown =
     let e : (k + 1) * 8 ≡ k * 8 + 8 = omega arith in
-    ap (λ m. take m bytes) e ∙ take-add (k * 8) 8 bytes ∙ ap₂ (λ x y. x ++ y) so_far (sym is) ∙ sym (numbers_more ns n)
+    let there = ap (λ i. take 8 (drop (i * 8) bytes)) (sym here) ∙ sym is in
+    ap (λ m. take m bytes) e ∙ take-add (k * 8) 8 bytes ∙ ap₂ (λ x y. x ++ y) so_far there ∙ sym (numbers_more ns n) ∙ ap numbers_bytes (sym grown)
 
 flags_again : (f : ℕ) → f ≤ 3 → f ≡ bit (f % 2 == 1) 1 + bit (f / 2 == 1) 2
 flags_again zero few = refl

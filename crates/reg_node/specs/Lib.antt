@@ -16,3 +16,4 @@ pub mod LineFaults
 pub mod Fours
 pub mod Chapters
 pub mod Rooms
+pub mod ChapterLaws

@@ -1,9 +1,15 @@
-//! Laws of nodes, of their logs, and of records as text. Each is a function that does nothing: its contract is the law.
+//! Laws of nodes, of their logs, of chapters, and of records as text. Each is a function that does nothing: its contract is the law.
 ghost use Rattle.std.specs.Prelude.{ℕ, ◌≡◌, ◌≢◌, ◌+◌, ◌<◌, ◌≤◌, List, Some, slice_get, take, ◌++◌};
 ghost use Rattle.reg_base.specs.declared.memory.Op.{Op};
+ghost use Rattle.reg_front.specs.Fronts.{KeepsLaws};
 ghost use Rattle.reg_front.specs.declared.starts.Start.{Start};
 ghost use Rattle.reg_process.specs.Process.{State, next_of, peer_at};
+ghost use Rattle.reg_process.specs.declared.events.Event.{Event};
 ghost use Rattle.reg_process.specs.declared.steps.Step.{Step};
+ghost use Rattle.reg_world.specs.Laws.{IsQuiescent};
+ghost use Rattle.reg_world.specs.World.{whole};
+ghost use Rattle.reg_node.specs.ChapterLaws.{AreTold};
+ghost use Rattle.reg_node.specs.Chapters.{IsOver, Standing, Tale};
 ghost use Rattle.reg_node.specs.LogTexts.{Journal, SpellsLog, entry_line, grown_by, log_text};
 ghost use Rattle.reg_records.specs.declared.entries.LogEntry.{LogEntry};
 ghost use Rattle.reg_node.specs.Crashes.{AreOfSteps, IsGiven};
@@ -60,4 +66,13 @@ pub fn what_a_crash_leaves_spells_the_log()
 /// With a further entry the text of a log grows by the line of the entry.
 pub fn a_log_grows_by_lines()
     ensures { (j : Journal) (entry : LogEntry) → log_text (grown_by j entry) ≡ log_text j ++ entry_line j entry }
+{}
+
+/// Where what the processes of a run told says that their chapter is over, at whatever times they told it and if none
+/// calls from then on: in the end no process has queued more bodies for another than it told, each has accepted all of
+/// them, and all copies are equal.
+pub fn over_stays_over()
+    ensures put { (start : Op → ℕ → Start) (n registers : ℕ) (events : List Event) (time : ℕ → ℕ) (told : Tale) → AreTold start n registers events time told → IsOver told → (p q : ℕ) (s : Standing) → p < n → q < n → p ≢ q → slice_get told p ≡ Some (Some s) → next_of (peer_at ((whole start n registers events).nodes p).state q) ≤ s.put }
+    ensures accepted { (start : Op → ℕ → Start) (n registers : ℕ) (events : List Event) (time : ℕ → ℕ) (told : Tale) → AreTold start n registers events time told → IsOver told → (p q : ℕ) → p < n → q < n → p ≢ q → (peer_at ((whole start n registers events).nodes q).state p).expected ≡ next_of (peer_at ((whole start n registers events).nodes p).state q) }
+    ensures equal { (start : Op → ℕ → Start) (n registers : ℕ) (events : List Event) (time : ℕ → ℕ) (told : Tale) → KeepsLaws start → AreTold start n registers events time told → IsOver told → IsQuiescent n (whole start n registers events).nodes }
 {}

@@ -1,4 +1,4 @@
-use Rattle.reg_node.proofs.Standings.{read_back, spelled_size}
+use Rattle.reg_node.proofs.Standings.{spelled_size}
 use Rattle.reg_node.proofs.chapters.Told.read.Goals as goal
 
 pub returns-then-not-may_be_state : goal.returns-then-not-may_be_state
