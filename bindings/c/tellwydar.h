@@ -18,9 +18,9 @@
 
 #define TELLWYDAR_VERSION "0.1.0"
 
-/* Which functions and numbers there are. 2 adds compare-and-swaps, 3 nodes, and 4 the judge of histories: all functions
- * and numbers of those before are there, and mean what they did. */
-#define TELLWYDAR_ABI 5
+/* Which functions and numbers there are. 2 adds compare-and-swaps, 3 nodes, 4 the judge of histories, and 6 chapters:
+ * all functions and numbers of those before are there, and mean what they did. */
+#define TELLWYDAR_ABI 6
 
 #ifdef __cplusplus
 extern "C" {
@@ -290,7 +290,8 @@ enum {
     TELLWYDAR_DAMAGED = 73,    /* the entry was told durable, and doesn't stand whole */
     TELLWYDAR_NOT_A_STEP = 74, /* the entry is no step of the process */
     TELLWYDAR_FOREIGN = 75,    /* the entry is of another process */
-    TELLWYDAR_BAD_NAMES = 76
+    TELLWYDAR_BAD_NAMES = 76,
+    TELLWYDAR_NO_STATE = 80 /* the bytes are no state of a process of such a cluster */
 };
 
 /* Which log it is, and what its cluster is like. */
@@ -368,6 +369,42 @@ enum {
 uint64_t tellwydar_node_look(struct tellwydar_node *handle, uint32_t what, uint16_t reg);
 /* What its process knows of another one, as `tellwydar_process_known`. */
 uint64_t tellwydar_node_known(struct tellwydar_node *handle, uint32_t what, uint8_t peer);
+
+/* A cluster that doesn't end runs in chapters, each with logs of its own. Where one is to end, all nodes call nothing
+ * more, and tell each other how far they have come until it is over for all: then everybody has accepted all that anybody
+ * put, and their copies are equal. */
+
+/* Puts as many of the bytes that tell how far the node has come into the room as it takes, and tells how many there are:
+ * 9 and 8 for each process. `is_quiet` is 1 where it calls nothing more in this chapter and no operation goes on. The
+ * node keeps that it told this. The result is 0, or TELLWYDAR_OUT_OF_MEMORY, and then nothing has changed. */
+uint32_t tellwydar_node_tell_state(struct tellwydar_node *handle, uint32_t is_quiet, uint8_t *room, size_t room_length,
+                                   size_t *length);
+/* Hears such bytes of another node of the same chapter, in whatever order they come: the latest are kept. The result is
+ * 0, or TELLWYDAR_NO_PROCESS, TELLWYDAR_NO_STATE or TELLWYDAR_OUT_OF_MEMORY, and then nothing has changed. */
+uint32_t tellwydar_node_hear_state(struct tellwydar_node *handle, uint8_t sender, const uint8_t *bytes,
+                                   size_t bytes_length);
+/* 1 where the chapter is over, by what the node told and heard, and else 0. */
+uint32_t tellwydar_node_is_over(struct tellwydar_node *handle);
+
+/* What ends a chapter, so that it comes to rest within the limits of a run. */
+struct tellwydar_chapter_room {
+    uint64_t operations; /* once a process has called so many, the chapter ends */
+    uint64_t total;      /* once the logs of all could have so many entries together, too */
+    uint64_t entries;    /* that is once its own log has so many */
+    uint64_t ahead;      /* while so many of its casts aren't delivered at itself, it calls nothing that is cast */
+    uint64_t least;      /* where there is no such room: the least number that there can be, */
+    uint64_t most;       /* and the greatest */
+};
+/* Why there is no room. */
+enum {
+    TELLWYDAR_NO_BEGINNING = 81,   /* a chapter needs `least` entries to begin, and has `most` */
+    TELLWYDAR_BAD_OPERATIONS = 82, /* it can't end at so many operations of a process */
+    TELLWYDAR_BAD_ENTRIES = 83     /* it can't end at so many entries */
+};
+/* The room in chapters that end at so many operations of a process, or so many entries of all logs together; UINT64_MAX
+ * stands for the usual number. The result is 0, TELLWYDAR_NO_SHAPE, or one of those above. */
+uint32_t tellwydar_room(uint32_t processes, uint32_t registers, uint64_t operations, uint64_t entries,
+                        struct tellwydar_chapter_room *room);
 
 /* Gives back what the node holds, but for the handle's own block: call `tellwydar_node_free` in its place. */
 void tellwydar_node_close(struct tellwydar_node *handle);

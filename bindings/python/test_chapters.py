@@ -4,9 +4,9 @@ import tempfile
 import threading
 import unittest
 
-from tellwydar import check
+from tellwydar import Front, Node as LoggedNode, Refused, check
 from tellwydar.net import LossyRoad, Node, core, judge
-from tellwydar.net.chapters import State, StoryFault, check_story, is_over, told_of, values_after
+from tellwydar.net.chapters import StoryFault, check_story, told_of, values_after
 from tellwydar.net.room import Room, room_of
 from test_net import free_addresses
 from test_node_programs import COUNT, CALLS, RUST, YES, Cluster, wait_until
@@ -36,26 +36,52 @@ def report(*operations):
     return text.encode()
 
 
+def state(quiet, at_rest, put, accepted):
+    """The bytes of a state, by hand."""
+    return bytes([quiet + 2 * at_rest]) + b"".join(it.to_bytes(8, "big") for it in (put, *accepted))
+
+
 class States(unittest.TestCase):
-    def test_they_are_read_as_they_were_told(self):
-        for state in (State(True, False, 2**48, (0, 7, 2**40)), State(False, True, 0, (1, 2, 3))):
-            self.assertEqual(State.of(state.data(), 3), state)
-            self.assertIsNone(State.of(state.data(), 2))
-            self.assertIsNone(State.of(state.data()[:-1], 3))
-            self.assertIsNone(State.of(b"\4" + state.data()[1:], 3))
+    def node(self, processes):
+        log = LoggedNode.begin(cluster=7, process=0, front=Front.LINEAR, processes=processes, names=["x"], begun=12)
+        node = LoggedNode.open(log, 0)
+        self.addCleanup(node.close)
+        return node
+
+    def test_they_are_read_as_they_are_told(self):
+        node = self.node(3)
+        self.assertEqual(node.tell_state(False), state(False, True, 0, (0, 0, 0)))
+        self.assertEqual(node.tell_state(True), state(True, True, 0, (0, 0, 0)))
+        for told in (state(True, False, 2**48, (0, 7, 2**40)), state(False, True, 0, (1, 2, 3))):
+            node.hear_state(1, told)
+            for bad in (told[:-8], told[:-1], b"\4" + told[1:], b""):
+                with self.assertRaisesRegex(Refused, "no state"):
+                    node.hear_state(1, bad)
+        with self.assertRaisesRegex(Refused, "no process"):
+            node.hear_state(3, state(True, True, 0, (0, 0, 0)))
 
     def test_the_later_one_counts_in_whatever_order_they_come(self):
-        states = [State(False, True, 0, (0, 0)), State(False, False, 1, (0, 0)), State(True, False, 1, (0, 1)), State(True, True, 1, (0, 1))]
-        for earlier, later in zip(states, states[1:]):
-            self.assertEqual(later.later(earlier), later)
-            self.assertEqual(earlier.later(later), later)
+        last = state(True, True, 1, (0, 1))
+        for earlier in (state(False, True, 0, (0, 0)), state(False, False, 1, (0, 0)), state(True, False, 1, (0, 1))):
+            for told in ((earlier, last), (last, earlier)):
+                node = self.node(2)
+                node.hear_state(1, state(True, True, 1, (1, 0)))
+                for it in told:
+                    node.hear_state(0, it)
+                self.assertTrue(node.is_over, told)
 
     def test_a_chapter_is_over_where_all_is_accepted(self):
-        over = {0: State(True, True, 2, (0, 1)), 1: State(True, True, 1, (2, 0))}
-        self.assertTrue(is_over(over, 2))
-        self.assertFalse(is_over({0: over[0]}, 2))
-        for other in (State(False, True, 1, (2, 0)), State(True, False, 1, (2, 0)), State(True, True, 1, (1, 0)), State(True, True, 2, (2, 0))):
-            self.assertFalse(is_over({0: over[0], 1: other}, 2), other)
+        first, second = state(True, True, 2, (0, 1)), state(True, True, 1, (2, 0))
+        node = self.node(2)
+        node.hear_state(0, first)
+        self.assertFalse(node.is_over)
+        node.hear_state(1, second)
+        self.assertTrue(node.is_over)
+        for other in (state(False, True, 1, (2, 0)), state(True, False, 1, (2, 0)), state(True, True, 1, (1, 0)), state(True, True, 2, (2, 0))):
+            node = self.node(2)
+            node.hear_state(0, first)
+            node.hear_state(1, other)
+            self.assertFalse(node.is_over, other)
 
 
 class Rooms(unittest.TestCase):

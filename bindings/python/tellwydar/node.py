@@ -25,7 +25,7 @@ from . import (
 _NOTHING_DUE = 71
 _REFUSALS.update({
     64: "stopped", 65: "unspelled", 66: "log lost", 67: "unheard", 68: "log full", 69: "no room", 70: "not logged",
-    76: "bad names",
+    76: "bad names", 80: "no state",
 })
 _BAD_LOGS = {
     72: "line {}: not a log", 73: "entry {}: damaged", 74: "entry {}: no step", 75: "entry {}: of another process",
@@ -52,6 +52,9 @@ def _declare() -> None:
         ("tick", u32, [handle]),
         ("bytes", size, [handle, room, size]),
         ("hear", u32, [handle, u8, u64]),
+        ("tell_state", u32, [handle, u32, room, size, ctypes.POINTER(size)]),
+        ("hear_state", u32, [handle, u8, room, size]),
+        ("is_over", u32, [handle]),
         ("mark_durable", u32, [handle, u64]),
         ("hand_out", u32, [handle]),
         ("frames", u32, [handle, room, size, ctypes.POINTER(size)]),
@@ -177,6 +180,23 @@ class Node(_Progress):
         """Hears that another process accepted so many bodies from this one: its `accepted` of this one. If that is more
         than were ever queued for it, this node's log was lost, and the node stops for good."""
         self._told(self._asked(_library.tellwydar_node_hear, _ranged(other, 8), _ranged(count, 64)))
+
+    def tell_state(self, is_quiet: bool) -> bytes:
+        """The bytes that tell the others how far it has come in its chapter; it is quiet where it calls nothing more and
+        no operation goes on. The node keeps that it told this."""
+        length = ctypes.c_size_t()
+        room: Tuple[Any, ...] = (self._room, _ROOM, ctypes.byref(length))
+        self._told(self._asked(_library.tellwydar_node_tell_state, int(is_quiet), *room))
+        return ctypes.string_at(self._room, length.value)
+
+    def hear_state(self, sender: int, told: bytes) -> None:
+        """Hears such bytes of a node of the same chapter, in whatever order they come: the latest are kept."""
+        self._told(self._asked(_library.tellwydar_node_hear_state, _ranged(sender, 8), told, len(told)))
+
+    @property
+    def is_over(self) -> bool:
+        """Whether the chapter is over, by what it told and heard: then everybody has accepted all that anybody put."""
+        return self._asked(_library.tellwydar_node_is_over) != 0
 
     def mark_durable(self, count: int) -> None:
         """Notes that so many entries of the log are durable, those that it was opened with among them."""

@@ -42,6 +42,17 @@ pub struct LogRow {
     pub process: u8,
 }
 
+#[derive(Default)]
+#[repr(C)]
+pub struct RoomRow {
+    pub operations: u64,
+    pub total: u64,
+    pub entries: u64,
+    pub ahead: u64,
+    pub least: u64,
+    pub most: u64,
+}
+
 /// What a handle points to.
 #[derive(Debug)]
 #[repr(C)]
@@ -132,6 +143,10 @@ unsafe extern "C" {
     pub fn tellwydar_node_hand_out(handle: *mut Opaque) -> u32;
     pub fn tellwydar_node_frames(handle: *mut Opaque, room: *mut u8, room_length: usize, length: *mut usize) -> u32;
     pub fn tellwydar_node_hear(handle: *mut Opaque, other: u8, count: u64) -> u32;
+    pub fn tellwydar_node_tell_state(handle: *mut Opaque, is_quiet: u32, room: *mut u8, room_length: usize, length: *mut usize) -> u32;
+    pub fn tellwydar_node_hear_state(handle: *mut Opaque, sender: u8, bytes: *const u8, bytes_length: usize) -> u32;
+    pub fn tellwydar_node_is_over(handle: *mut Opaque) -> u32;
+    pub fn tellwydar_room(processes: u32, registers: u32, operations: u64, entries: u64, row: *mut RoomRow) -> u32;
     pub fn tellwydar_node_look(handle: *mut Opaque, what: u32, register: u16) -> u64;
     pub fn tellwydar_node_known(handle: *mut Opaque, what: u32, peer: u8) -> u64;
     pub fn tellwydar_node_close(handle: *mut Opaque);

@@ -28,6 +28,7 @@ mod fronts;
 mod histories;
 mod nodes;
 mod processes;
+mod rooms;
 mod texts;
 mod worlds;
 
@@ -36,6 +37,7 @@ pub use fronts::{FrontEnd, NoFrontEnd};
 pub use histories::{Call, End, Judgement, Judging, Row, Word, judge, judge_report, judge_rows, judge_with};
 pub use nodes::{LogFault, LogHead, LoggedNode, Output};
 pub use processes::{Frames, Known, Process};
+pub use rooms::{NoRoom, Room, room};
 pub use texts::{Told, check, merge, play, play_fair, replay, verify};
 pub use worlds::{Event, Front, Linear, LocalRead, LocalWrite, RealTime, Refused, Reply, World};
 

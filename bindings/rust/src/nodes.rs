@@ -217,6 +217,37 @@ impl LoggedNode {
         told(unsafe { foreign::tellwydar_node_hear(self.handle.as_ptr(), other, count) })
     }
 
+    /// The bytes that tell the others how far it has come in its chapter; it is quiet where it calls nothing more and
+    /// no operation goes on. The node keeps that it told this.
+    ///
+    /// # Errors
+    ///
+    /// `OutOfMemory`.
+    pub fn tell_state(&mut self, is_quiet: bool) -> Result<&[u8], Refused> {
+        let (handle, room, mut length) = (self.handle.as_ptr(), &mut self.room, 0);
+        // SAFETY: as in `call`; the pointer and the length are those of one slice.
+        told(unsafe {
+            foreign::tellwydar_node_tell_state(handle, is_quiet.into(), room.as_mut_ptr(), room.len(), &mut length)
+        })?;
+        Ok(&self.room[..length])
+    }
+
+    /// Hears such bytes of a node of the same chapter, in whatever order they come: the latest are kept.
+    ///
+    /// # Errors
+    ///
+    /// `NoProcess`, `NoState` where they are no state of a process of this cluster, and `OutOfMemory`.
+    pub fn hear_state(&mut self, sender: u8, bytes: &[u8]) -> Result<(), Refused> {
+        // SAFETY: as in `call`; the pointer and the length are those of one slice.
+        told(unsafe { foreign::tellwydar_node_hear_state(self.handle.as_ptr(), sender, bytes.as_ptr(), bytes.len()) })
+    }
+
+    /// Whether the chapter is over, by what it told and heard: then everybody has accepted all that anybody put.
+    pub fn is_over(&self) -> bool {
+        // SAFETY: as in `look`.
+        unsafe { foreign::tellwydar_node_is_over(self.handle.as_ptr()) != 0 }
+    }
+
     /// How many entries its log has.
     pub fn logged(&self) -> u64 {
         self.look(8, 0)

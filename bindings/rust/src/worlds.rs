@@ -106,6 +106,8 @@ pub enum Refused {
     NotLogged,
     /// These aren't 1 to 4,096 names of 1 to 16 letters a to z, which differ.
     BadNames,
+    /// Of a node: these bytes are no state of a process of its cluster.
+    NoState,
 }
 
 impl fmt::Display for Refused {
@@ -132,6 +134,7 @@ impl fmt::Display for Refused {
             Self::NoRoom => "no room",
             Self::NotLogged => "not logged",
             Self::BadNames => "bad names",
+            Self::NoState => "no state",
         })
     }
 }
@@ -160,6 +163,7 @@ pub(crate) fn refused(code: u32) -> Refused {
         69 => Refused::NoRoom,
         70 => Refused::NotLogged,
         76 => Refused::BadNames,
+        80 => Refused::NoState,
         _ => Refused::OutOfMemory,
     }
 }

@@ -8,3 +8,5 @@ pub mod Processes
 pub mod NodeCodes
 pub mod Beginning
 pub mod Nodes
+pub mod NodeChapters
+pub mod RoomRows

@@ -1,5 +1,5 @@
 -- A node that a caller holds, under the front end that its log names. Promises cite it.
-use Rattle.std.specs.Prelude.{ℕ, ◌≡◌, ◌==◌, ◌<◌, ◌≤◌, ◌⊎◌, MatchOption, Bool, false, List, [], length, Option, None, Some, option_map, cond, if◌then◌else◌}
+use Rattle.std.specs.Prelude.{ℕ, ◌≡◌, ◌==◌, ◌<◌, ◌≤◌, ◌⊎◌, MatchOption, Bool, false, List, [], length, replicate, Option, None, Some, option_map, cond, if◌then◌else◌}
 use Rattle.reg_base.specs.declared.memory.Op.{Op}
 use Rattle.reg_frames.specs.Spelling.{Spells}
 use Rattle.reg_frames.specs.declared.bodies.Frame.{Frame}
@@ -18,6 +18,7 @@ use Rattle.reg_node.specs.declared.faults.HelloFault.{HelloFault}
 use Rattle.reg_node.specs.declared.faults.LoggedFault.{LoggedFault}
 use Rattle.reg_node.specs.declared.faults.OpenFault.{OpenFault}
 use Rattle.reg_node.specs.Logged.{IsSpelled, LoggedHandsOut, LoggedHandsOutNothing, LoggedState, Writes, WritesNothing}
+use Rattle.reg_node.specs.Chapters.{ChapterState}
 use Rattle.reg_node.specs.Logs.{Outgoing, first_state}
 use Rattle.reg_node.specs.Meetings.{Hears, HearsNothing, all_heard, heard_at_first}
 use Rattle.reg_node.specs.Nodes.{marked}
@@ -38,7 +39,7 @@ use Rattle.reg_c.specs.Worlds.{reply_place, reply_value, seen}
 
 -- what is held at first: no node, no bytes, and nothing that was handed out
 abbrev pub IsNothing : HeldNode → Type 0
-IsNothing h = (h.node ≡ Closed) × (h.bytes.items ≡ []) × (h.output ≡ None) × (h.whole ≡ 0) × (h.place ≡ 0)
+IsNothing h = (h.node ≡ Closed) × (h.bytes.items ≡ []) × (h.output ≡ None) × (h.chapter ≡ None) × (h.whole ≡ 0) × (h.place ≡ 0)
 
 -- Opening
 
@@ -49,6 +50,10 @@ pub record GoesOnAfter (start : Op → ℕ → Start) (j : Journal) (l : LoggedS
   pub found : l.meeting.lost ≡ false
   pub goes_on : l.stopped ≡ false
   pub spelled : IsSpelled start (first_state j.shape j.id.process) j (opened_with j.entries) l
+
+-- the chapter of this log, of which nobody told anything
+abbrev pub first_chapter : Journal → ChapterState
+first_chapter j = record { me = j.id.process; told = replicate j.shape.processes None }
 
 -- such a node is held, under the front end that the log names
 abbrev pub KeptAfter : Journal → KeptNode → Type 0
@@ -73,6 +78,7 @@ pub record OpensNode (text : List ℕ) (durable : ℕ) (h : HeldNode) : Type 0 w
   pub whole : h.whole ≡ length (log_text journal)
   pub bytes : h.bytes.items ≡ []
   pub output : h.output ≡ None
+  pub chapter : h.chapter ≡ Some (first_chapter journal)
 
 -- no log is read, for this fault
 pub record IsUnread (text : List ℕ) (durable code place : ℕ) : Type 0 where

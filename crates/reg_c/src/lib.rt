@@ -4,12 +4,14 @@
 #![tactic(auto)]
 
 mod beginning;
+mod chapter_handles;
 mod choosing;
 mod codes;
 mod events;
 pub mod holding;
 mod judging;
 mod looking;
+pub mod node_chapters;
 mod node_codes;
 mod node_handles;
 pub mod node_parts;
@@ -19,6 +21,7 @@ mod parts;
 mod process_handles;
 pub mod processes;
 mod reading;
+mod rooms;
 mod rows;
 mod texts;
 mod unboxed;
@@ -26,6 +29,9 @@ mod verdicts;
 mod worlds;
 
 pub use beginning::tellwydar_node_begin;
+pub use chapter_handles::{
+    tellwydar_node_hear_state, tellwydar_node_is_over, tellwydar_node_tell_state,
+};
 pub use judging::{
     tellwydar_check_points, tellwydar_check_points_expecting, tellwydar_check_serial,
     tellwydar_check_serial_expecting,
@@ -41,6 +47,7 @@ pub use process_handles::{
     tellwydar_process_frames, tellwydar_process_known, tellwydar_process_look,
     tellwydar_process_new, tellwydar_process_take, tellwydar_process_tick,
 };
+pub use rooms::{RoomRow, tellwydar_room};
 pub use texts::{
     tellwydar_check, tellwydar_judge, tellwydar_judge_from, tellwydar_merge, tellwydar_play,
     tellwydar_play_fair, tellwydar_replay, tellwydar_verify,

@@ -186,7 +186,7 @@ pub unsafe extern "C" fn tellwydar_node_known(handle: *mut u8, what: u32, peer: 
 pub unsafe extern "C" fn tellwydar_node_close(handle: *mut u8)
     ghost held: { HeldNode }
     requires* { sem 𝓛 (lies_at the_row full_share handle held) }
-    ensures* { ∃ₛ (λ (after : HeldNode). sem 𝓛 (lies_at the_row full_share handle after) ∗ ⌜ (after.node ≡ KeptNode.Closed) × (after.output ≡ None) × (vec_capacity after.bytes ≡ 0) ⌝) }
+    ensures* { ∃ₛ (λ (after : HeldNode). sem 𝓛 (lies_at the_row full_share handle after) ∗ ⌜ (after.node ≡ KeptNode.Closed) × (after.output ≡ None) × (after.chapter ≡ None) × (vec_capacity after.bytes ≡ 0) ⌝) }
 {
     close(&mut *(handle as *mut HeldNode))
 }

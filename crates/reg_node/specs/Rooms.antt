@@ -36,6 +36,7 @@ entries_of shape given = unwrap_or given (max (min USUAL_ENTRIES (most_entries s
 abbrev pub room_of : Extent → ℕ → ℕ → Room
 room_of shape operations entries = record {
   operations = operations;
+  total = entries;
   entries = entries / shape.processes;
   ahead = (MOST_EVENTS - entries) / round_cost shape.processes;
 }

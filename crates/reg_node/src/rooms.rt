@@ -16,7 +16,9 @@ const USUAL_ENTRIES: u64 = 786_432;
 pub struct Room {
     /// Once it has called so many operations, the chapter ends.
     pub operations: u64,
-    /// Once its log has so many entries, too.
+    /// Once the logs of all could have so many entries together, too.
+    pub total: u64,
+    /// That is once its log has so many.
     pub entries: u64,
     /// While so many of its casts aren't delivered at itself, it calls nothing that is cast.
     pub ahead: u64,
@@ -98,6 +100,7 @@ pub fn room_in(shape: Shape, operations: Option<u64>, entries: Option<u64>) -> R
     }
     Ok(Room {
         operations,
+        total: entries,
         entries: entries / u64::from(shape.processes()),
         ahead: (MOST_EVENTS as u64 - entries) / round_cost(shape),
     })

@@ -5,48 +5,10 @@ chapter. All nodes then call nothing more, until everybody has accepted all that
 and begins the next one, and process 0 writes the values that the last chapter ended with, before anybody else calls. So each chapter is a run that
 begins with a memory of zeros, and can be judged by itself; `follows` says whether two in a row are one story.
 
-That a chapter is over is seen by what the nodes tell of themselves (`State`), at whatever times they told it. No node is quiet that calls, so a new
-body can come only of a cast that is accepted; but where everybody has accepted as many bodies as their senders had put, none is left that could be
-accepted. So what holds of the states that were told holds from then on.
+That a chapter is over is seen by what the nodes tell of themselves, at whatever times they told it: `tell_state`, `hear_state` and `is_over` of
+`tellwydar.Node`. It is proved that this holds from then on, where no node calls that told that it is quiet, and that all copies are equal in the end.
 """
-from typing import Dict, List, NamedTuple, Optional, Sequence, Tuple
-
-_QUIET, _AT_REST = 1, 2
-
-
-class State(NamedTuple):
-    """How far a node has come: whether it calls nothing more in this chapter and has no operation that goes on, whether all its frames are
-    acknowledged, how many bodies it has put for each other node, and how many it has accepted of each process."""
-
-    quiet: bool
-    at_rest: bool
-    put: int
-    accepted: Tuple[int, ...]
-
-    def data(self) -> bytes:
-        flags = _QUIET * self.quiet | _AT_REST * self.at_rest
-        return bytes([flags]) + b"".join(it.to_bytes(8, "big") for it in (self.put, *self.accepted))
-
-    @classmethod
-    def of(cls, data: bytes, processes: int) -> Optional["State"]:
-        """The state that these bytes tell, None where they are none."""
-        if len(data) != 1 + 8 * (1 + processes) or data[0] > _QUIET | _AT_REST:
-            return None
-        put, *accepted = (int.from_bytes(data[at : at + 8], "big") for at in range(1, len(data), 8))
-        return cls(bool(data[0] & _QUIET), bool(data[0] & _AT_REST), put, tuple(accepted))
-
-    def later(self, other: Optional["State"]) -> "State":
-        """The later of two states of one node in one chapter, whose numbers never fall."""
-        if other is None or (self.put + sum(self.accepted), self.quiet, self.at_rest) >= (other.put + sum(other.accepted), other.quiet, other.at_rest):
-            return self
-        return other
-
-
-def is_over(states: Dict[int, State], processes: int) -> bool:
-    """Whether the chapter is over, by what each process told."""
-    if len(states) < processes or not all(it.quiet and it.at_rest for it in states.values()):
-        return False
-    return all(states[q].accepted[p] == states[p].put for p in states for q in states if p != q)
+from typing import Dict, List, NamedTuple, Sequence, Tuple
 
 
 def opening_of(values: Sequence[int]) -> List[Tuple[int, int]]:

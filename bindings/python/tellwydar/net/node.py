@@ -106,7 +106,7 @@ class Node:
         with self._lock:
             if story.lines or self._failed:
                 return
-            is_quiet, is_over = story.state().quiet, story.is_over()
+            is_quiet, is_over = story.is_quiet(), story.is_over()
         if is_quiet:
             story.say_quiet()
         following = story.begin_next() if is_over else None

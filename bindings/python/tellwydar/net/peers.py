@@ -3,7 +3,6 @@ from typing import Dict, Union
 
 from .. import Refused
 from .beats import Beat
-from .chapters import State
 from .core import NodeFailed
 from .datagrams import DatagramRoad
 from .messages import GREETING, STATE, Greeting, Post, start_of
@@ -44,11 +43,10 @@ class Peers:
 
     def heard_state(self, sender: int, told: bytes) -> None:
         """Another node says how far it has come in a chapter that ends."""
-        state = State.of(told, self._story.head.processes)
-        if state is None:
+        try:
+            self._story.heard(sender, told)
+        except Refused:
             self._complain(f"state {sender}", f"process {sender}: no state of a node")
-        else:
-            self._story.heard(sender, state)
 
     def look(self) -> bool:
         """What the pacer does for a cluster: whether there is to be a tick, since a link goes without an answer, with
@@ -65,9 +63,9 @@ class Peers:
 
     def tell_own(self) -> None:
         """Tells all how far this node has come."""
-        state = self._story.state()
+        state = self._story.tell_state()
         for to, start in self.post.starts.items():
-            self._road.send(to, start + STATE + state.data())
+            self._road.send(to, start + STATE + state)
 
     def tell_last(self, to: int) -> None:
         """Tells one that is still in the last chapter how far this node came there."""

@@ -5,11 +5,20 @@ call; each other process takes the cast, and all but the sender of an acknowledg
 messages has a count, which is taken too. So where each process is ahead of the others by at most so many casts, it is
 known how many entries it takes to come to rest, and how many registers a chapter can begin with.
 """
+import ctypes
 from typing import NamedTuple, Optional
 
-_MOST_OPERATIONS = 65_535  # of a process
-_MOST_ENTRIES = 1_048_576  # of a run
-_USUAL_OPERATIONS, _USUAL_ENTRIES = 65_000, 786_432
+from .. import _library, _ranged
+
+_USUAL = (1 << 64) - 1
+
+
+class _Row(ctypes.Structure):
+    _fields_ = [(it, ctypes.c_uint64) for it in ("operations", "total", "entries", "ahead", "least", "most")]
+
+
+_library.tellwydar_room.restype = ctypes.c_uint32
+_library.tellwydar_room.argtypes = [*[ctypes.c_uint32] * 2, *[ctypes.c_uint64] * 2, ctypes.POINTER(_Row)]
 
 
 class Room(NamedTuple):
@@ -23,16 +32,14 @@ class Room(NamedTuple):
 def room_of(processes: int, registers: int, operations: Optional[int], entries: Optional[int]) -> Room:
     """The room where chapters end at so many operations of a process, and at so many entries of all logs together; None
     is the usual number. `ValueError` says which numbers there can be."""
-    cost = 1 + 2 * processes * (processes - 1)
-    least, most = (registers + 1) * cost, _MOST_ENTRIES - processes * cost
-    of = f"with {processes} processes and {registers} registers"
-    if least > most:
-        raise ValueError(f"{of} a chapter needs {least} entries to begin, and has {most}")
-    operations = _USUAL_OPERATIONS if operations is None else operations
-    if not registers < operations <= _MOST_OPERATIONS:
-        can = f"{registers + 1} to {_MOST_OPERATIONS}"
-        raise ValueError(f"chapter_operations is {operations}; with {registers} registers it can be {can}")
-    entries = max(least, min(_USUAL_ENTRIES, most)) if entries is None else entries
-    if not least <= entries <= most:
-        raise ValueError(f"chapter_entries is {entries}; {of} it can be {least} to {most}")
-    return Room(operations, entries // processes, (_MOST_ENTRIES - entries) // (processes * cost))
+    row = _Row()
+    given = (_USUAL if it is None else _ranged(it, 63) for it in (operations, entries))
+    code = _library.tellwydar_room(_ranged(processes, 32), _ranged(registers, 32), *given, ctypes.byref(row))
+    if code == 0:
+        return Room(row.operations, row.entries, row.ahead)
+    of, can = f"with {processes} processes and {registers} registers", f"{row.least} to {row.most}"
+    raise ValueError({
+        81: f"{of} a chapter needs {row.least} entries to begin, and has {row.most}",
+        82: f"chapter_operations is {operations}; with {registers} registers it can be {can}",
+        83: f"chapter_entries is {entries}; {of} it can be {can}",
+    }.get(code, f"{of} there is no cluster"))

@@ -3,10 +3,10 @@ log, so a node that was killed goes on. It needs the logs of its last two chapte
 import os
 import re
 import secrets
-from typing import Callable, Dict, Iterator, List, Optional, Tuple
+from typing import Callable, Iterator, List, Optional, Tuple
 
 from .. import Node, Op, Output, Read
-from .chapters import State, is_over, opening_of
+from .chapters import opening_of
 from .core import NodeFailed
 from .logfile import HEAD_LINES, Head, LogFault, LogFile, keep, lines_of, open_log, say_cut
 from .room import Room
@@ -94,7 +94,7 @@ class Story:
                 node.close()
                 raise LogFault(f"{path} is of {found.decode()}, and this node of {wanted.decode()}")
         self.node, self.running = node, node.busy
-        self.lines, self.states = [], {}  # type: List[bytes], Dict[int, State]
+        self.lines: List[bytes] = []
         # (a name is never behind a number, so these words stand in each line of a call once, and in no other)
         self.called = text.count(b" %d call " % head.me, 0, node.whole)
         self._queued, self._held = self._bodies(), 0  # bodies that went out, and steps of which nothing did yet
@@ -165,12 +165,13 @@ class Story:
         """Whether so many casts of this node are on their way that no other is made."""
         return self.node.unsettled >= self._room.ahead
 
-    def state(self) -> State:
-        """How far this node has come in its chapter."""
-        known = {p: self.node.known(p) for p in range(self.head.processes) if p != self.head.me}
-        put = max((it.next for it in known.values()), default=0)
-        accepted = tuple(known[p].expected if p in known else 0 for p in range(self.head.processes))
-        return State(self.ending and not self.running and not self.is_opening(), self.node.pending == 0, put, accepted)
+    def is_quiet(self) -> bool:
+        """Whether this node calls nothing more in this chapter, and no operation goes on."""
+        return self.ending and not self.running and not self.is_opening()
+
+    def tell_state(self) -> bytes:
+        """The bytes that tell the others how far this node has come in its chapter."""
+        return self.node.tell_state(self.is_quiet())
 
     def is_opening(self) -> bool:
         """Whether the values that the last chapter ended with aren't all written here: then nothing else is called."""
@@ -182,10 +183,10 @@ class Story:
         """What this node writes next of what the last chapter ended with."""
         return self.opening[self.called] if self.head.me == 0 and self.called < len(self.opening) else None
 
-    def heard(self, sender: int, state: State) -> None:
+    def heard(self, sender: int, state: bytes) -> None:
         """Another node told how far it has come: somebody has little room left."""
+        self.node.hear_state(sender, state)
         self.ending = True
-        self.states[sender] = state.later(self.states.get(sender))
 
     def say_quiet(self) -> None:
         """Before it is told that this node calls nothing more in this chapter, that is kept for when it is resumed."""
@@ -196,14 +197,14 @@ class Story:
     def _end(self) -> None:
         """The chapter is over: what the next one begins with, and what is told to those who don't know it yet."""
         self.called_before += self.calls()
-        self.last_state = self.state()._replace(quiet=True, at_rest=True).data()
+        self.last_state = self.node.tell_state(True)
         self.last_head = self.head
         self.opening = opening_of([self.node.register(r) for r in range(len(self.head.registers))])
 
     def is_over(self) -> bool:
         """Whether the chapter is over: all were told or heard that nobody calls any more, and has what anybody put."""
-        self.states[self.head.me] = self.state()
-        return is_over(self.states, self.head.processes)
+        self.tell_state()
+        return self.node.is_over
 
     def begin_next(self) -> Tuple[Head, bytes]:
         """The chapter is over, and the log of the next one begins."""

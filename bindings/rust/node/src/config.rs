@@ -125,12 +125,9 @@ impl FromStr for Config {
             .map_err(|_| ConfigFault("look_ms should be a number of milliseconds".to_string()))?;
         let registers = needed("registers", registers)?;
         let size = Size { processes: nodes.len() as u32, registers: registers.len() as u32 };
-        let usual = size.usual();
-        let most = Most {
-            operations: field(&table, "chapter_operations", "a number", number)?.unwrap_or(usual.operations),
-            entries: field(&table, "chapter_entries", "a number", number)?.unwrap_or(usual.entries),
-        };
-        size.room(most)?;
+        let operations = field(&table, "chapter_operations", "a number", number)?;
+        let room = size.room(operations, field(&table, "chapter_entries", "a number", number)?)?;
+        let most = Most { operations: room.operations as u32, entries: room.total as u32 };
         let sync = field(&table, "sync", "true or false", Value::as_bool)?.unwrap_or(false);
         let (front, cluster) = (needed("front", front)?, needed("cluster", cluster)?);
         Ok(Self { cluster, front, registers, sync, look, most, nodes })

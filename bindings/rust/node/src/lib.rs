@@ -18,7 +18,6 @@
 
 mod beats;
 mod calls;
-mod chapters;
 mod complaints;
 mod config;
 #[cfg(feature = "datagrams")]

@@ -5,7 +5,6 @@
 //! (`Disk`). While it writes the node makes no step: it waits on its road, until the disk is done or its caller's time
 //! is up.
 use crate::beats::Beat;
-use crate::chapters::State;
 use crate::complaints::{Complaint, Complaints, Kind};
 use crate::config::{Config, ConfigFault};
 use crate::disk::{Disk, Write};
@@ -56,7 +55,8 @@ pub struct Node<F: Front> {
     held_till: Option<Instant>,
     /// One that waits to be fetched.
     answer: Option<Answer>,
-    told: Option<State>,
+    /// How far it came, as it told it last in this chapter.
+    told: Option<Vec<u8>>,
     arrived: Vec<Arrived>,
     unserved: u32,
     rang: bool,
@@ -88,7 +88,7 @@ impl<F: Front> Node<F> {
             return Err(ConfigFault::new(format!("the configuration has no process {}", options.me)).into());
         }
         let size = Size { processes: processes.into(), registers: config.registers.len() as u32 };
-        let room = size.room(config.most)?;
+        let room = size.room(Some(config.most.operations), Some(config.most.entries))?;
         let (bell, hand) = Bell::new()?;
         let ringer = bell.ringer(&hand)?;
         let road = road_of(config, options, bell)?;
@@ -332,9 +332,11 @@ impl<F: Front> Node<F> {
         }
         match met {
             Met::Peer { sender, brings: Brings::Frames, rest } => self.take_all(sender, rest)?,
-            Met::Peer { sender, brings: Brings::State, rest } => match State::of(rest, self.beats.len()) {
-                Some(state) => self.story.heard_state(sender, state),
-                None => self.complain(Kind::State(sender), format!("process {sender}: no state of a node")),
+            Met::Peer { sender, brings: Brings::State, rest } => match self.story.heard_state(sender, rest) {
+                Err(Refused::NoState) => {
+                    self.complain(Kind::State(sender), format!("process {sender}: no state of a node"));
+                }
+                heard => heard?,
             },
             Met::Peer { sender, brings: Brings::Greeting, rest } => self.greeted(sender, rest)?,
             Met::Late(sender) => self.tell_last(sender),

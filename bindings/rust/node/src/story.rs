@@ -1,21 +1,20 @@
 //! Where one node is: its chapter with its log, and the chapters before. All that a chapter is, is in its log, so a node
 //! that was killed is made again. It needs the logs of its last two chapters, and no others.
-use crate::chapters::{State, is_over};
 use crate::disk::Disk;
 use crate::fault::Fault;
 use crate::log_file::{LogFile, at_path, folder_of, keep};
 use crate::log_text;
-use crate::room::Room;
 use std::fs::{self, File};
 use std::io::{self, Read};
 use std::path::{Path, PathBuf};
-use tellwydar::{LogHead, LoggedNode, Op, Output, Refused};
+use tellwydar::{LogHead, LoggedNode, Op, Output, Refused, Room};
 
 /// How a node's last chapter ended, for those who don't know it yet.
 #[derive(Debug)]
 pub struct Ended {
     pub begun: u64,
-    pub state: State,
+    /// The bytes that tell how far it came.
+    pub state: Vec<u8>,
 }
 
 /// What a chapter is, up to some entry of its log.
@@ -31,7 +30,6 @@ struct Chapter {
     is_running: bool,
     is_ending: bool,
     is_said_quiet: bool,
-    states: Vec<Option<State>>,
 }
 
 /// The chapters of a node up to the one that goes on.
@@ -116,23 +114,12 @@ impl Chapter {
             node,
             is_ending: quiet_of(path).exists(),
             is_said_quiet: false,
-            states: vec![None; head.processes.into()],
         })
     }
 
     /// Whether there is little room left.
     fn is_full(&self, room: Room) -> bool {
-        self.called >= room.operations || self.entries >= room.entries.into()
-    }
-
-    /// How far this node has come in the chapter.
-    fn state(&self, is_quiet: bool) -> State {
-        let (processes, me) = (self.head.processes, usize::from(self.head.process));
-        let known: Vec<_> = (0..processes).map(|it| self.node.known(it)).collect();
-        // (of itself a process knows nothing: all is 0)
-        let put = known.iter().enumerate().filter(|(it, _)| *it != me).map(|(_, it)| it.next).max().unwrap_or(0);
-        let accepted = known.iter().map(|it| it.expected).collect();
-        State { is_quiet, is_at_rest: self.node.pending() == 0, put, accepted }
+        u64::from(self.called) >= room.operations || self.entries >= room.entries
     }
 }
 
@@ -174,7 +161,7 @@ impl Story {
 
     /// Whether so many casts of this node are on their way that no other is made.
     pub fn is_far_ahead(&self) -> bool {
-        self.node().unsettled() >= self.room.ahead.into()
+        self.node().unsettled() >= self.room.ahead
     }
 
     /// Whether the operation that goes on has a reply, which isn't handed out yet.
@@ -274,9 +261,15 @@ impl Story {
         self.before.ended.as_ref()
     }
 
-    /// How far this node has come in its chapter.
-    pub fn state(&self) -> State {
-        self.chapter.state(self.is_ending() && !self.is_running() && !self.is_opening())
+    /// Whether this node calls nothing more in this chapter, and no operation goes on.
+    pub fn is_quiet(&self) -> bool {
+        self.is_ending() && !self.is_running() && !self.is_opening()
+    }
+
+    /// The bytes that tell the others how far this node has come in its chapter.
+    pub fn tell_state(&mut self) -> Result<Vec<u8>, Refused> {
+        let is_quiet = self.is_quiet();
+        self.chapter.node.tell_state(is_quiet).map(<[u8]>::to_vec)
     }
 
     /// Whether the values that the last chapter ended with aren't all written here: then nothing else is called.
@@ -303,12 +296,10 @@ impl Story {
     }
 
     /// Another node told how far it has come: somebody has little room left.
-    pub fn heard_state(&mut self, sender: u8, state: State) {
+    pub fn heard_state(&mut self, sender: u8, bytes: &[u8]) -> Result<(), Refused> {
+        self.chapter.node.hear_state(sender, bytes)?;
         self.chapter.is_ending = true;
-        let known = &mut self.chapter.states[usize::from(sender)];
-        if known.as_ref().is_none_or(|it| !it.is_later_than(&state)) {
-            *known = Some(state);
-        }
+        Ok(())
     }
 
     /// Before it is told that this node calls nothing more in this chapter, that is kept for when it is resumed, behind
@@ -328,13 +319,12 @@ impl Story {
         if !self.is_ending() {
             return Ok(false);
         }
-        let (me, state) = (usize::from(self.head().process), self.state());
-        self.chapter.states[me] = Some(state);
-        if !is_over(&self.chapter.states) {
+        self.tell_state()?;
+        if !self.node().is_over() {
             return Ok(false);
         }
         self.say_quiet()?;
-        self.before.end(&self.chapter);
+        self.before.end(&mut self.chapter)?;
         let head = LogHead { chapter: self.head().chapter + 1, ..self.head().clone() };
         let path = log_of(&self.path, head.chapter);
         eprintln!("chapter {} begins, in {}", head.chapter, path.display());
@@ -355,7 +345,7 @@ impl Before {
     /// What the chapter of the log at this path has left, which was over before the node was killed.
     fn of(head: &LogHead, log: &Path) -> Result<Self, Fault> {
         let mut before = Self::default();
-        before.end(&Chapter::of(head, log, &log_text::read(log)?)?);
+        before.end(&mut Chapter::of(head, log, &log_text::read(log)?)?)?;
         before.called = called_up_to(log)?;
         Ok(before)
     }
@@ -367,12 +357,13 @@ impl Before {
     }
 
     /// A chapter is over: what the next one begins with, and what is told to those who don't know it yet.
-    fn end(&mut self, chapter: &Chapter) {
+    fn end(&mut self, chapter: &mut Chapter) -> Result<(), Refused> {
         self.called += self.own_calls(chapter);
-        let state = State { is_at_rest: true, ..chapter.state(true) };
+        let state = chapter.node.tell_state(true)?.to_vec();
         self.ended = Some(Ended { begun: chapter.head.begun, state });
         let values = (0..chapter.head.names.len() as u16).map(|it| (it, chapter.node.register(it)));
         self.opening = values.filter(|&(_, value)| value != 0).collect();
+        Ok(())
     }
 }
 

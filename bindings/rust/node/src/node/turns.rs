@@ -1,6 +1,5 @@
 //! How a chapter ends, and the next one begins.
 use super::Node;
-use crate::chapters::State;
 use crate::fault::Fault;
 use crate::message::{Brings, Meeting, begin};
 use tellwydar::{Front, Refused};
@@ -12,20 +11,20 @@ impl<F: Front> Node<F> {
         if !self.story.is_ending() || !self.story.is_handed_out() || self.story.is_writing() {
             return Ok(());
         }
-        let state = self.story.state();
-        let is_new = self.told.is_none() || state.is_quiet && state.is_at_rest && self.told.as_ref() != Some(&state);
+        let state = self.story.tell_state()?;
+        let is_end = self.story.is_quiet() && self.story.node().pending() == 0;
+        let is_new = self.told.is_none() || is_end && self.told.as_ref() != Some(&state);
         if is_new { self.tell_state(state) } else { Ok(()) }
     }
 
     /// Tells all others how far this node has come.
-    fn tell_state(&mut self, state: State) -> Result<(), Fault> {
+    fn tell_state(&mut self, state: Vec<u8>) -> Result<(), Fault> {
         self.story.write()?;
-        if state.is_quiet {
+        if self.story.is_quiet() {
             self.story.say_quiet()?;
         }
         for to in self.others() {
-            let message = [begin(&self.meeting.start(to), Brings::State), state.bytes()].concat();
-            self.road.send(to, &message);
+            self.road.send(to, &[&begin(&self.meeting.start(to), Brings::State)[..], &state].concat());
         }
         self.told = Some(state);
         Ok(())
@@ -35,7 +34,7 @@ impl<F: Front> Node<F> {
     pub(super) fn tell_last(&mut self, to: u8) {
         if let Some(ended) = self.story.ended() {
             let start = self.meeting.start_of(to, ended.begun, self.story.head().chapter as u32 - 1);
-            self.road.send(to, &[begin(&start, Brings::State), ended.state.bytes()].concat());
+            self.road.send(to, &[&begin(&start, Brings::State)[..], &ended.state].concat());
         }
     }
 
