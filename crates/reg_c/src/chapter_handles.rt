@@ -29,11 +29,7 @@ pub unsafe extern "C" fn tellwydar_node_tell_state(
 /// Has the node behind the handle hear the bytes by which another one tells how far it has come: the latest ones of
 /// each are kept. If the result isn't 0, nothing has changed.
 #[unsafe(no_mangle)]
-pub unsafe extern "C" fn tellwydar_node_hear_state(
-    handle: *mut u8,
-    sender: u8,
-    bytes: &[u8],
-) -> u32
+pub unsafe extern "C" fn tellwydar_node_hear_state(handle: *mut u8, sender: u8, bytes: &[u8]) -> u32
     ghost held: { HeldNode }
     requires* { sem 𝓛 (lies_at the_row full_share handle held) }
     ensures* { ∃ₛ (λ (after : HeldNode). sem 𝓛 (lies_at the_row full_share handle after) ∗ ⌜ NodeHearsState sender bytes.now held after result ⌝) }

@@ -70,12 +70,7 @@ fn tell_in(kept: &KeptNode, chapter: &mut Chapter, is_quiet: bool) -> Result<Vec
 
 /// Puts as many of the bytes that tell how far the node has come into the room as it takes, and tells how many there
 /// are. If the result isn't 0, nothing has changed.
-pub fn tell_state(
-    held: &mut HeldNode,
-    is_quiet: u32,
-    room: &mut [u8],
-    length: &mut usize,
-) -> u32
+pub fn tell_state(held: &mut HeldNode, is_quiet: u32, room: &mut [u8], length: &mut usize) -> u32
     ensures { NodeTellsState is_quiet held.old held.new result room.old room.new length.old length.new }
 {
     let Some(chapter) = &mut held.chapter else {
@@ -97,13 +92,7 @@ pub fn is_over(held: &mut HeldNode) -> u32
     ensures told { TellsOver held.old.chapter result }
 {
     match &held.chapter {
-        Some(chapter) => {
-            if chapter.is_over() {
-                1
-            } else {
-                0
-            }
-        }
+        Some(chapter) => { if chapter.is_over() { 1 } else { 0 } }
         None => 0,
     }
 }

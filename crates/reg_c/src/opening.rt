@@ -67,11 +67,13 @@ pub fn open(held: &mut HeldNode, text: &[u8], durable: u64) -> u32
 {
     let alloc = *held.bytes.allocator();
     match begin(alloc, text, durable) {
-        Ok(Begun {
-            node,
-            chapter,
-            whole,
-        }) => {
+        Ok(
+            Begun {
+                node,
+                chapter,
+                whole,
+            },
+        ) => {
             *held = HeldNode {
                 node,
                 bytes: Vec::new(alloc),

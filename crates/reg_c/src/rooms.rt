@@ -29,7 +29,11 @@ pub struct RoomRow {
 fn given(number: u64) -> Option<u64>
     ensures { result ≡ given_by number }
 {
-    if number == u64::MAX { None } else { Some(number) }
+    if number == u64::MAX {
+        None
+    } else {
+        Some(number)
+    }
 }
 
 /// Why there is no room, as a number, and the numbers that there can be.

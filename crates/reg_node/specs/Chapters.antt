@@ -7,8 +7,8 @@ use Rattle.reg_node.specs.declared.chapters.ToldFault.{ToldFault}
 use Rattle.reg_node.specs.declared.chapters.ToldFault.TheVariants.{NoProcess, NoState, OutOfMemory}
 
 -- How far a process has come: whether it calls nothing more in this chapter and has no operation that goes on, whether
--- all its frames are acknowledged, how many bodies it has queued for each other process, and how many it has accepted of
--- each process.
+-- all its frames are acknowledged, how many bodies it has queued for each other process, and how many it has accepted
+-- of each process.
 pub record Standing : Type 0 where
   pub is_quiet : Bool
   pub is_at_rest : Bool
@@ -58,7 +58,8 @@ pub record HasAccepted (told : Tale) (process of count : ℕ) : Type 0 where
   pub there : slice_get told process ≡ Some (Some standing)
   pub is : slice_get standing.accepted of ≡ Some count
 
--- it told that it is quiet and at rest, and each other told that it accepted as many bodies of it as it told to have put
+-- it told that it is quiet and at rest, and each other told that it accepted as many bodies of it as it told to have
+-- put
 pub record IsDone (told : Tale) (process : ℕ) : Type 0 where
   pub standing : Standing
   pub there : slice_get told process ≡ Some (Some standing)
@@ -72,8 +73,8 @@ IsOver told = (p : ℕ) → p < length told → IsDone told p
 
 -- What a process tells
 
--- This is its state by what it knows of the others: of each how many bodies it accepted, and the most that it queued for
--- any.
+-- This is its state by what it knows of the others: of each how many bodies it accepted, and the most that it queued
+-- for any.
 pub record IsStanding (s : State) (is_quiet : Bool) (standing : Standing) : Type 0 where
   pub quiet : standing.is_quiet ≡ is_quiet
   pub rest : standing.is_at_rest ≡ (pending_of s.peers == 0)

@@ -8,8 +8,8 @@ use Rattle.reg_node.specs.declared.rooms.NoRoom.TheVariants.{NoBeginning, BadOpe
 use Rattle.reg_node.specs.declared.rooms.TheConstants.{USUAL_ENTRIES, USUAL_OPERATIONS}
 
 -- The entries that an operation which is cast brings about in the logs of all, where no message is lost: its call; each
--- other process takes the cast, and all but the sender of an acknowledgement take that; and each of these messages has a
--- count, which is taken too.
+-- other process takes the cast, and all but the sender of an acknowledgement take that; and each of these messages has
+-- a count, which is taken too.
 abbrev pub cost : ℕ → ℕ
 cost processes = 1 + 2 * (processes * (processes - 1))
 

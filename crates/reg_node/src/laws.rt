@@ -1,4 +1,5 @@
-//! Laws of nodes, of their logs, of chapters, and of records as text. Each is a function that does nothing: its contract is the law.
+//! Laws of nodes, of their logs, of chapters, and of records as text. Each is a function that does nothing: its
+//! contract is the law.
 ghost use Rattle.std.specs.Prelude.{ℕ, ◌≡◌, ◌≢◌, ◌+◌, ◌<◌, ◌≤◌, List, Some, slice_get, take, ◌++◌};
 ghost use Rattle.reg_base.specs.declared.memory.Op.{Op};
 ghost use Rattle.reg_front.specs.Fronts.{KeepsLaws};
