@@ -1,12 +1,12 @@
-//! The hold-back queue: an ordered map from stamp to operation.
+//! The hold-back queue: casts in the order of their stamps.
 ghost use Rattle.std.specs.Prelude.{◌≡◌, ◌<◌, ◌≤◌, [], length, replicate, slice_index, IfOk, IfSome, IfNone, MatchResult, MatchOption, if◌then◌else◌, is_ok, option_map, Some, None, IfErr, IsTrue, false};
 ghost use Rattle.reg_base.specs.declared.limits.TheConstants.{MOST_PROCESSES};
 ghost use Rattle.reg_base.specs.Order.{Rising, is_clear as is_clear_by};
 ghost use Rattle.reg_holdback.specs.Waiting.{cast_of, casts_of, ready_of, without_first, with_cast, received, receive_fault, refusal_of, IsLatestOwn, seen_of, IsReady, NoneClear};
 
+use crate::held::HeldCasts;
 use reg_base::{Delivered, Op, Shape, Stamp};
 use std::alloc::{AllocError, Allocator, Global};
-use std::collections::BTreeMap;
 use std::marker::Model;
 use thiserror::Error;
 
@@ -30,7 +30,7 @@ pub enum HoldFault {
 pub struct Holdback<A: Allocator + Copy = Global> {
     me: u8,
     seen: Vec<u64, A>,
-    held: BTreeMap<Stamp, Op, A>,
+    held: HeldCasts<A>,
     /// A process that was last found not to have passed a stamp. It is looked at first, and relied on for nothing.
     behind: u8,
 }
@@ -42,9 +42,9 @@ impl<A: Allocator + Copy> Model for Holdback<A> {
 
     ghost Value = { Waiting };
 
-    ghost view = { λ h. record { me = h.me; seen = h.seen.items; held = casts_of h.held.entries } };
+    ghost view = { λ h. record { me = h.me; seen = h.seen.items; held = casts_of h.held } };
 
-    ghost invariant = { λ h. InRange (record { me = h.me; seen = h.seen.items; held = casts_of h.held.entries }) };
+    ghost invariant = { λ h. InRange (record { me = h.me; seen = h.seen.items; held = casts_of h.held }) };
 }
 
 /// Whether one of the other processes is not known to have passed a stamp.
@@ -79,21 +79,6 @@ fn is_clear(seen: &[u64], me: u8, stamp: Stamp, behind: &mut u8) -> bool
     true
 }
 
-/// The casts of a map, in its order.
-fn casts<A: Allocator + Copy, B: Allocator + Copy>(
-    held: &BTreeMap<Stamp, Op, A>,
-    alloc: B,
-) -> Result<Vec<Delivered, B>, AllocError>
-    ensures { IfOk result (λ v. v.items ≡ casts_of held.now.entries) }
-{
-    held.iter()
-        .map(|(stamp, op)| Delivered {
-            stamp: *stamp,
-            op: *op,
-        })
-        .collect(alloc)
-}
-
 impl<A: Allocator + Copy> Holdback<A> {
     /// A queue that holds nothing and has heard of no process. The own process has to be one of the shape.
     pub fn new(alloc: A, me: u8, shape: Shape) -> Result<Holdback<A>, AllocError>
@@ -104,7 +89,7 @@ impl<A: Allocator + Copy> Holdback<A> {
         Ok(Holdback {
             me,
             seen,
-            held: BTreeMap::new(alloc),
+            held: HeldCasts::new(alloc),
             behind: 0,
         })
     }
@@ -163,10 +148,7 @@ impl<A: Allocator + Copy> Holdback<A> {
         ensures after { MatchOption result (self.new ≡ self.old) (λ _. self.new ≡ without_first self.old) }
         ensures rising { Rising self.old.held }
     {
-        if self.held.len() == 0 {
-            return None;
-        }
-        let (&stamp, _) = self.held.first_key_value()?;
+        let stamp = self.held.first()?;
         if !is_clear(&self.seen, self.me, stamp, &mut self.behind) {
             return None;
         }
@@ -184,7 +166,7 @@ impl<A: Allocator + Copy> Holdback<A> {
     pub fn held<B: Allocator + Copy>(&self, alloc: B) -> Result<Vec<Delivered, B>, AllocError>
         ensures { IfOk result (λ v. v.items ≡ self.now.held) }
     {
-        casts(&self.held, alloc)
+        self.held.list(alloc)
     }
 
     /// The time of the last body from another process, 0 where there was none. None for the process itself and out of
