@@ -213,6 +213,34 @@ static void write_and_read(struct written *writer, struct written *reader) {
     }
 }
 
+/* A chapter of two processes, as the first one sees it: what it tells, and states of the other one, by hand. */
+static void chapters(struct written *it) {
+    struct tellwydar_log log = of_process(0);
+    uint8_t room[32], told[25] = {3}, over[25] = {3};
+    size_t length = 0;
+    over[16] = 1; /* it accepted one body, and the first one put none */
+    expect("a node", tellwydar_node_new(&it->node) == 0 && begun(&log, "x", it) == 0);
+    expect("none yet", tellwydar_node_tell_state(it->node, 1, room, sizeof room, &length) == TELLWYDAR_CLOSED &&
+                           tellwydar_node_is_over(it->node) == 0);
+    expect("opened", reopened(it, it->length, 0) == 0 && tellwydar_node_is_over(it->node) == 0);
+    expect("it tells", tellwydar_node_tell_state(it->node, 1, room, sizeof room, &length) == 0 &&
+                           length == sizeof told && memcmp(room, told, sizeof told) == 0);
+    expect("no state", tellwydar_node_hear_state(it->node, 1, told, 24) == TELLWYDAR_NO_STATE);
+    expect("no process", tellwydar_node_hear_state(it->node, 2, told, sizeof told) == TELLWYDAR_NO_PROCESS);
+    expect("of one no", tellwydar_node_is_over(it->node) == 0);
+    expect("of both", tellwydar_node_hear_state(it->node, 1, told, sizeof told) == 0 &&
+                          tellwydar_node_is_over(it->node) == 1);
+    expect("the later one", tellwydar_node_hear_state(it->node, 1, over, sizeof over) == 0 &&
+                                tellwydar_node_is_over(it->node) == 0);
+    tellwydar_node_free(it->node);
+    struct tellwydar_chapter_room found;
+    expect("the usual room", tellwydar_room(3, 2, UINT64_MAX, UINT64_MAX, &found) == 0);
+    expect("as worked by hand", found.operations == 65000 && found.total == 786432 && found.entries == 262144 &&
+                                    found.ahead == 6721);
+    expect("too few", tellwydar_room(3, 2, UINT64_MAX, 38, &found) == TELLWYDAR_BAD_ENTRIES && found.least == 39 &&
+                          found.most == 1048537);
+}
+
 int main(void) {
     struct written writer = {.node = NULL}, other = {.node = NULL};
     expect("a handle", tellwydar_node_new(&writer.node) == 0 && writer.node != NULL);
@@ -226,6 +254,7 @@ int main(void) {
     tellwydar_node_free(writer.node);
     other_node(&other);
     write_and_read(&writer, &other);
+    chapters(&other);
     printf("%d passed, %d failed\n", passed, failed);
     return failed != 0;
 }
