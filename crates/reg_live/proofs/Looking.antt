@@ -6,8 +6,9 @@ use Rattle.std.proofs.lemmas.List.{length-set}
 use Rattle.std.proofs.lemmas.Option.{slice_get_within}
 use Rattle.reg_base.specs.declared.limits.TheConstants.{MOST_PROCESSES}
 use Rattle.reg_checkers.proofs.Places.{get_set_same, get_set_other}
-use Rattle.reg_live.specs.declared.beats.Beat.{Beat}
-use Rattle.reg_live.specs.Beats.{IsLooked, AreLooked, watched, ticks_at}
+use Rattle.reg_links.specs.declared.beats.Beat.{Beat}
+use Rattle.reg_links.specs.Beats.{watched, ticks_at}
+use Rattle.reg_live.specs.Beats.{IsLooked, AreLooked}
 
 -- one of the links makes a tick
 abbrev pub IsCause : (ℕ → Option ℕ) → List Beat → Type 0

@@ -1,5 +1,5 @@
 use Rattle.std.proofs.Common.{rules}
-use Rattle.reg_live.proofs.beats.is_due.Goals as goal
+use Rattle.reg_links.proofs.beats.is_due.Goals as goal
 
 pub returns-in-1 : goal.returns-in-1
 returns-in-1 c = search rules

@@ -1,8 +1,8 @@
 //! When frames are put again.
 ghost use Rattle.std.specs.Prelude.{◌≡◌};
-ghost use Rattle.reg_live.specs.Beats.{is_due, next_look, watched, ticks_at, new_beat};
+ghost use Rattle.reg_links.specs.Beats.{is_due, is_long, new_beat, next_look, ticks_at, watched, woken};
 
-/// What the pacer knows of a link from its looks.
+/// What is known of a link from looks at it, one after another.
 #[derive(Clone, Copy, Debug, PartialEq, Eq)]
 pub struct Beat {
     /// The first frame that wasn't acknowledged at the last look, by its number.
@@ -53,5 +53,21 @@ impl Beat {
         }
         self.silent = next_look(self.silent);
         is_due(self.silent)
+    }
+
+    /// Whether the link is silent for so many looks, 127 or more, that the pauses between ticks don't grow any more.
+    pub fn is_long(&self) -> bool
+        ensures { result ≡ is_long self.now }
+    {
+        self.silent >= 127
+    }
+
+    /// Notes that something came. Where the link was silent for long, counting begins anew with the same frame.
+    pub fn hear(&mut self)
+        ensures { self.new ≡ woken self.old }
+    {
+        if self.is_long() {
+            self.silent = 0;
+        }
     }
 }

@@ -1,5 +1,5 @@
 use Rattle.std.proofs.Common.{rules}
-use Rattle.reg_live.proofs.beats.Beat.look.Goals as goal
+use Rattle.reg_links.proofs.beats.Beat.look.Goals as goal
 
 pub returns-then-mail-clause-beat : goal.returns-then-mail-clause-beat
 returns-then-mail-clause-beat c = search rules
