@@ -37,9 +37,8 @@ impl Beat {
         }
     }
 
-    /// A look at a link on which this frame is the first that isn't acknowledged. `mail` says whether a courier at one
-    /// of its ends has mail that it hasn't taken, so that an answer may be on its way. Tells whether the station is to
-    /// tick.
+    /// A look at a link on which this frame is the first that isn't acknowledged. `mail` says whether something waits
+    /// to be taken at one of its ends, so that an answer may be on its way. Tells whether a tick is to be made.
     pub fn look(&mut self, first: Option<u64>, mail: bool) -> bool
         ensures beat { self.new ≡ watched self.old first mail }
         ensures tick { result ≡ ticks_at self.old first mail }
