@@ -17,3 +17,4 @@ pub mod Fours
 pub mod Chapters
 pub mod Rooms
 pub mod ChapterLaws
+pub mod Peers

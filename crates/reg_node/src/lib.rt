@@ -1,6 +1,7 @@
 //! The deciding part of a node: one process on one machine that outlives crashes by a log. No sockets, files, clocks or
-//! threads: its owner writes the entries down, says how many of them are durable, and carries what is handed out. And
-//! what processes did, as text (`transcripts`).
+//! threads: its owner writes the entries down, says how many of them are durable, carries what is handed out, and has
+//! the node look at its peers, which tells when one that is silent is greeted and when the node ticks. And what
+//! processes did, as text (`transcripts`).
 #![tactic(auto)]
 
 mod chapters;
@@ -10,6 +11,7 @@ mod logged;
 mod meetings;
 mod nodes;
 mod outputs;
+mod peers;
 mod replaying;
 mod rooms;
 mod transcripts;
@@ -20,6 +22,7 @@ pub use logged::LoggedNode;
 pub use meetings::MeetingNode;
 pub use nodes::Node;
 pub use outputs::Output;
+pub use peers::{Look, Peers};
 pub use reg_process::{ProcessFault, Put, Reply, Step};
 pub use reg_records::LogEntry;
 pub use rooms::{NoRoom, Room, room_in};

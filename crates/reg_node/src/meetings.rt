@@ -7,6 +7,7 @@ ghost use Rattle.reg_node.specs.Logs.{first_state};
 ghost use Rattle.reg_node.specs.Meetings.{Hears, HearsNothing, MeetingHandsOut, MeetingHandsOutNothing, MeetingLogs, MeetingLogsNothing, all_heard, heard_at_first};
 ghost use Rattle.reg_node.specs.Nodes.{Lives, Past, marked, past_given, past_logged};
 ghost use Rattle.reg_node.specs.Opening.{IsOpened, IsOpenFault, opened_with};
+ghost use Rattle.reg_node.specs.Peers.{has_heard};
 
 use crate::faults::{HelloFault, MeetingFault, NotLogged, OpenFault};
 use crate::nodes::Node;
@@ -107,6 +108,14 @@ impl<F: FrontEnd, A: Allocator + Copy> MeetingNode<F, A> {
         ensures { result ≡ self.now.lost }
     {
         self.lost
+    }
+
+    /// Whether it has heard from a process.
+    pub fn has_heard(&self, process: u8) -> bool
+        ensures { result ≡ has_heard self.now process }
+    {
+        let process = usize::from(process);
+        process < self.heard.len() && self.heard[process]
     }
 
     /// Whether it has heard from all others.
