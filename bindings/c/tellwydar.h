@@ -18,8 +18,8 @@
 
 #define TELLWYDAR_VERSION "0.1.0"
 
-/* Which functions and numbers there are. 2 adds compare-and-swaps, 3 nodes, 4 the judge of histories, and 6 chapters:
- * all functions and numbers of those before are there, and mean what they did. */
+/* Which functions and numbers there are. 2 adds compare-and-swaps, 3 nodes, 4 the judge of histories, and 6 chapters and
+ * looks at the peers of a node: all functions and numbers of those before are there, and mean what they did. */
 #define TELLWYDAR_ABI 6
 
 #ifdef __cplusplus
@@ -367,8 +367,26 @@ enum {
     TELLWYDAR_NODE_PLACE = 14      /* the line or the entry that the last refusal to open names, else 0 */
 };
 uint64_t tellwydar_node_look(struct tellwydar_node *handle, uint32_t what, uint16_t reg);
-/* What its process knows of another one, as `tellwydar_process_known`. */
+/* What its process knows of another one, as `tellwydar_process_known`, and besides: */
+enum {
+    TELLWYDAR_PEER_HEARD = 4, /* 1 if the node has heard from it */
+    TELLWYDAR_PEER_SILENT = 5 /* 1 if it is silent for 127 looks or more */
+};
 uint64_t tellwydar_node_known(struct tellwydar_node *handle, uint32_t what, uint8_t peer);
+
+/* Looks at another process: do so for each one every few milliseconds. Where looks find that it wasn't heard, or the
+ * same frame to it unacknowledged, something is due after 1, 2, 4, .. 64 looks, and from there on after each 100: a
+ * greeting, where it wasn't heard or is silent for 127 looks or more; and a tick, where a frame to it isn't acknowledged
+ * and it isn't silent for so long. The result has these bits, and is 0 where nothing is due, where there is no other
+ * process of this number, and where no node was opened. */
+enum {
+    TELLWYDAR_GREETS = 1, /* that process is to be told TELLWYDAR_PEER_EXPECTED of it */
+    TELLWYDAR_TICKS = 2
+};
+uint32_t tellwydar_node_watch(struct tellwydar_node *handle, uint8_t peer);
+/* Tells that something came from another process: where it was silent for long, looks are counted anew. The result is 0,
+ * or TELLWYDAR_CLOSED. */
+uint32_t tellwydar_node_came(struct tellwydar_node *handle, uint8_t peer);
 
 /* A cluster that doesn't end runs in chapters, each with logs of its own. Where one is to end, all nodes call nothing
  * more, and tell each other how far they have come until it is over for all: then everybody has accepted all that anybody

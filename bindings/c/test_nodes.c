@@ -143,6 +143,31 @@ static void torn(struct written *it) {
            tellwydar_node_mark_durable(it->node, 3) == 0 && tellwydar_node_hand_out(it->node) == TELLWYDAR_NOTHING_DUE);
 }
 
+/* Of a node that hears nothing of process 1: the looks at which something is due, with what it is. */
+static void looks(struct written *it) {
+    struct tellwydar_log log = of_process(0);
+    expect("a handle with nothing behind it",
+           tellwydar_node_new(&it->node) == 0 && tellwydar_node_came(it->node, 1) == TELLWYDAR_CLOSED &&
+               tellwydar_node_watch(it->node, 1) == 0);
+    expect("a log", begun(&log, "x", it) == 0 && reopened(it, it->length, 0) == 0);
+    for (uint32_t look = 1; look <= 126; look++) {
+        uint32_t due = (look & (look + 1)) == 0 ? TELLWYDAR_GREETS : 0;
+        expect("a look", tellwydar_node_watch(it->node, 1) == due);
+    }
+    expect("not for long", tellwydar_node_known(it->node, TELLWYDAR_PEER_SILENT, 1) == 0);
+    expect("the look 127", tellwydar_node_watch(it->node, 1) == TELLWYDAR_GREETS);
+    expect("for long", tellwydar_node_known(it->node, TELLWYDAR_PEER_SILENT, 1) == 1);
+    expect("something came", tellwydar_node_came(it->node, 1) == 0);
+    expect("not for long again", tellwydar_node_known(it->node, TELLWYDAR_PEER_SILENT, 1) == 0);
+    expect("unheard", tellwydar_node_known(it->node, TELLWYDAR_PEER_HEARD, 1) == 0);
+    expect("heard", tellwydar_node_hear(it->node, 1, 0) == 0 &&
+                        tellwydar_node_known(it->node, TELLWYDAR_PEER_HEARD, 1) == 1);
+    expect("a call", tellwydar_node_call(it->node, TELLWYDAR_WRITE, 0, 5) == 0 && write_down(it) > 0);
+    expect("the frame is seen", tellwydar_node_watch(it->node, 1) == 0);
+    expect("the frame is unacknowledged", tellwydar_node_watch(it->node, 1) == TELLWYDAR_TICKS);
+    tellwydar_node_free(it->node);
+}
+
 /* The other process: it takes the cast, and reads its value once the writer's count and acknowledgement are there. */
 static void other_node(struct written *it) {
     struct tellwydar_log log = of_process(1);
@@ -252,6 +277,7 @@ int main(void) {
     write_ahead(&writer);
     torn(&writer);
     tellwydar_node_free(writer.node);
+    looks(&other);
     other_node(&other);
     write_and_read(&writer, &other);
     chapters(&other);

@@ -10,3 +10,4 @@ pub mod Beginning
 pub mod Nodes
 pub mod NodeChapters
 pub mod RoomRows
+pub mod NodePeers

@@ -23,6 +23,7 @@ use Rattle.reg_node.specs.Logs.{Outgoing, first_state}
 use Rattle.reg_node.specs.Meetings.{Hears, HearsNothing, all_heard, heard_at_first}
 use Rattle.reg_node.specs.Nodes.{marked}
 use Rattle.reg_node.specs.Opening.{IsOpened, IsOpenFault, opened_with}
+use Rattle.reg_node.specs.Peers.{first_beats}
 use Rattle.reg_commands.specs.Lent.{filled}
 use Rattle.reg_c.specs.declared.nodes.HeldNode.{HeldNode}
 use Rattle.reg_c.specs.declared.nodes.KeptNode.{KeptNode}
@@ -39,7 +40,7 @@ use Rattle.reg_c.specs.Worlds.{reply_place, reply_value, seen}
 
 -- what is held at first: no node, no bytes, and nothing that was handed out
 abbrev pub IsNothing : HeldNode → Type 0
-IsNothing h = (h.node ≡ Closed) × (h.bytes.items ≡ []) × (h.output ≡ None) × (h.chapter ≡ None) × (h.whole ≡ 0) × (h.place ≡ 0)
+IsNothing h = (h.node ≡ Closed) × (h.bytes.items ≡ []) × (h.output ≡ None) × (h.chapter ≡ None) × (h.peers ≡ None) × (h.whole ≡ 0) × (h.place ≡ 0)
 
 -- Opening
 
@@ -69,8 +70,8 @@ pub record IsReadAs (text : List ℕ) (durable : ℕ) (j : Journal) : Type 0 whe
   pub spelled : SpellsLog text j tail
   pub enough : durable ≤ length j.entries
 
--- a node goes on after the log that the text is, of which this many bytes are the log; no bytes of a step are held, and
--- nothing was handed out
+-- a node goes on after the log that the text is, of which this many bytes are the log; no bytes of a step are held,
+-- nothing was handed out, and no peer was heard
 pub record OpensNode (text : List ℕ) (durable : ℕ) (h : HeldNode) : Type 0 where
   pub journal : Journal
   pub read : IsReadAs text durable journal
@@ -79,6 +80,7 @@ pub record OpensNode (text : List ℕ) (durable : ℕ) (h : HeldNode) : Type 0 w
   pub bytes : h.bytes.items ≡ []
   pub output : h.output ≡ None
   pub chapter : h.chapter ≡ Some (first_chapter journal)
+  pub peers : h.peers ≡ Some (first_beats journal.shape.processes)
 
 -- no log is read, for this fault
 pub record IsUnread (text : List ℕ) (durable code place : ℕ) : Type 0 where

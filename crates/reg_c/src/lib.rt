@@ -15,6 +15,7 @@ pub mod node_chapters;
 mod node_codes;
 mod node_handles;
 pub mod node_parts;
+pub mod node_peers;
 pub mod nodes;
 pub mod opening;
 mod parts;
@@ -37,10 +38,11 @@ pub use judging::{
     tellwydar_check_serial_expecting,
 };
 pub use node_handles::{
-    tellwydar_node_bytes, tellwydar_node_call, tellwydar_node_close,
+    tellwydar_node_bytes, tellwydar_node_call, tellwydar_node_came, tellwydar_node_close,
     tellwydar_node_compare_and_swap, tellwydar_node_frames, tellwydar_node_hand_out,
     tellwydar_node_hear, tellwydar_node_known, tellwydar_node_look, tellwydar_node_mark_durable,
     tellwydar_node_new, tellwydar_node_open, tellwydar_node_take, tellwydar_node_tick,
+    tellwydar_node_watch,
 };
 pub use process_handles::{
     tellwydar_process_call, tellwydar_process_close, tellwydar_process_compare_and_swap,

@@ -8,10 +8,12 @@ ghost use Rattle.reg_c.specs.declared.nodes.HeldNode.{HeldNode};
 ghost use Rattle.reg_c.specs.declared.nodes.KeptNode.{KeptNode};
 ghost use Rattle.reg_c.specs.contracts.nodes.HeldNode.{the_row};
 ghost use Rattle.reg_c.specs.Events.{compare_and_swap_of, op_of, refusal_code};
-ghost use Rattle.reg_c.specs.Nodes.{IsNothing, NodeCalls, NodeHands, NodeHears, NodeMarks, NodeSteps, NodeTakes, Opens, TellsBytes, frames_handed, node_number, node_state_in};
-ghost use Rattle.reg_c.specs.Processes.{TellsFrames, TellsKnown};
+ghost use Rattle.reg_c.specs.Nodes.{IsNothing, NodeCalls, NodeHands, NodeHears, NodeMarks, NodeSteps, NodeTakes, Opens, TellsBytes, frames_handed, node_number};
+ghost use Rattle.reg_c.specs.NodePeers.{CameFrom, NodeTells, NodeWatches};
+ghost use Rattle.reg_c.specs.Processes.{TellsFrames};
 
-use crate::node_parts::{known, look};
+use crate::node_parts::look;
+use crate::node_peers::{came, known, watch};
 use crate::nodes::{
     HeldNode, bytes, call, close, compare_and_swap, frames, hand_out, hear, mark_durable, new,
     take, tick,
@@ -171,14 +173,35 @@ pub unsafe extern "C" fn tellwydar_node_look(handle: *mut u8, what: u32, registe
     look(&mut *(handle as *mut HeldNode), what, register)
 }
 
-/// One number of what the process of the node behind the handle knows of another one, as the number `what` says.
+/// One number of what the node behind the handle knows of a peer, as the number `what` says.
 #[unsafe(no_mangle)]
 pub unsafe extern "C" fn tellwydar_node_known(handle: *mut u8, what: u32, peer: u8) -> u64
     ghost held: { HeldNode }
     requires* { sem 𝓛 (lies_at the_row full_share handle held) }
-    ensures* { ∃ₛ (λ (after : HeldNode). sem 𝓛 (lies_at the_row full_share handle after) ∗ ⌜ (after ≡ held) × TellsKnown (node_state_in held.node) what peer result ⌝) }
+    ensures* { ∃ₛ (λ (after : HeldNode). sem 𝓛 (lies_at the_row full_share handle after) ∗ ⌜ (after ≡ held) × NodeTells held what peer result ⌝) }
 {
     known(&mut *(handle as *mut HeldNode), what, peer)
+}
+
+/// Has the node behind the handle look at a peer, and tells what is due: 1 where the peer is to be greeted, and 2 where
+/// the node is to tick.
+#[unsafe(no_mangle)]
+pub unsafe extern "C" fn tellwydar_node_watch(handle: *mut u8, peer: u8) -> u32
+    ghost held: { HeldNode }
+    requires* { sem 𝓛 (lies_at the_row full_share handle held) }
+    ensures* { ∃ₛ (λ (after : HeldNode). sem 𝓛 (lies_at the_row full_share handle after) ∗ ⌜ NodeWatches peer held after result ⌝) }
+{
+    watch(&mut *(handle as *mut HeldNode), peer)
+}
+
+/// Tells the node behind the handle that something came from a peer.
+#[unsafe(no_mangle)]
+pub unsafe extern "C" fn tellwydar_node_came(handle: *mut u8, peer: u8) -> u32
+    ghost held: { HeldNode }
+    requires* { sem 𝓛 (lies_at the_row full_share handle held) }
+    ensures* { ∃ₛ (λ (after : HeldNode). sem 𝓛 (lies_at the_row full_share handle after) ∗ ⌜ CameFrom peer held after result ⌝) }
+{
+    came(&mut *(handle as *mut HeldNode), peer)
 }
 
 /// Gives back the node behind the handle. The handle's own block is of `malloc`, and the caller's to free.
@@ -186,7 +209,7 @@ pub unsafe extern "C" fn tellwydar_node_known(handle: *mut u8, what: u32, peer: 
 pub unsafe extern "C" fn tellwydar_node_close(handle: *mut u8)
     ghost held: { HeldNode }
     requires* { sem 𝓛 (lies_at the_row full_share handle held) }
-    ensures* { ∃ₛ (λ (after : HeldNode). sem 𝓛 (lies_at the_row full_share handle after) ∗ ⌜ (after.node ≡ KeptNode.Closed) × (after.output ≡ None) × (after.chapter ≡ None) × (vec_capacity after.bytes ≡ 0) ⌝) }
+    ensures* { ∃ₛ (λ (after : HeldNode). sem 𝓛 (lies_at the_row full_share handle after) ∗ ⌜ (after.node ≡ KeptNode.Closed) × (after.output ≡ None) × (after.chapter ≡ None) × (after.peers ≡ None) × (vec_capacity after.bytes ≡ 0) ⌝) }
 {
     close(&mut *(handle as *mut HeldNode))
 }

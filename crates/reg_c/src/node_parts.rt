@@ -1,19 +1,17 @@
 //! What a caller sees of a node that it holds.
-ghost use Rattle.std.specs.Prelude.{◌≡◌, None, MatchOption};
-ghost use Rattle.reg_process.specs.Known.{IsNoPeer, known_of};
-ghost use Rattle.reg_process.specs.Process.{peer_at};
+ghost use Rattle.std.specs.Prelude.{◌≡◌};
 ghost use Rattle.reg_c.specs.Nodes.{flag, logged_in, node_look_of, node_looked, node_number, node_part, node_state_in, reply_handed};
-ghost use Rattle.reg_c.specs.Processes.{TellsKnown, state_part};
+ghost use Rattle.reg_c.specs.Processes.{state_part};
 ghost use Rattle.reg_c.specs.Worlds.{seen};
 
 use crate::choosing::of_kept;
 use crate::events::value_of_answer;
 use crate::nodes::{HeldNode, KeptNode};
-use crate::parts::{ProcessLook, StatePart, of_known, peer_look, process_look};
+use crate::parts::{ProcessLook, StatePart, process_look};
 use crate::processes;
 use reg_front::FrontEnd;
 use reg_node::{LoggedNode, Output};
-use reg_process::{Known, Reply};
+use reg_process::Reply;
 
 /// What a node has beside its process.
 #[derive(Clone, Copy)]
@@ -59,7 +57,7 @@ pub fn node_look(what: u32) -> Option<NodeLook>
     Some(look)
 }
 
-fn flag_of(is: bool) -> u64
+pub(crate) fn flag_of(is: bool) -> u64
     ensures { result ≡ flag is }
 {
     if is { 1 } else { 0 }
@@ -143,27 +141,6 @@ pub fn look(held: &mut HeldNode, what: u32, register: u16) -> u64
 {
     match node_look(what) {
         Some(look) => number(held, look, register),
-        None => 0,
-    }
-}
-
-/// What the process of the node that is held knows of another one.
-fn known_in(kept: &KeptNode, peer: u8) -> Option<Known>
-    ensures { MatchOption (node_state_in kept.now) (result ≡ None) (λ s. MatchOption result (IsNoPeer s peer) (λ k. k ≡ known_of (peer_at s peer))) }
-{
-    of_kept!(kept, KeptNode, node => node.meeting().node().process().known(peer), None)
-}
-
-/// One number of what the process of the node knows of another one, as the number `what` says.
-pub fn known(held: &mut HeldNode, what: u32, peer: u8) -> u64
-    ensures same { held.new ≡ held.old }
-    ensures value { TellsKnown (node_state_in held.old.node) what peer result }
-{
-    let Some(part) = peer_look(what) else {
-        return 0;
-    };
-    match known_in(&held.node, peer) {
-        Some(known) => of_known(part, &known),
         None => 0,
     }
 }

@@ -3,13 +3,14 @@ ghost use Rattle.std.specs.Prelude.{◌≡◌, ◌<◌, ◌⊎◌, length, IfErr
 ghost use Rattle.reg_front.specs.Table.{start_of};
 ghost use Rattle.reg_node.specs.LogTexts.{Journal, log_crc, log_text};
 ghost use Rattle.reg_node.specs.Opening.{IsOpenFault};
+ghost use Rattle.reg_node.specs.Peers.{first_beats};
 ghost use Rattle.reg_c.specs.Nodes.{IsReadAs, IsUnopened, IsUnread, KeptAfter, Opens, first_chapter};
 
 use crate::choosing::kept_under;
 use crate::node_codes::{LogRefusal, refusal_of_log, refusal_of_opening};
 use crate::nodes::{HeldNode, KeptNode};
 use reg_front::Front;
-use reg_node::{Chapter, LogFault, LoggedNode, OpenFault, ReadLog, read_log};
+use reg_node::{Chapter, LogFault, LoggedNode, OpenFault, Peers, ReadLog, read_log};
 use std::alloc::Global;
 
 /// A node that goes on after the log that was read, under the front end that it names.
@@ -31,29 +32,34 @@ fn read(alloc: Global, text: &[u8], durable: u64) -> Result<ReadLog, LogRefusal>
     }
 }
 
-/// A node that goes on after a text, in a chapter of which nobody told anything, and how many bytes of the text are the
-/// log.
+/// A node that goes on after a text, in a chapter of which nobody told anything, with peers of which none was heard, and
+/// how many bytes of the text are the log.
 #[derive(Drop)]
 struct Begun {
     node: KeptNode,
     chapter: Chapter,
+    peers: Peers,
     whole: u64,
 }
 
 fn begin(alloc: Global, text: &[u8], durable: u64) -> Result<Begun, LogRefusal>
-    ensures begun { IfOk result (λ b. (j : Journal) × IsReadAs text.now durable j × KeptAfter j b.node × (b.chapter ≡ first_chapter j) × (b.whole ≡ length (log_text j))) }
+    ensures begun { IfOk result (λ b. (j : Journal) × IsReadAs text.now durable j × KeptAfter j b.node × (b.chapter ≡ first_chapter j) × (b.peers ≡ first_beats j.shape.processes) × (b.whole ≡ length (log_text j))) }
     ensures why { IfErr result (λ w. (0 < w.code) × (IsUnread text.now durable w.code w.place ⊎ IsUnopened text.now durable w.code w.place)) }
 {
     let read = read(alloc, text, durable)?;
     let whole = read.whole;
-    let processes = read.log.shape.processes() as u8;
-    let Ok(chapter) = Chapter::new(alloc, processes, read.log.id.process) else {
+    let processes = read.log.shape.processes();
+    let Ok(chapter) = Chapter::new(alloc, processes as u8, read.log.id.process) else {
+        return Err(refusal_of_log(LogFault::OutOfMemory));
+    };
+    let Ok(peers) = Peers::new(alloc, processes) else {
         return Err(refusal_of_log(LogFault::OutOfMemory));
     };
     match keep(alloc, read) {
         Ok(node) => Ok(Begun {
             node,
             chapter,
+            peers,
             whole,
         }),
         Err(fault) => Err(refusal_of_opening(fault)),
@@ -71,6 +77,7 @@ pub fn open(held: &mut HeldNode, text: &[u8], durable: u64) -> u32
             Begun {
                 node,
                 chapter,
+                peers,
                 whole,
             },
         ) => {
@@ -79,6 +86,7 @@ pub fn open(held: &mut HeldNode, text: &[u8], durable: u64) -> u32
                 bytes: Vec::new(alloc),
                 output: None,
                 chapter: Some(chapter),
+                peers: Some(peers),
                 whole,
                 place: 0,
             };

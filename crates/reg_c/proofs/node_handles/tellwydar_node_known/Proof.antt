@@ -31,15 +31,14 @@ use denote.Triple.Entry.{on_entry}
 use denote.Triple.Spec.{triple_of}
 use denote.Triple.Table.{framed}
 use denote.Triple.Walked.{Stays, walk_of, says, stay_dropped, Goes-dropped, ends_at}
-use Rattle.reg_c.specs.Nodes.{node_state_in}
-use Rattle.reg_c.specs.Processes.{TellsKnown}
+use Rattle.reg_c.specs.NodePeers.{NodeTells}
 use Rattle.reg_c.specs.declared.nodes.HeldNode.{HeldNode}
 use Rattle.reg_c.specs.contracts.nodes.HeldNode.{the_row as R}
 use Rattle.reg_c.specs.contracts.node_handles.tellwydar_node_known as f
 use Rattle.reg_c.proofs.node_handles.tellwydar_node_known.Statement.{statement}
 use Rattle.reg_c.proofs.node_handles.tellwydar_node_known.Code as code
-use Rattle.reg_c.specs.contracts.node_parts.known as g
-use Rattle.reg_c.proofs.node_parts.known.Met.{met}
+use Rattle.reg_c.specs.contracts.node_peers.known as g
+use Rattle.reg_c.proofs.node_peers.known.Met.{met}
 
 abbrev stayed : Stays f.ended.signature.params f.ended.kept
 stayed = (stay_dropped _ yes, (stay_dropped _ yes, (stay_dropped _ yes, tt)))
@@ -65,10 +64,10 @@ tellwydar_node_known_spec 𝓤 𝓛 𝓜 𝓡 wired =
     let z : G.Ghost = (((κ, tt), (full_share, tt), tt, (record { ref_ptr = (b, o); ghost_name = γ; now = held }, (a.1.0, (a.1.1.0, tt))), (vptr b o ∷ [], (uint_vals w32 a.1.0, (uint_vals w8 a.1.1.0, tt)))), tt) in
     nothing ! $ owned ! u8 (Is u8) (uint_Makes 𝓛 w8) a.1.1.0 _ (refl, are.1.1.0.1) $ fjoin ! $ owned ! u32 (Is u32) (uint_Makes 𝓛 w32) a.1.0 _ (refl, are.1.0.1) $ fjoin ! $ move ! (1 ∷ 0 ∷ []) $ fjoin ! $ nothing ! $ move ! (3 ∷ 0 ∷ []) $ join ! $ join ! $
     nothing ! $ move ! (1 ∷ 0 ∷ []) $ use2 𝓛 (raw (G.pre z)) (id⊢ 𝓤 _) $
-    calls_at ! (framed 𝓤 𝓛.H 𝓜 𝓣) G (met 𝓤 𝓛 𝓜 𝓡 (code.calls-reg_c::node_parts::known 𝓡.env wired)) z
+    calls_at ! (framed 𝓤 𝓛.H 𝓜 𝓣) G (met 𝓤 𝓛 𝓜 𝓡 (code.calls-reg_c::node_peers::known 𝓡.env wired)) z
     (and_then ! (get ! refl) (and_then ! (get ! refl) (and_then ! (get ! refl) (no_more !)))) (λ v.
     use1 𝓛 (later (some (λ (r : ℕ). ((‵ (flft κ full_share) ⊛ ‵ ftrue) ⊛ ‵ (u64.own_val r (v ∷ []))) ⊛
-    some (λ (ws : HeldNode × (Unit {0} × (Unit {0} × Unit {0}))). ‵ (lasts g.ended z.0.0 z.0.3 ws) ⊛ (raw (fact 𝓤 (ws.0 ≡ held)) ⊛ raw (fact 𝓤 (TellsKnown (node_state_in held.node) x0 x1 r))))))) (id⊢ 𝓤 _) $
+    some (λ (ws : HeldNode × (Unit {0} × (Unit {0} × Unit {0}))). ‵ (lasts g.ended z.0.0 z.0.3 ws) ⊛ (raw (fact 𝓤 (ws.0 ≡ held)) ⊛ raw (fact 𝓤 (NodeTells held x0 x1 r))))))) (id⊢ 𝓤 _) $
     await ! tt $ pick ! (λ r. split ! $ split ! $ split ! $ lft_end ! tt $
     -- [the lifetime is over; nothing; the result; what the call ensures; what the lender keeps; the locals]
     move ! (3 ∷ []) $ pick ! (λ ws. split ! $ move ! (1 ∷ []) $ split ! $ heard ! _ (λ f0. heard ! _ (λ f1. fsplit ! $ fsplit ! $
@@ -79,4 +78,4 @@ tellwydar_node_known_spec 𝓤 𝓛 𝓜 𝓡 wired =
     returns ! (look_at ! 0 refl) $ free_all ! refl $ keep ! (0 ∷ 1 ∷ []) $
     suffices ! _ (ends_at 𝓛 f.ended stayed c (y (block_ptr b o)) v r (tt, (tt, (tt, tt))) (tt, (tt, (tt, tt)))) $
     nothing ! $ nothing ! $ join ! $ nothing ! $ join ! $ nothing ! $ join ! $ nothing ! $ group ! 3 $ frame ! $
-    show ! (λ (h : HeldNode). sep 𝓤 (sem 𝓛 (lies_at R full_share (block_ptr b o) h)) (fact 𝓤 ((h ≡ held) × (TellsKnown (node_state_in held.node) x0 x1 r)))) ws.0 $ says ! (f0, f1) $ done !)))))))))))
+    show ! (λ (h : HeldNode). sep 𝓤 (sem 𝓛 (lies_at R full_share (block_ptr b o) h)) (fact 𝓤 ((h ≡ held) × (NodeTells held x0 x1 r)))) ws.0 $ says ! (f0, f1) $ done !)))))))))))
