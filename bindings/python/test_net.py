@@ -23,7 +23,6 @@ from tellwydar.net import (
     Busy, Closed, Keys, LogFault, LossyRoad, Node, NodeFailed, Paused, Refused, TimedOut, core, judge, road,
 )
 from tellwydar.net.aio import AsyncNode
-from tellwydar.net.beats import Beat
 from tellwydar.net.datagrams import DatagramRoad
 from tellwydar.net.logfile import Head, LogFile, open_log
 from tellwydar.net.messages import FRAMES, GREETING, STATE, Greeting, Post, start_of
@@ -340,30 +339,6 @@ class Messages(unittest.TestCase):
         for message in (b"", start[:-2], b"TW\2" + start[3:], start):
             self.assertIsNone(self.post.opened(None, message))
         self.assertEqual(self.said[-1], "somebody: a message for process 0; dropped")
-
-
-class Beats(unittest.TestCase):
-    def due(self, beat, first, looks=500, is_long=None):
-        """The looks at which something is due, of those that are said."""
-        return [it for it in range(1, looks + 1) if beat.is_due(first) and is_long in (None, beat.is_long_silent())]
-
-    def test_pauses_grow(self):
-        beat = Beat()
-        self.assertEqual(self.due(beat, None), [1, 3, 7, 15, 31, 63, 127, 227, 327, 427])
-        beat.is_heard = True
-        self.assertEqual(self.due(beat, None), [])
-        for first in (7, 8):
-            self.assertEqual(self.due(beat, first), [2, 4, 8, 16, 32, 64, 128, 228, 328, 428])
-
-    def test_who_was_silent_for_long_is_looked_at_anew_once_something_came(self):
-        beat = Beat()
-        beat.is_heard = True
-        self.assertEqual(self.due(beat, 7, is_long=True), [128, 228, 328, 428])
-        beat.came(5.0)
-        self.assertEqual(beat.came_at, 5.0)
-        self.assertEqual(self.due(beat, 7, 126), [1, 3, 7, 15, 31, 63])
-        beat.came(6.0)  # it isn't silent for long yet
-        self.assertEqual(self.due(beat, 7, 1, is_long=True), [1])
 
 
 class Roads(unittest.TestCase):

@@ -8,7 +8,7 @@ import threading
 import unittest
 
 import tellwydar
-from tellwydar import UNEQUAL, CompareAndSwap, Front, Node, Process, Read, Refused, Swap, Write
+from tellwydar import UNEQUAL, CompareAndSwap, Front, Look, Node, Process, Read, Refused, Swap, Write
 
 SEEDS = int(os.environ.get("TELLWYDAR_SEEDS", "200"))
 NAMES = ["x", "y"]
@@ -34,6 +34,12 @@ def refusal(call, *given):
     except Refused as refused:
         return str(refused)
     return None
+
+
+def looked(node, looks=500):
+    """Of so many looks at process 1, those at which it is to be greeted, and those at which the node is to tick."""
+    made = [(it, node.watch(1)) for it in range(1, looks + 1)]
+    return [it for it, look in made if look.greets], [it for it, look in made if look.ticks]
 
 
 class OneNode(unittest.TestCase):
@@ -94,6 +100,25 @@ class OneNode(unittest.TestCase):
         self.assertEqual(refusal(node.hear, 1, 1), "log lost")
         self.assertTrue(node.is_stopped)
         self.assertEqual([refusal(node.tick), refusal(node.hear, 1, 0)], ["log lost"] * 2)
+
+    def test_pauses_grow_where_a_peer_is_silent(self):
+        node = Node.open(HEAD, 0)
+        self.assertEqual(looked(node), ([1, 3, 7, 15, 31, 63, 127, 227, 327, 427], []))
+        self.assertEqual((node.has_heard(1), node.is_long_silent(1)), (False, True))
+        node.hear(1, 0)
+        self.assertEqual(looked(node), ([], []))
+        self.assertEqual((node.has_heard(1), node.is_long_silent(1)), (True, False))
+        node.call(Write(0, 5))
+        self.assertEqual(looked(node), ([128, 228, 328, 428], [2, 4, 8, 16, 32, 64]))
+        node.came(1)
+        self.assertEqual(looked(node, 126), ([], [1, 3, 7, 15, 31, 63]))
+        node.came(1)  # it isn't silent for long yet
+        self.assertEqual(looked(node, 1), ([1], []))
+        node.take(1, GOT)
+        self.assertEqual(looked(node), ([], []))
+        # Of the own process and of one that isn't there nothing is due.
+        self.assertEqual({node.watch(peer) for peer in (0, 2, 255) for _ in range(500)}, {Look(False, False)})
+        self.assertEqual([node.is_long_silent(peer) for peer in (0, 2)], [False, False])
 
     def test_a_node_has_one_owner(self):
         node = Node.open(HEAD, 0)

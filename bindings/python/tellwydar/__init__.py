@@ -17,8 +17,8 @@ from dataclasses import dataclass
 from typing import Any, Callable, Dict, List, NoReturn, Optional, Sequence, Tuple, Union
 
 __all__ = [
-    "UNEQUAL", "Answered", "Called", "CompareAndSwap", "Fault", "Front", "HistoryRefused", "Judgement", "Known", "Node",
-    "Output", "Process", "Read", "Refused", "Reply", "Row", "Swap", "Told", "Unequal", "World", "Write",
+    "UNEQUAL", "Answered", "Called", "CompareAndSwap", "Fault", "Front", "HistoryRefused", "Judgement", "Known", "Look",
+    "Node", "Output", "Process", "Read", "Refused", "Reply", "Row", "Swap", "Told", "Unequal", "World", "Write",
     "check", "check_points", "check_serial", "judge", "merge", "play", "play_fair", "replay", "verify",
 ]
 
@@ -554,4 +554,4 @@ class Process(_Progress):
 
 
 from .histories import HistoryRefused, Judgement, Row, judge  # noqa: E402 (they stand on what is above)
-from .node import Node, Output  # noqa: E402
+from .node import Look, Node, Output  # noqa: E402

@@ -15,7 +15,7 @@ import ctypes
 import re
 import threading
 from dataclasses import dataclass
-from typing import Any, Callable, List, Optional, Sequence, Tuple, Union
+from typing import Any, Callable, List, NamedTuple, Optional, Sequence, Tuple, Union
 
 from . import (
     _CALLS, _REFUSALS, _ROOM, CompareAndSwap, Front, Known, Op, Refused, Reply, _framed, _library, _Progress, _ranged,
@@ -60,6 +60,8 @@ def _declare() -> None:
         ("frames", u32, [handle, room, size, ctypes.POINTER(size)]),
         ("look", u64, [handle, u32, u16]),
         ("known", u64, [handle, u32, u8]),
+        ("watch", u32, [handle, u8]),
+        ("came", u32, [handle, u8]),
         ("close", None, [handle]),
     ):
         function = getattr(_library, f"tellwydar_node_{word}")
@@ -90,6 +92,13 @@ class Output:
 
     frames: List[Tuple[int, bytes]]
     reply: Optional[Reply]
+
+
+class Look(NamedTuple):
+    """What is due at a look at another process."""
+
+    greets: bool  # that one is to be greeted
+    ticks: bool  # this node is to tick
 
 
 class Node(_Progress):
@@ -236,9 +245,30 @@ class Node(_Progress):
         """Whether it has heard from all others, and so may cast."""
         return self._look(12) != 0
 
+    def _known(self, what: int, peer: int) -> int:
+        return self._asked(_library.tellwydar_node_known, what, _ranged(peer, 8))
+
     def known(self, peer: int) -> Known:
         """What its process knows of another one."""
-        return Known(*(self._asked(_library.tellwydar_node_known, what, _ranged(peer, 8)) for what in range(4)))
+        return Known(*(self._known(what, peer) for what in range(4)))
+
+    def has_heard(self, peer: int) -> bool:
+        """Whether it has heard from a process."""
+        return self._known(4, peer) != 0
+
+    def is_long_silent(self, peer: int) -> bool:
+        """Whether another process is silent for so long, 127 looks or more, that it is only greeted."""
+        return self._known(5, peer) != 0
+
+    def watch(self, peer: int) -> Look:
+        """Looks at another process, as is to be done every few milliseconds. Where it wasn't heard, or doesn't
+        acknowledge a frame, something is due after 1, 2, 4, .. 64 looks, and from there on after each 100."""
+        code = self._asked(_library.tellwydar_node_watch, _ranged(peer, 8))
+        return Look(code & 1 != 0, code & 2 != 0)
+
+    def came(self, peer: int) -> None:
+        """Notes that something came from another process: where it was silent for long, looks are counted anew."""
+        self._told(self._asked(_library.tellwydar_node_came, _ranged(peer, 8)))
 
     def accepted(self, peer: int) -> int:
         """How many bodies it accepted from another process, which that one is to hear when they meet."""

@@ -149,6 +149,8 @@ unsafe extern "C" {
     pub fn tellwydar_room(processes: u32, registers: u32, operations: u64, entries: u64, row: *mut RoomRow) -> u32;
     pub fn tellwydar_node_look(handle: *mut Opaque, what: u32, register: u16) -> u64;
     pub fn tellwydar_node_known(handle: *mut Opaque, what: u32, peer: u8) -> u64;
+    pub fn tellwydar_node_watch(handle: *mut Opaque, peer: u8) -> u32;
+    pub fn tellwydar_node_came(handle: *mut Opaque, peer: u8) -> u32;
     pub fn tellwydar_node_close(handle: *mut Opaque);
     pub fn free(block: *mut Opaque);
 }

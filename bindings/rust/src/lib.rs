@@ -35,7 +35,7 @@ mod worlds;
 pub use checkers::{Fault, check_points, check_serial};
 pub use fronts::{FrontEnd, NoFrontEnd};
 pub use histories::{Call, End, Judgement, Judging, Row, Word, judge, judge_report, judge_rows, judge_with};
-pub use nodes::{LogFault, LogHead, LoggedNode, Output};
+pub use nodes::{LogFault, LogHead, LoggedNode, Look, Output};
 pub use processes::{Frames, Known, Process};
 pub use rooms::{NoRoom, Room, room};
 pub use texts::{Told, check, merge, play, play_fair, replay, verify};

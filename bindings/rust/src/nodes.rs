@@ -57,6 +57,15 @@ impl fmt::Display for LogFault {
 
 impl std::error::Error for LogFault {}
 
+/// What is due at a look at another process.
+#[derive(Clone, Copy, Debug, PartialEq, Eq)]
+pub struct Look {
+    /// That one is to be greeted.
+    pub greets: bool,
+    /// This node is to tick.
+    pub ticks: bool,
+}
+
 /// What goes out of one step.
 #[derive(Clone, Debug)]
 pub struct Output<'a> {
@@ -300,9 +309,32 @@ impl LoggedNode {
 
     /// What its process knows of another one: all 0 where there is no other of this number.
     pub fn known(&self, peer: u8) -> Known {
-        // SAFETY: as in `look`.
-        let known = |what| unsafe { foreign::tellwydar_node_known(self.handle.as_ptr(), what, peer) };
+        let known = |what| self.number_of(peer, what);
         Known { first: known(0), next: known(1), expected: known(2), seen: known(3) }
+    }
+
+    /// Whether it has heard from a process.
+    pub fn has_heard(&self, peer: u8) -> bool {
+        self.number_of(peer, 4) != 0
+    }
+
+    /// Whether another process is silent for so long, 127 looks or more, that it is only greeted.
+    pub fn is_long_silent(&self, peer: u8) -> bool {
+        self.number_of(peer, 5) != 0
+    }
+
+    /// Looks at another process, as is to be done every few milliseconds. Where it wasn't heard, or doesn't acknowledge
+    /// a frame, something is due after 1, 2, 4, .. 64 looks, and from there on after each 100.
+    pub fn watch(&mut self, peer: u8) -> Look {
+        // SAFETY: as in `call`.
+        let code = unsafe { foreign::tellwydar_node_watch(self.handle.as_ptr(), peer) };
+        Look { greets: code & 1 != 0, ticks: code & 2 != 0 }
+    }
+
+    /// Notes that something came from another process: where it was silent for long, looks are counted anew.
+    pub fn came(&mut self, peer: u8) {
+        // SAFETY: as in `call`. (A node that is open takes note.)
+        unsafe { foreign::tellwydar_node_came(self.handle.as_ptr(), peer) };
     }
 
     fn stepped(&mut self, code: u32) -> Result<&[u8], Refused> {
@@ -310,6 +342,11 @@ impl LoggedNode {
         // SAFETY: as in `call`; the pointer and the length are those of one array.
         let count = unsafe { foreign::tellwydar_node_bytes(self.handle.as_ptr(), self.line.as_mut_ptr(), LINE) };
         Ok(&self.line[..count])
+    }
+
+    fn number_of(&self, peer: u8, what: u32) -> u64 {
+        // SAFETY: as in `look`.
+        unsafe { foreign::tellwydar_node_known(self.handle.as_ptr(), what, peer) }
     }
 
     fn look(&self, what: u32, register: u16) -> u64 {

@@ -96,6 +96,36 @@ fn what_goes_out_waits_for_the_log() -> Result<(), Refused> {
     Ok(())
 }
 
+/// Of so many looks at process 1, those at which it is to be greeted, and those at which the node is to tick.
+fn looked(node: &mut LoggedNode, looks: u32) -> (Vec<u32>, Vec<u32>) {
+    let (mut greets, mut ticks) = (vec![], vec![]);
+    for at in 1..=looks {
+        let look = node.watch(1);
+        greets.extend(look.greets.then_some(at));
+        ticks.extend(look.ticks.then_some(at));
+    }
+    (greets, ticks)
+}
+
+#[test]
+fn pauses_grow_where_a_peer_is_silent() -> Result<(), Refused> {
+    let mut node = LoggedNode::open(HEAD.as_bytes(), 0).expect("a log");
+    assert_eq!(looked(&mut node, 500), (vec![1, 3, 7, 15, 31, 63, 127, 227, 327, 427], vec![]));
+    assert_eq!((node.has_heard(1), node.is_long_silent(1)), (false, true));
+    node.hear(1, 0)?;
+    assert_eq!(looked(&mut node, 500), (vec![], vec![]));
+    assert_eq!((node.has_heard(1), node.is_long_silent(1)), (true, false));
+    node.call(WRITE)?;
+    assert_eq!(looked(&mut node, 500), (vec![128, 228, 328, 428], vec![2, 4, 8, 16, 32, 64]));
+    node.came(1);
+    assert_eq!(looked(&mut node, 126), (vec![], vec![1, 3, 7, 15, 31, 63]));
+    node.came(1); // (it isn't silent for long yet)
+    assert_eq!(looked(&mut node, 1), (vec![1], vec![]));
+    node.take(1, &GOT)?;
+    assert_eq!(looked(&mut node, 500), (vec![], vec![]));
+    Ok(())
+}
+
 #[test]
 fn the_other_process_reads_the_value() -> Result<(), Refused> {
     let mut node = LoggedNode::open(&LoggedNode::begin(&head(1))?, 0).expect("a log");

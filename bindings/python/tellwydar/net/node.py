@@ -276,7 +276,7 @@ class Node:
         """How far this node has come, and what it knows of the others."""
         with self._lock:
             self._up()
-            return status_of(self._story, self._peers.beats, time.monotonic())
+            return status_of(self._story, self._peers.came_at, time.monotonic())
 
     def pending(self) -> int:
         """How many frames the others haven't acknowledged."""
@@ -361,7 +361,7 @@ class Node:
             return
         sender, brings, rest = message
         if brings != LATE:
-            self._peers.beats[sender].came(now)
+            self._peers.came(sender, now)
         if brings == FRAMES:
             self._take(sender, rest)
         elif brings == GREETING:

@@ -1,8 +1,7 @@
 """The other processes in one chapter: what was seen of them, and what they are told beside frames."""
-from typing import Dict, Union
+from typing import Dict, Optional, Union
 
 from .. import Refused
-from .beats import Beat
 from .core import NodeFailed
 from .datagrams import DatagramRoad
 from .messages import GREETING, STATE, Greeting, Post, start_of
@@ -16,13 +15,18 @@ class Peers:
     def __init__(self, story: Story, road: Union[Road, DatagramRoad, LossyRoad], complain: Complaints):
         self._story, self._road, self._complain = story, road, complain
         self.post = Post(story.head, complain)
-        self.beats: Dict[int, Beat] = {p: Beat() for p in self.post.starts}
-        for p in self.beats:
+        self.came_at: Dict[int, Optional[float]] = dict.fromkeys(self.post.starts)  # by time.monotonic()
+        for p in self.came_at:
             self._greet(p)
 
+    def came(self, sender: int, now: float) -> None:
+        """Something came from another node."""
+        self.came_at[sender] = now
+        self._story.node.came(sender)
+
     def _greet(self, to: int) -> None:
-        beat = self.beats[to]
-        greeting = Greeting(not beat.is_heard or beat.is_long_silent(), self._story.node.accepted(to))
+        node = self._story.node
+        greeting = Greeting(not node.has_heard(to) or node.is_long_silent(to), node.accepted(to))
         self._road.send(to, self.post.starts[to] + GREETING + greeting.data())
 
     def greeted(self, sender: int, told: bytes) -> None:
@@ -37,7 +41,6 @@ class Peers:
             had = self._story.node.known(sender).next
             why = f"process {sender} accepted {greeting.accepted} bodies, and it has {had}"
             raise NodeFailed(f"the log was lost: {why}") from None
-        self.beats[sender].is_heard = True
         if greeting.wants_one:
             self._greet(sender)
 
@@ -52,13 +55,11 @@ class Peers:
         """What the pacer does for a cluster: whether there is to be a tick, since a link goes without an answer, with
         growing pauses. So are those greeted that weren't heard, or not for long."""
         tick = False
-        for p, beat in self.beats.items():
-            known = self._story.node.known(p)
-            first = None if known.first == known.next else known.first
-            if beat.is_due(first):
-                tick |= first is not None and not beat.is_long_silent()
-                if not beat.is_heard or beat.is_long_silent():
-                    self._greet(p)
+        for p in self.came_at:
+            look = self._story.node.watch(p)
+            tick |= look.ticks
+            if look.greets:
+                self._greet(p)
         return tick
 
     def tell_own(self) -> None:

@@ -2,7 +2,6 @@
 import json
 from typing import Dict, List, NamedTuple, Optional, Tuple
 
-from .beats import Beat
 from .story import Story
 
 
@@ -55,13 +54,14 @@ class Status(NamedTuple):
         return "\n".join([*lines, "# EOF"])
 
 
-def status_of(story: Story, beats: Dict[int, Beat], now: float) -> Status:
-    """The status at this time, by time.monotonic()."""
-    peers = []
-    for process, beat in beats.items():
-        known = story.node.known(process)
-        silent = None if beat.came_at is None else round(now - beat.came_at, 3)
-        peers.append(Peer(process, beat.is_heard, silent, known.next - known.first, beat.is_long_silent()))
+def status_of(story: Story, came_at: Dict[int, Optional[float]], now: float) -> Status:
+    """The status at this time, by time.monotonic(), as are the times at which something came last."""
+    node, peers = story.node, []
+    for process, at in came_at.items():
+        known = node.known(process)
+        silent = None if at is None else round(now - at, 3)
+        waiting = known.next - known.first
+        peers.append(Peer(process, node.has_heard(process), silent, waiting, node.is_long_silent(process)))
     head, called = story.head, story.called_before + story.calls()
     front = head.front.name.lower().replace("_", "-")
-    return Status(head.me, front, head.chapter, called, story.node.logged, story.running, peers)
+    return Status(head.me, front, head.chapter, called, node.logged, story.running, peers)

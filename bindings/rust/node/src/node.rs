@@ -4,7 +4,6 @@
 //! comes in, some messages are taken with one write for all. With `sync` a thread of its own has entries on the disk
 //! (`Disk`). While it writes the node makes no step: it waits on its road, until the disk is done or its caller's time
 //! is up.
-use crate::beats::Beat;
 use crate::complaints::{Complaint, Complaints, Kind};
 use crate::config::{Config, ConfigFault};
 use crate::disk::{Disk, Write};
@@ -46,7 +45,8 @@ pub struct Node<F: Front> {
     complaints: Complaints,
     meeting: Meeting,
     parcels: Parcels,
-    beats: Vec<Beat>,
+    /// When something came from each process in this chapter.
+    came_at: Vec<Option<Instant>>,
     sync: bool,
     look_every: Duration,
     look_at: Instant,
@@ -112,7 +112,7 @@ impl<F: Front> Node<F> {
             road,
             hand,
             complaints: Complaints::default(),
-            beats: Vec::new(),
+            came_at: Vec::new(),
             sync,
             look_every: config.look,
             look_at: Instant::now() + config.look,
@@ -328,7 +328,8 @@ impl<F: Front> Node<F> {
         };
         let met = self.meeting.met(key, &bytes);
         if let Met::Peer { sender, .. } = &met {
-            self.beats[usize::from(*sender)].came(now);
+            self.came_at[usize::from(*sender)] = Some(now);
+            self.story.came(*sender);
         }
         match met {
             Met::Peer { sender, brings: Brings::Frames, rest } => self.take_all(sender, rest)?,

@@ -7,7 +7,7 @@ use crate::log_text;
 use std::fs::{self, File};
 use std::io::{self, Read};
 use std::path::{Path, PathBuf};
-use tellwydar::{LogHead, LoggedNode, Op, Output, Refused, Room};
+use tellwydar::{LogHead, LoggedNode, Look, Op, Output, Refused, Room};
 
 /// How a node's last chapter ended, for those who don't know it yet.
 #[derive(Debug)]
@@ -254,6 +254,16 @@ impl Story {
             }
             why => why.into(),
         })
+    }
+
+    /// Looks at another process, and tells what is due.
+    pub fn watch(&mut self, process: u8) -> Look {
+        self.chapter.node.watch(process)
+    }
+
+    /// Something came from another process.
+    pub fn came(&mut self, process: u8) {
+        self.chapter.node.came(process);
     }
 
     /// How the last chapter ended.

@@ -10,13 +10,13 @@ impl<F: Front> Node<F> {
     pub fn status(&self) -> Status {
         let (head, node, now) = (self.story.head(), self.story.node(), Instant::now());
         let peer_status = |process: u8| {
-            let (beat, known) = (&self.beats[usize::from(process)], node.known(process));
+            let known = node.known(process);
             PeerStatus {
                 process,
-                is_heard: beat.is_heard,
-                silent: beat.came_at.map(|it| now.saturating_duration_since(it)),
+                is_heard: node.has_heard(process),
+                silent: self.came_at[usize::from(process)].map(|it| now.saturating_duration_since(it)),
                 unacknowledged: known.next - known.first,
-                is_missing: beat.is_long_silent(),
+                is_missing: node.is_long_silent(process),
             }
         };
         Status {
@@ -35,14 +35,10 @@ impl<F: Front> Node<F> {
     pub(super) fn look(&mut self) -> Result<(), Fault> {
         let mut is_tick_due = false;
         for peer in self.others() {
-            let known = self.story.node().known(peer);
-            let first = (known.first != known.next).then_some(known.first);
-            let beat = &mut self.beats[usize::from(peer)];
-            if beat.is_due(first) {
-                is_tick_due |= first.is_some() && !beat.is_long_silent();
-                if !beat.is_heard || beat.is_long_silent() {
-                    self.greet(peer);
-                }
+            let look = self.story.watch(peer);
+            is_tick_due |= look.ticks;
+            if look.greets {
+                self.greet(peer);
             }
         }
         if is_tick_due {

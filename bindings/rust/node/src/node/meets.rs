@@ -1,7 +1,6 @@
 //! How processes meet: each tells the others how many bodies it accepted from them, so that one whose log was lost finds
 //! that out.
 use super::Node;
-use crate::beats::Beat;
 use crate::complaints::Kind;
 use crate::fault::Fault;
 use crate::message::{Brings, Greeting, begin};
@@ -15,7 +14,7 @@ impl<F: Front> Node<F> {
 
     /// A chapter begins or goes on: nobody was heard yet, and all others are greeted.
     pub(super) fn meet_all(&mut self) {
-        self.beats = vec![Beat::default(); self.story.head().processes.into()];
+        self.came_at = vec![None; self.story.head().processes.into()];
         for to in self.others() {
             self.greet(to);
         }
@@ -23,9 +22,9 @@ impl<F: Front> Node<F> {
 
     /// Tells another process how many bodies this one accepted from it.
     pub(super) fn greet(&mut self, to: u8) {
-        let beat = &self.beats[usize::from(to)];
-        let is_wanting = !beat.is_heard || beat.is_long_silent();
-        let greeting = Greeting { is_wanting, accepted: self.story.node().known(to).expected };
+        let node = self.story.node();
+        let is_wanting = !node.has_heard(to) || node.is_long_silent(to);
+        let greeting = Greeting { is_wanting, accepted: node.known(to).expected };
         self.road.send(to, &[&begin(&self.meeting.start(to), Brings::Greeting)[..], &greeting.bytes()].concat());
     }
 
@@ -36,7 +35,6 @@ impl<F: Front> Node<F> {
             return Ok(());
         };
         self.story.hear(from, accepted)?;
-        self.beats[usize::from(from)].is_heard = true;
         if is_wanting {
             self.greet(from);
         }
