@@ -32,8 +32,8 @@ fn read(alloc: Global, text: &[u8], durable: u64) -> Result<ReadLog, LogRefusal>
     }
 }
 
-/// A node that goes on after a text, in a chapter of which nobody told anything, with peers of which none was heard, and
-/// how many bytes of the text are the log.
+/// A node that goes on after a text, in a chapter of which nobody told anything, with peers of which none was heard;
+/// and how many bytes of the text are the log.
 #[derive(Drop)]
 struct Begun {
     node: KeptNode,
