@@ -85,13 +85,15 @@ fn one_process_waits_for_none(rt: HostRuntime) {
     assert!(rt; cast && pops_the_read(&mut held));
 }
 
-/// Whether a cast that comes is refused for want of memory, and not held, and it is held when it comes again.
+/// Whether a second cast that comes is refused for want of memory, and not held, and it is held when it comes again. The
+/// first takes no memory.
 fn holds_later<A: Allocator + Copy>(held: &mut Holdback<A>) -> bool {
-    let cast = stamp!(1, 0);
-    held.receive(cast, Some(WRITE_FIVE)) == Err(HoldFault::OutOfMemory)
-        && (held.len(), held.seen(0)) == (0, Some(0))
-        && held.receive(cast, Some(WRITE_FIVE)) == Ok(())
+    let cast = stamp!(2, 0);
+    held.receive(stamp!(1, 0), Some(READ)) == Ok(())
+        && held.receive(cast, Some(WRITE_FIVE)) == Err(HoldFault::OutOfMemory)
         && (held.len(), held.seen(0)) == (1, Some(1))
+        && held.receive(cast, Some(WRITE_FIVE)) == Ok(())
+        && (held.len(), held.seen(0)) == (2, Some(2))
 }
 
 #[test]
@@ -102,9 +104,10 @@ fn a_refused_growth_holds_no_cast(rt: HostRuntime) {
 }
 
 #[test]
-fn a_refused_growth_holds_no_own_cast(rt: HostRuntime) {
+fn a_refused_growth_keeps_an_own_cast(rt: HostRuntime) {
     let heap = Refusing::new(rt.alloc(), 1);
     let mut held = Holdback::new(&heap, 1, shape_of(&rt, 2)).expect(&rt, "memory for the times");
-    let is_refused = held.cast(stamp!(1, 1), WRITE_FIVE).is_err();
-    assert!(rt; is_refused && held.len() == 0);
+    let cast = held.cast(stamp!(1, 1), WRITE_FIVE).is_ok();
+    let came = held.receive(stamp!(1, 0), Some(READ));
+    assert!(rt; cast && came == Err(HoldFault::OutOfMemory) && held.len() == 1);
 }
