@@ -85,8 +85,8 @@ fn one_process_waits_for_none(rt: HostRuntime) {
     assert!(rt; cast && pops_the_read(&mut held));
 }
 
-/// Whether a second cast that comes is refused for want of memory, and not held, and it is held when it comes again. The
-/// first takes no memory.
+/// Whether a second cast that comes is refused for want of memory, and not held, and it is held when it comes again.
+/// The first takes no memory.
 fn holds_later<A: Allocator + Copy>(held: &mut Holdback<A>) -> bool {
     let cast = stamp!(2, 0);
     held.receive(stamp!(1, 0), Some(READ)) == Ok(())
