@@ -55,6 +55,7 @@ impl<A: Allocator + Copy> Effect<A> {
 impl<A: Allocator + Copy> Brief<A> {
     /// Nothing.
     pub fn new(alloc: A) -> Brief<A>
+        ensures put { puts_of result.sends ≡ [] }
         ensures made { result.effect.cast ≡ None }
         ensures casts { result.effect.delivered.items ≡ [] }
         ensures answer { result.effect.reply ≡ None }

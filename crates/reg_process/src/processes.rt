@@ -1,5 +1,5 @@
 //! One process, with its stop.
-ghost use Rattle.std.specs.Prelude.{◌≡◌, ◌≢◌, ℕ, [], length, ◌<◌, ◌≤◌, MatchOption, MatchResult, IfOk, IfErr, slice_get, option_map, is_some, max, nat_lt, false, true, IsErrOf, vec_capacity, if◌then◌else◌};
+ghost use Rattle.std.specs.Prelude.{◌≡◌, ◌≢◌, ℕ, [], length, ◌<◌, ◌≤◌, MatchOption, MatchResult, IfOk, IfErr, IfSome, slice_get, option_map, is_some, max, nat_lt, false, true, IsErrOf, vec_capacity, if◌then◌else◌};
 ghost use Rattle.reg_process.specs.Process.{next_of, peer_at, pending_of, resent, unsettled};
 ghost use Rattle.reg_process.specs.Parts.{state_of, first_parts};
 ghost use Rattle.reg_process.specs.declared.steps.Step.TheVariants.{Call, Take, Tick};
@@ -127,7 +127,8 @@ impl<F: FrontEnd, A: Allocator + Copy> Process<F, A> {
 
     /// What it knows of another process, and keeps for it. None where there is no other of this number.
     pub fn known(&self, process: u8) -> Option<Known>
-        ensures { MatchOption result (IsNoPeer self.now.state process) (λ k. k ≡ known_of (peer_at self.now.state process)) }
+        ensures value { MatchOption result (IsNoPeer self.now.state process) (λ k. k ≡ known_of (peer_at self.now.state process)) }
+        ensures other { IfSome result (λ _. IsNoPeer self.now.state process → ⊥) }
     {
         if !self.core.is_peer(process) {
             return None;

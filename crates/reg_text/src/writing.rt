@@ -54,7 +54,8 @@ impl<'a, W: Write> Sink<'a, W> {
         }
     }
 
-    /// Writes bytes, unless the writer has failed. Where it fails here, what went out is a first part of them.
+    /// Writes bytes, unless the writer has failed. Where there are none, the writer is not asked. Where it fails here,
+    /// what went out is a first part of them.
     #[inline(always)]
     pub fn put(&mut self, bytes: &[u8])
         ensures { Puts W.contents self.old self.new bytes.now }

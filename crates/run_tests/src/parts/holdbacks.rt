@@ -111,3 +111,12 @@ fn a_refused_growth_keeps_an_own_cast(rt: HostRuntime) {
     let came = held.receive(stamp!(1, 0), Some(READ));
     assert!(rt; cast && came == Err(HoldFault::OutOfMemory) && held.len() == 1);
 }
+
+#[test]
+fn a_refused_growth_holds_no_own_cast(rt: HostRuntime) {
+    let heap = Refusing::new(rt.alloc(), 1);
+    let mut held = Holdback::new(&heap, 1, shape_of(&rt, 2)).expect(&rt, "memory for the times");
+    let is_first_held = held.cast(stamp!(1, 1), READ).is_ok();
+    let is_second_refused = held.cast(stamp!(2, 1), WRITE_FIVE).is_err();
+    assert!(rt; is_first_held && is_second_refused && held.len() == 1);
+}

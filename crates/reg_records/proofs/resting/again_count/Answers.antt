@@ -13,7 +13,7 @@ unreachable-requires-in_default-known g c =
     let is : c.in-Some.process.now.state ≡ (nodes_in start w c.args.from).state = (c.in-Some.ensures.process.1 c.requires.on.going).1 in
     let size : length c.in-Some.process.now.state.peers ≡ w.processes = ap (λ (s : State). length s.peers) is ∙ L.size in
     let me : c.in-Some.process.now.state.me ≡ c.args.from = ap (λ (s : State). s.me) is ∙ L.me in
-    elim c.in_default-known.ensures [
+    elim c.in_default-known.ensures.value [
       | inl a ↦ let l = c.requires.to in omega (arith, a, size, l)
       | inr e ↦ c.requires.apart (sym (e ∙ me))
     ]
