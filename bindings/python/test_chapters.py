@@ -48,7 +48,7 @@ class States(unittest.TestCase):
         self.addCleanup(node.close)
         return node
 
-    def test_they_are_read_as_they_are_told(self):
+    def test_they_are_read_as_they_were_told(self):
         node = self.node(3)
         self.assertEqual(node.tell_state(False), state(False, True, 0, (0, 0, 0)))
         self.assertEqual(node.tell_state(True), state(True, True, 0, (0, 0, 0)))
@@ -59,6 +59,28 @@ class States(unittest.TestCase):
                     node.hear_state(1, bad)
         with self.assertRaisesRegex(Refused, "no process"):
             node.hear_state(3, state(True, True, 0, (0, 0, 0)))
+
+    def test_a_chapter_is_over_only_where_each_number_is_read_as_it_was_told(self):
+        put = [2**48, 7, 2**40 + 1]
+        numbers = [[0, 7, 2**40 + 1], [2**48, 0, 2**40 + 1], [2**48, 7, 0]]
+
+        def is_over():
+            node = self.node(3)
+            for it in range(3):
+                node.hear_state(it, state(True, True, put[it], numbers[it]))
+            return node.is_over
+
+        self.assertTrue(is_over())
+        for process, of in ((0, 1), (0, 2), (1, 0), (1, 2), (2, 0), (2, 1)):
+            was = numbers[process][of]
+            for other in (0, 1, was + 1, int.from_bytes(was.to_bytes(8, "little"), "big")):
+                numbers[process][of] = other
+                self.assertFalse(is_over(), (process, of, other))
+            numbers[process][of] = was
+        for process in range(3):
+            put[process] += 1
+            self.assertFalse(is_over(), process)
+            put[process] -= 1
 
     def test_the_later_one_counts_in_whatever_order_they_come(self):
         last = state(True, True, 1, (0, 1))

@@ -101,7 +101,7 @@ class OneNode(unittest.TestCase):
         self.assertTrue(node.is_stopped)
         self.assertEqual([refusal(node.tick), refusal(node.hear, 1, 0)], ["log lost"] * 2)
 
-    def test_pauses_grow_where_a_peer_is_silent(self):
+    def test_pauses_grow(self):
         node = Node.open(HEAD, 0)
         self.assertEqual(looked(node), ([1, 3, 7, 15, 31, 63, 127, 227, 327, 427], []))
         self.assertEqual((node.has_heard(1), node.is_long_silent(1)), (False, True))
@@ -110,15 +110,26 @@ class OneNode(unittest.TestCase):
         self.assertEqual((node.has_heard(1), node.is_long_silent(1)), (True, False))
         node.call(Write(0, 5))
         self.assertEqual(looked(node), ([128, 228, 328, 428], [2, 4, 8, 16, 32, 64]))
+        # The first frame is acknowledged, and another one waits.
+        node.take(1, GOT)
+        node.take(1, ACK)
+        node.call(Write(0, 5))
+        self.assertEqual(looked(node), ([128, 228, 328, 428], [2, 4, 8, 16, 32, 64]))
+        # Of the own process and of one that isn't there nothing is due.
+        self.assertEqual({node.watch(peer) for peer in (0, 2, 255) for _ in range(500)}, {Look(False, False)})
+        self.assertEqual([node.is_long_silent(peer) for peer in (0, 2)], [False, False])
+
+    def test_who_was_silent_for_long_is_looked_at_anew_once_something_came(self):
+        node = Node.open(HEAD, 0)
+        node.hear(1, 0)
+        node.call(Write(0, 5))
+        self.assertEqual(looked(node)[0], [128, 228, 328, 428])
         node.came(1)
         self.assertEqual(looked(node, 126), ([], [1, 3, 7, 15, 31, 63]))
         node.came(1)  # it isn't silent for long yet
         self.assertEqual(looked(node, 1), ([1], []))
         node.take(1, GOT)
         self.assertEqual(looked(node), ([], []))
-        # Of the own process and of one that isn't there nothing is due.
-        self.assertEqual({node.watch(peer) for peer in (0, 2, 255) for _ in range(500)}, {Look(False, False)})
-        self.assertEqual([node.is_long_silent(peer) for peer in (0, 2)], [False, False])
 
     def test_a_node_has_one_owner(self):
         node = Node.open(HEAD, 0)

@@ -23,7 +23,7 @@ fn is_over(told: &[(u8, &[u8])]) -> bool {
 }
 
 #[test]
-fn states_are_read_as_they_are_told() {
+fn states_are_read_as_they_were_told() {
     let mut node = node(3);
     assert_eq!(node.tell_state(false), Ok(&state(false, true, 0, &[0, 0, 0])[..]));
     assert_eq!(node.tell_state(true), Ok(&state(true, true, 0, &[0, 0, 0])[..]));
@@ -35,6 +35,33 @@ fn states_are_read_as_they_are_told() {
         }
     }
     assert_eq!(node.hear_state(3, &state(true, true, 0, &[0, 0, 0])), Err(Refused::NoProcess));
+}
+
+#[test]
+fn a_chapter_is_over_only_where_each_number_is_read_as_it_was_told() {
+    let numbers = [[0, 7, (1 << 40) + 1], [1 << 48, 0, (1 << 40) + 1], [1 << 48, 7, 0]];
+    let put = [1 << 48, 7, (1 << 40) + 1];
+    let is_over = |numbers: [[u64; 3]; 3], put: [u64; 3]| {
+        let mut node = node(3);
+        for process in 0..3 {
+            let told = state(true, true, put[process], &numbers[process]);
+            node.hear_state(process as u8, &told).expect("a state");
+        }
+        node.is_over()
+    };
+    assert!(is_over(numbers, put));
+    for (process, of) in [(0, 1), (0, 2), (1, 0), (1, 2), (2, 0), (2, 1)] {
+        for other in [0, 1, numbers[process][of] + 1, numbers[process][of].swap_bytes()] {
+            let mut changed = numbers;
+            changed[process][of] = other;
+            assert!(!is_over(changed, put), "{changed:?}");
+        }
+    }
+    for process in 0..3 {
+        let mut changed = put;
+        changed[process] += 1;
+        assert!(!is_over(numbers, changed), "{changed:?}");
+    }
 }
 
 #[test]

@@ -108,15 +108,30 @@ fn looked(node: &mut LoggedNode, looks: u32) -> (Vec<u32>, Vec<u32>) {
 }
 
 #[test]
-fn pauses_grow_where_a_peer_is_silent() -> Result<(), Refused> {
+fn pauses_grow() -> Result<(), Refused> {
     let mut node = LoggedNode::open(HEAD.as_bytes(), 0).expect("a log");
     assert_eq!(looked(&mut node, 500), (vec![1, 3, 7, 15, 31, 63, 127, 227, 327, 427], vec![]));
     assert_eq!((node.has_heard(1), node.is_long_silent(1)), (false, true));
     node.hear(1, 0)?;
     assert_eq!(looked(&mut node, 500), (vec![], vec![]));
     assert_eq!((node.has_heard(1), node.is_long_silent(1)), (true, false));
+    let of_a_frame = (vec![128, 228, 328, 428], vec![2, 4, 8, 16, 32, 64]);
     node.call(WRITE)?;
-    assert_eq!(looked(&mut node, 500), (vec![128, 228, 328, 428], vec![2, 4, 8, 16, 32, 64]));
+    assert_eq!(looked(&mut node, 500), of_a_frame);
+    // The first frame is acknowledged, and another one waits.
+    node.take(1, &GOT)?;
+    node.take(1, &ACK)?;
+    node.call(WRITE)?;
+    assert_eq!(looked(&mut node, 500), of_a_frame);
+    Ok(())
+}
+
+#[test]
+fn who_was_silent_for_long_is_looked_at_anew_once_something_came() -> Result<(), Refused> {
+    let mut node = LoggedNode::open(HEAD.as_bytes(), 0).expect("a log");
+    node.hear(1, 0)?;
+    node.call(WRITE)?;
+    assert_eq!(looked(&mut node, 500).0, [128, 228, 328, 428]);
     node.came(1);
     assert_eq!(looked(&mut node, 126), (vec![], vec![1, 3, 7, 15, 31, 63]));
     node.came(1); // (it isn't silent for long yet)
