@@ -1,5 +1,6 @@
 //! Tests of the parts, from shapes to reports and workloads.
 mod bases;
+mod chapters;
 mod documents;
 mod fields;
 mod frames;
@@ -12,12 +13,14 @@ mod logs;
 mod meetings;
 mod nodes;
 mod orders;
+mod peers;
 mod plain_holdback;
 mod process_rows;
 mod processes;
 mod refusals;
 mod report_parts;
 mod reports;
+mod rooms;
 mod tellings;
 mod texts;
 mod ticks;

@@ -39,3 +39,19 @@ fn ticks_come_later_and_later(rt: HostRuntime) {
     }
     assert!(rt; ticks == 9 + 3_596, "{ticks}");
 }
+
+/// What comes ends a silence of 127 looks or more, and no shorter one. Then looks are counted anew.
+#[test]
+fn what_comes_ends_a_long_silence(rt: HostRuntime) {
+    let mut beat = Beat::new();
+    let mut is_tick = beat.look(Some(7), false);
+    for look in 1..=126 {
+        beat.hear();
+        is_tick = beat.look(Some(7), false);
+        assert!(rt; is_tick == LOOKS.contains(&look) && !beat.is_long(), "{look}");
+    }
+    is_tick = beat.look(Some(7), false);
+    assert!(rt; is_tick && beat.is_long());
+    beat.hear();
+    assert!(rt; !beat.is_long() && beat.look(Some(7), false));
+}

@@ -1,0 +1,158 @@
+//! When a node greets a peer that is silent, and when it ticks, as worked by hand.
+use crate::demands::{demand, shape_of};
+use crate::parts::nodes::{CALL_WRITE, TAKE_ACK};
+use reg_frames::Frame;
+use reg_front::Linear;
+use reg_node::{Look, MeetingNode, Peers, Step};
+use std::process::Abort;
+
+/// What happens to a node of two, and to what it knows of the other one.
+#[derive(Clone, Copy, Debug)]
+enum Deed {
+    /// It hears how many of its bodies the other one accepted.
+    Greeted,
+    Make(Step),
+    /// Something came from the other one.
+    Came,
+    /// Looks at a process: those at which it is to be greeted, and those at which the node is to tick.
+    Looks {
+        peer: u8,
+        count: u32,
+        greets: &'static [u32],
+        ticks: &'static [u32],
+    },
+}
+
+const TAKE_GOT: Step = Step::Take {
+    from: 1,
+    frame: Frame::Got { count: 1 },
+};
+
+macro_rules! looks {
+    ($peer:expr, $count:expr, $greets:expr, $ticks:expr) => {
+        Deed::Looks {
+            peer: $peer,
+            count: $count,
+            greets: &$greets,
+            ticks: &$ticks,
+        }
+    };
+}
+
+/// Who wasn't heard is greeted. Then a frame makes the node tick, until the other one is silent for long. It begins anew
+/// with the next frame.
+const PAUSES: &[Deed] = &[
+    looks!(1, 500, [1, 3, 7, 15, 31, 63, 127, 227, 327, 427], []),
+    Deed::Greeted,
+    looks!(1, 500, [], []),
+    Deed::Make(CALL_WRITE),
+    looks!(1, 500, [128, 228, 328, 428], [2, 4, 8, 16, 32, 64]),
+    Deed::Make(TAKE_GOT),
+    Deed::Make(TAKE_ACK),
+    Deed::Make(CALL_WRITE),
+    looks!(1, 500, [128, 228, 328, 428], [2, 4, 8, 16, 32, 64]),
+    looks!(0, 500, [], []),
+    looks!(2, 500, [], []),
+    looks!(255, 500, [], []),
+];
+
+/// What comes counts anew who was silent for long, and nobody else.
+const ANEW: &[Deed] = &[
+    Deed::Greeted,
+    Deed::Make(CALL_WRITE),
+    looks!(1, 500, [128, 228, 328, 428], [2, 4, 8, 16, 32, 64]),
+    Deed::Came,
+    looks!(1, 126, [], [1, 3, 7, 15, 31, 63]),
+    Deed::Came,
+    looks!(1, 1, [1], []),
+    Deed::Make(TAKE_GOT),
+    looks!(1, 500, [], []),
+];
+
+/// Whether the looks find this.
+fn find(
+    peers: &mut Peers,
+    node: &MeetingNode<Linear>,
+    peer: u8,
+    count: u32,
+    due: (&[u32], &[u32]),
+) -> bool {
+    for at in 1..=count {
+        let greets = due.0.contains(&at);
+        let ticks = due.1.contains(&at);
+        if peers.look(node, peer) != (Look { greets, ticks }) {
+            return false;
+        }
+    }
+    true
+}
+
+/// Whether the step is made.
+fn makes(node: &mut MeetingNode<Linear>, step: &Step) -> bool {
+    match step {
+        Step::Call { op } => node.call(*op).is_ok(),
+        Step::Take { from, frame } => node.take(*from, frame).is_ok(),
+        Step::Tick => node.tick().is_ok(),
+    }
+}
+
+/// Whether the deed goes as it says.
+fn goes(node: &mut MeetingNode<Linear>, peers: &mut Peers, deed: &Deed) -> bool {
+    match deed {
+        Deed::Greeted => node.hear(1, 0).is_ok(),
+        Deed::Make(step) => makes(node, step),
+        Deed::Came => {
+            peers.hear(1);
+            true
+        }
+        Deed::Looks {
+            peer,
+            count,
+            greets,
+            ticks,
+        } => find(peers, node, *peer, *count, (greets, ticks)),
+    }
+}
+
+fn follow(rt: &(impl Abort + AllocGlobal), deeds: &[Deed]) {
+    let node = MeetingNode::open(rt.alloc(), shape_of(rt, 2), 0, &[]);
+    let (mut node, peers) = (node.expect(rt, "a node"), Peers::new(rt.alloc(), 2));
+    let mut peers = peers.expect(rt, "memory");
+    for deed in deeds {
+        demand(rt, deed, goes(&mut node, &mut peers, deed));
+    }
+}
+
+#[test]
+fn pauses_grow(rt: HostRuntime) {
+    follow(&rt, PAUSES);
+}
+
+#[test]
+fn who_was_silent_for_long_is_looked_at_anew_once_something_came(rt: HostRuntime) {
+    follow(&rt, ANEW);
+}
+
+#[test]
+fn a_peer_is_silent_for_long_after_127_looks(rt: HostRuntime) {
+    let node = MeetingNode::open(rt.alloc(), shape_of(&rt, 3), 0, &[]).expect(&rt, "a node");
+    let mut peers = Peers::new(rt.alloc(), 3).expect(&rt, "memory");
+    for look in 1..=127 {
+        peers.look(&node, 1);
+        assert!(rt; peers.is_long(1) == (look == 127), "{look}");
+    }
+    assert!(rt; !peers.is_long(2) && !peers.is_long(3));
+    peers.hear(2);
+    assert!(rt; peers.is_long(1));
+    peers.hear(1);
+    assert!(rt; !peers.is_long(1));
+}
+
+#[test]
+fn a_node_has_heard_from_whom_it_heard(rt: HostRuntime) {
+    let node = MeetingNode::<Linear>::open(rt.alloc(), shape_of(&rt, 3), 0, &[]);
+    let mut node = node.expect(&rt, "a node");
+    assert!(rt; !node.has_heard(1) && !node.has_heard(2) && !node.has_heard(3));
+    let heard = node.hear(2, 0);
+    assert!(rt; heard.is_ok() && !node.has_heard(1) && node.has_heard(2));
+}
