@@ -1,5 +1,5 @@
 -- A chapter, as the caller sees it of a node that it holds. Promises cite it.
-use Rattle.std.specs.Prelude.{ℕ, ◌≡◌, ◌<◌, ◌⊎◌, Bool, not, ◌==◌, List, length, Option, None, Some}
+use Rattle.std.specs.Prelude.{ℕ, ◌≡◌, ◌<◌, ◌⊎◌, Bool, true, not, ◌==◌, List, length, Option, None, Some, is_some}
 use Rattle.reg_process.specs.Process.{State}
 use Rattle.reg_process.specs.declared.faults.ProcessFault.TheVariants as refusals
 use Rattle.reg_node.specs.Chapters.{ChapterState, HearsStanding, IsOver, IsUnheard, TellsStanding}
@@ -40,10 +40,11 @@ pub record TellsIn (process : Option State) (is_quiet : Bool) (old : Option Chap
   pub told : TellsStanding state is_quiet before bytes after
   pub kept : new ≡ Some after
 
--- why it isn't told: there is no node, or no memory
+-- why it isn't told: there is no node or no chapter, or both are there and no memory
 abbrev pub IsUntold : Option State → Option ChapterState → ℕ → Type 0
 IsUntold process chapter code =
-    ((code ≡ no_world) × (process ≡ None ⊎ chapter ≡ None)) ⊎ (code ≡ refusal_code refusals.OutOfMemory)
+    ((code ≡ no_world) × (process ≡ None ⊎ chapter ≡ None))
+    ⊎ ((code ≡ refusal_code refusals.OutOfMemory) × (is_some process ≡ true) × (is_some chapter ≡ true))
 
 -- the room holds the front of these bytes, and the length is theirs; or nothing has changed
 abbrev pub NodeTellsState : ℕ → HeldNode → HeldNode → ℕ → List ℕ → List ℕ → ℕ → ℕ → Type 0

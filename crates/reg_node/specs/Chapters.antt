@@ -30,6 +30,10 @@ numbers_bytes numbers = flat_map (to_be_bytes w64) numbers
 abbrev pub standing_bytes : Standing → List ℕ
 standing_bytes s = flags_of s ∷ numbers_bytes (s.put ∷ s.accepted)
 
+-- there are as many of them as spell a state of one of so many processes, and its flags are known
+abbrev pub HasForm : ℕ → List ℕ → Type 0
+HasForm processes bytes = (length bytes ≡ 9 + processes * 8) × (slice_index_or bytes 0 0 ≤ 3)
+
 -- the bytes spell this state of one of so many processes
 pub record SpellsStanding (processes : ℕ) (bytes : List ℕ) (s : Standing) : Type 0 where
   pub of_all : length s.accepted ≡ processes
@@ -83,6 +87,10 @@ pub record IsStanding (s : State) (is_quiet : Bool) (standing : Standing) : Type
   pub of_all : length standing.accepted ≡ length s.peers
   pub accepted : (q : ℕ) → q < length s.peers → q ≢ s.me → slice_get standing.accepted q ≡ Some (peer_at s q).expected
 
+-- in its own place stands 0, since it accepts none of itself
+abbrev pub OwnIsNone : State → List ℕ → Type 0
+OwnIsNone s accepted = s.me < length s.peers → slice_get accepted s.me ≡ Some 0
+
 -- A chapter, as one process sees it
 
 -- its own number, and what each told
@@ -105,6 +113,7 @@ pub record HearsStanding (old : ChapterState) (sender : ℕ) (bytes : List ℕ) 
 pub record TellsStanding (s : State) (is_quiet : Bool) (old : ChapterState) (bytes : List ℕ) (new : ChapterState) : Type 0 where
   pub standing : Standing
   pub is : IsStanding s is_quiet standing
+  pub own : OwnIsNone s standing.accepted
   pub spelled : bytes ≡ standing_bytes standing
   pub kept : new ≡ record old { told = slice_set old.told old.me (Some standing) }
 
@@ -112,4 +121,4 @@ pub record TellsStanding (s : State) (is_quiet : Bool) (old : ChapterState) (byt
 abbrev pub IsUnheard : ChapterState → ℕ → List ℕ → ToldFault → Type 0
 IsUnheard old sender bytes NoProcess = length old.told ≤ sender
 IsUnheard old sender bytes NoState = (sender < length old.told) × ((s : Standing) → ¬ SpellsStanding (length old.told) bytes s)
-IsUnheard old sender bytes OutOfMemory = sender < length old.told
+IsUnheard old sender bytes OutOfMemory = (sender < length old.told) × HasForm (length old.told) bytes

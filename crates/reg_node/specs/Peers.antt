@@ -1,5 +1,5 @@
 -- When a node greets a peer that is silent, and when it ticks. Promises cite it.
-use Rattle.std.specs.Prelude.{ℕ, ◌≡◌, ◌⊎◌, ◌==◌, ◌&&◌, ◌||◌, Bool, false, not, List, replicate, slice_get, slice_set, slice_index_or, Option, None, Some, if◌then◌else◌}
+use Rattle.std.specs.Prelude.{ℕ, ◌≡◌, ◌==◌, ◌&&◌, ◌||◌, Bool, false, not, List, replicate, slice_get, slice_set, slice_index_or, Option, None, Some, if◌then◌else◌}
 use Rattle.reg_base.specs.declared.limits.TheConstants.{FRAME_NUMBERS}
 use Rattle.reg_links.specs.declared.beats.Beat.{Beat}
 use Rattle.reg_links.specs.Beats.{is_long, ticks_at, watched, woken}
@@ -56,9 +56,10 @@ LooksBy m peer (Some beat) old look new =
     (look ≡ look_of (has_heard m peer) (known_of (peer_at m.node.process.state peer)) beat)
     × (new ≡ slice_set old peer (beat_after (has_heard m peer) (known_of (peer_at m.node.process.state peer)) beat))
 
--- a look at a peer; or there is no other process of this number, and nothing changes
-abbrev pub LooksAt : MeetingState → ℕ → List Beat → Look → List Beat → Type 0
-LooksAt m peer old look new = LooksBy m peer (slice_get old peer) old look new ⊎ (IsNoPeer m.node.process.state peer × (look ≡ no_look) × (new ≡ old))
+-- A look at a process of this number: where there is no other one, it brings nothing and nothing changes.
+pub record LooksAt (m : MeetingState) (peer : ℕ) (old : List Beat) (look : Look) (new : List Beat) : Type 0 where
+  pub other : ¬ IsNoPeer m.node.process.state peer → LooksBy m peer (slice_get old peer) old look new
+  pub none : IsNoPeer m.node.process.state peer → (look ≡ no_look) × (new ≡ old)
 
 -- after something came from a peer
 abbrev pub woken_at : List Beat → ℕ → Option Beat → List Beat

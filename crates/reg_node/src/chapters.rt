@@ -3,7 +3,7 @@ ghost use Rattle.std.specs.Prelude.{ℕ, ◌≡◌, ◌≢◌, ◌+◌, ◌*◌,
 ghost use Rattle.std.specs.Int.{w64, to_be_bytes};
 ghost use Rattle.std.specs.List.{sum};
 ghost use Rattle.reg_process.specs.Process.{next_of, peer_at};
-ghost use Rattle.reg_node.specs.Chapters.{HasAccepted, HearsStanding, IsDone, IsOver, IsStanding, IsUnheard, SpellsStanding, Standing, TellsStanding, bit as bit_of, is_kept, numbers_bytes, rank as rank_of, standing_bytes, with_standing};
+ghost use Rattle.reg_node.specs.Chapters.{HasAccepted, HasForm, HearsStanding, IsDone, IsOver, IsStanding, IsUnheard, OwnIsNone, SpellsStanding, Standing, TellsStanding, bit as bit_of, is_kept, numbers_bytes, rank as rank_of, standing_bytes, with_standing};
 
 use reg_front::FrontEnd;
 use reg_process::Process;
@@ -72,8 +72,7 @@ fn number_at(bytes: &[u8], at: usize) -> u64
 
 /// Whether the bytes can be a state of one of so many processes.
 fn may_be_state(bytes: &[u8], processes: u8) -> bool
-    ensures yes { result ≡ true → (length bytes.now ≡ 9 + processes * 8) × (slice_index_or bytes.now 0 0 ≤ 3) }
-    ensures no { result ≡ false → (length bytes.now ≡ 9 + processes * 8) × (slice_index_or bytes.now 0 0 ≤ 3) → ⊥ }
+    ensures { result ≡ true ↔ HasForm processes bytes.now }
 {
     bytes.len() == HEAD + usize::from(processes) * 8 && bytes[0] <= QUIET + AT_REST
 }
@@ -94,9 +93,10 @@ fn numbers<A: Allocator + Copy>(
     Ok(numbers)
 }
 
-/// How many bodies a process accepted of another.
+/// How many bodies a process accepted of another. It accepts none of itself.
 fn accepted<F: FrontEnd, A: Allocator + Copy>(process: &Process<F, A>, of: u8) -> u64
-    ensures { of ≢ process.now.state.me → result ≡ (peer_at process.now.state of).expected }
+    ensures other { of ≢ process.now.state.me → result ≡ (peer_at process.now.state of).expected }
+    ensures own { of ≡ process.now.state.me → result ≡ 0 }
 {
     match process.known(of) {
         Some(known) => known.expected,
@@ -127,7 +127,7 @@ fn most_queued<F: FrontEnd, A: Allocator + Copy>(process: &Process<F, A>) -> u64
     most
 }
 
-/// How many bodies a process accepted of each other one.
+/// How many bodies a process accepted of each other one, and none of itself.
 fn all_accepted<F: FrontEnd, A: Allocator + Copy, B: Allocator + Copy>(
     alloc: B,
     process: &Process<F, A>,
@@ -135,6 +135,7 @@ fn all_accepted<F: FrontEnd, A: Allocator + Copy, B: Allocator + Copy>(
     ensures of_all { IfOk result (λ v. length v.items ≡ length process.now.state.peers) }
     ensures few { IfOk result (λ v. length v.items ≤ 255) }
     ensures accepted { IfOk result (λ v. (q : ℕ) → q < length process.now.state.peers → q ≢ process.now.state.me → slice_get v.items q ≡ Some (peer_at process.now.state q).expected) }
+    ensures own { IfOk result (λ v. OwnIsNone process.now.state v.items) }
 {
     let mut counts = Vec::new(alloc);
     for other in 0..process.processes() {
@@ -150,7 +151,8 @@ impl<A: Allocator + Copy> Told<A> {
         process: &Process<F, B>,
         is_quiet: bool,
     ) -> Result<Told<A>, AllocError>
-        ensures { IfOk result (IsStanding process.now.state is_quiet) }
+        ensures is { IfOk result (IsStanding process.now.state is_quiet) }
+        ensures own { IfOk result (λ t. OwnIsNone process.now.state t.accepted) }
     {
         let put = most_queued(process);
         let is_at_rest = process.pending() == 0;
@@ -165,7 +167,8 @@ impl<A: Allocator + Copy> Told<A> {
 
     /// The state of one of so many processes that the bytes spell, if they spell one.
     pub fn read(alloc: A, bytes: &[u8], processes: u8) -> Result<Option<Told<A>>, AllocError>
-        ensures { IfOk result (λ o. MatchOption o ((s : Standing) → ¬ SpellsStanding processes bytes.now s) (λ t. SpellsStanding processes bytes.now t)) }
+        ensures read { IfOk result (λ o. MatchOption o ((s : Standing) → ¬ SpellsStanding processes bytes.now s) (λ t. SpellsStanding processes bytes.now t)) }
+        ensures memory { OnErr result (HasForm processes bytes.now) }
     {
         if !may_be_state(bytes, processes) {
             return Ok(None);
