@@ -1,4 +1,5 @@
 //! Schedules and their reports, worked by hand.
+use crate::report_texts::NO_POINTS_NOW;
 
 /// A schedule and its report.
 pub(crate) struct Row {
@@ -248,21 +249,7 @@ take 1 0 1
 take 2 0 1
 call 1 read x
 ",
-        report: "awreg report 2
-front local-read
-processes 3
-registers 1
-x
-history 4
-       0  p0    #0       call    write x 5
-       4  p0    #0       answer  done
-       5  p1    #0       call    read x
-       5  p1    #0       answer  value 0
-order 2
-p1 #0
-p0 #0
-end
-",
+        report: NO_POINTS_NOW,
     },
     // A read that waits for the own write.
     Row {
