@@ -135,7 +135,8 @@ fn who_was_silent_for_long_is_looked_at_anew_once_something_came(rt: HostRuntime
 
 #[test]
 fn a_peer_is_silent_for_long_after_127_looks(rt: HostRuntime) {
-    let node = MeetingNode::open(rt.alloc(), shape_of(&rt, 3), 0, &[]).expect(&rt, "a node");
+    let node = MeetingNode::<Linear>::open(rt.alloc(), shape_of(&rt, 3), 0, &[]);
+    let node = node.expect(&rt, "a node");
     let mut peers = Peers::new(rt.alloc(), 3).expect(&rt, "memory");
     for look in 1..=127 {
         peers.look(&node, 1);
