@@ -39,8 +39,8 @@ macro_rules! looks {
     };
 }
 
-/// Who wasn't heard is greeted. Then a frame makes the node tick, until the other one is silent for long. It begins anew
-/// with the next frame.
+/// Who wasn't heard is greeted. Then a frame makes the node tick, until the other one is silent for long. It begins
+/// anew with the next frame.
 const PAUSES: &[Deed] = &[
     looks!(1, 500, [1, 3, 7, 15, 31, 63, 127, 227, 327, 427], []),
     Deed::Greeted,
