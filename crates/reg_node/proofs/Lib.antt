@@ -16,3 +16,4 @@ pub mod Owned
 pub mod Fours
 pub mod Standings
 pub mod Ended
+pub mod Restoring

@@ -17,10 +17,10 @@ use Rattle.reg_process.specs.Events.{Kept, IsGoing, Refused as RefusedBy}
 use Rattle.reg_records.specs.declared.entries.LogEntry.{LogEntry}
 use Rattle.reg_node.specs.declared.faults.NodeFault.{NodeFault}
 use Rattle.reg_node.specs.declared.faults.NodeFault.TheVariants.{Full, NoRoom, Refused}
-use Rattle.reg_node.specs.Logs.{Outgoing, IsStep, AreSteps, state_after, output_of, outputs_of}
+use Rattle.reg_node.specs.Logs.{Outgoing, IsStep, AreSteps, calls_in, state_after, output_of, outputs_of}
 use Rattle.reg_node.specs.Nodes.{NodeState, Logs, LogsNothing, Past, Lives, first_held, past_logged, past_given}
 use Rattle.reg_node.specs.Opening.{opened_with}
-use Rattle.reg_node.proofs.Steps.{steps_push, state_push, outputs_push, outputs_count}
+use Rattle.reg_node.proofs.Steps.{calls_push, steps_push, state_push, outputs_push, outputs_count}
 
 -- a process that goes on has no fault but those of the step
 fault_none : (b : Bool) (o : Option ProcessFault) → cond b (Some Failed) o ≡ None → (b ≡ false) × (o ≡ None)
@@ -47,14 +47,15 @@ refused_same start old new e ClockFull r is = absurd (let bad : ⊥ = cc in bad)
 refused_same start old new e OutOfMemory r is = absurd (let bad : ⊥ = cc in bad)
 
 -- a node that was just opened with a log
-pub lives_opened : (start : Op → ℕ → Start) (first : State) (log : List LogEntry) (k : Kept) (held : List Outgoing) → held ≡ [] → AreSteps start first log → IsGoing k (state_after start first log)
-    → Lives start first (opened_with log) (record { process = k; logged = length log; durable = length log; held = held })
-lives_opened start first log k held none steps going =
+pub lives_opened : (start : Op → ℕ → Start) (first : State) (log : List LogEntry) (k : Kept) (calls : ℕ) (held : List Outgoing) → calls ≡ calls_in log → held ≡ [] → AreSteps start first log → IsGoing k (state_after start first log)
+    → Lives start first (opened_with log) (record { process = k; logged = length log; calls = calls; durable = length log; held = held })
+lives_opened start first log k calls held counted none steps going =
     let count : length (outputs_of start first log) ≤ length log = let e = outputs_count start first log in omega arith in
     record {
       steps = steps;
       process = λ _. going.1;
       logged = refl;
+      calls = counted;
       outputs = none ∙ sym (drop_of_length-le (outputs_of start first log) count);
       write_ahead = omega arith;
       within = omega arith;
@@ -90,6 +91,7 @@ module _ (start : Op → ℕ → Start) (first : State) (past : Past) where
         steps = steps_push start first past.log entry is.steps made;
         process = λ going. l.made.state.1 ∙ (ap (λ (t : State). (step start t e).0) state ∙ (ap (λ (x : Step). (step start (state_after start first past.log) x).0) (sym same) ∙ sym (state_push start first past.log entry)));
         logged = let count = length-append past.log (entry ∷ []) in let d = is.logged in omega arith;
+        calls = let more = calls_push past.log entry in let d = is.calls in omega (arith, more, d);
         outputs = more;
         write_ahead = is.write_ahead;
         within = let d = is.within in omega arith;
@@ -106,6 +108,7 @@ module _ (start : Op → ℕ → Start) (first : State) (past : Past) where
             let same : new.process ≡ old.process = refused_same start old.process new.process e fault l.1 going in
             ap (λ (k : Kept). k.state) same ∙ is.process (ap (λ (k : Kept). k.failed) (sym same) ∙ going);
         logged = is.logged;
+        calls = is.calls;
         outputs = is.outputs;
         write_ahead = is.write_ahead;
         within = is.within;
@@ -118,6 +121,7 @@ module _ (start : Op → ℕ → Start) (first : State) (past : Past) where
         steps = is.steps;
         process = is.process;
         logged = is.logged;
+        calls = is.calls;
         outputs = is.outputs;
         write_ahead = let d = is.write_ahead in omega arith;
         within = let d = is.within in omega arith;
@@ -135,6 +139,7 @@ module _ (start : Op → ℕ → Start) (first : State) (past : Past) where
         steps = is.steps;
         process = is.process;
         logged = is.logged;
+        calls = is.calls;
         outputs = append_assoc past.given (o ∷ []) new.held ∙ (ap (λ (xs : List Outgoing). past.given ++ xs) (sym head) ∙ is.outputs);
         write_ahead = let a = is.write_ahead in let b = is.within in let d = is.logged in omega arith;
         within = is.within;

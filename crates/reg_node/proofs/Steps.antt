@@ -1,13 +1,19 @@
 -- Logs of one process, entry by entry.
-use Rattle.std.proofs.Common.{◌≡◌, ℕ, zero, suc, List, [], ◌∷◌, ◌++◌, length, take, Some, refl, ap, subst}
-use Rattle.std.specs.Prelude.{slice_get}
+use Rattle.std.proofs.Common.{◌≡◌, ℕ, zero, suc, ◌+◌, List, [], ◌∷◌, ◌++◌, length, take, Some, refl, ap, subst, arith}
+use Rattle.std.specs.Prelude.{cond, slice_get}
+use Rattle.std.proofs.lemmas.List.Sums.{sum_by_push}
 use Rattle.std.proofs.lemmas.Option.{same_Some}
 use Rattle.reg_base.specs.declared.memory.Op.{Op}
 use Rattle.reg_front.specs.declared.starts.Start.{Start}
 use Rattle.reg_process.specs.Process.{State, step}
 use Rattle.reg_records.specs.declared.entries.LogEntry.{LogEntry}
-use Rattle.reg_node.specs.Logs.{IsStep, AreSteps, state_after, output_of, outputs_of}
+use Rattle.reg_node.specs.Logs.{IsStep, AreSteps, calls_in, is_call, state_after, output_of, outputs_of}
 use Rattle.reg_node.specs.Opening.{IsFirstNoStep}
+
+pub calls_push : (es : List LogEntry) (e : LogEntry) → calls_in (es ++ e ∷ []) ≡ calls_in es + calls_in (e ∷ [])
+calls_push es e =
+    let more : calls_in (es ++ e ∷ []) ≡ calls_in es + cond (is_call e.step) 1 0 = sum_by_push (λ (x : LogEntry). cond (is_call x.step) 1 0) es e in
+    omega (arith, more)
 
 module _ (start : Op → ℕ → Start) where
   -- one entry more

@@ -16,5 +16,7 @@ pub mod LineFaults
 pub mod Fours
 pub mod Chapters
 pub mod Rooms
+pub mod Openings
+pub mod Courses
 pub mod ChapterLaws
 pub mod Peers

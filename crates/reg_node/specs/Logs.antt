@@ -1,11 +1,12 @@
 -- Logs of one process, and what goes out of their steps. Promises cite it.
-use Rattle.std.specs.Prelude.{ℕ, ◌≡◌, List, [], ◌∷◌, length, Option, None}
+use Rattle.std.specs.Prelude.{ℕ, ◌≡◌, Bool, true, false, List, [], ◌∷◌, length, count_by, Option, None}
 use Rattle.reg_base.specs.declared.memory.Op.{Op}
 use Rattle.reg_base.specs.Shape.{Extent}
 use Rattle.reg_frames.specs.declared.puts.Put.{Put}
 use Rattle.reg_front.specs.declared.starts.Start.{Start}
 use Rattle.reg_process.specs.declared.steps.Reply.{Reply}
 use Rattle.reg_process.specs.declared.steps.Step.{Step}
+use Rattle.reg_process.specs.declared.steps.Step.TheVariants.{Call, Take, Tick}
 use Rattle.reg_process.specs.Process.{State, step}
 use Rattle.reg_process.specs.Faults.{step_fault}
 use Rattle.reg_process.specs.Parts.{state_of, first_parts}
@@ -38,6 +39,16 @@ state_after start s (e ∷ es) = state_after start (step start s e.step).0 es
 abbrev pub AreSteps : (Op → ℕ → Start) → State → List LogEntry → Type 0
 AreSteps start s [] = Unit {0}
 AreSteps start s (e ∷ es) = IsStep start s e × AreSteps start (step start s e.step).0 es
+
+-- whether a step is a call
+abbrev pub is_call : Step → Bool
+is_call (Call op) = true
+is_call (Take from frame) = false
+is_call Tick = false
+
+-- how many of these entries are calls
+abbrev pub calls_in : List LogEntry → ℕ
+calls_in log = count_by (λ (e : LogEntry). is_call e.step) log
 
 -- what goes out of the steps, one after another
 abbrev pub outputs_of : (Op → ℕ → Start) → State → List LogEntry → List Outgoing

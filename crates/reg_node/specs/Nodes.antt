@@ -11,13 +11,14 @@ use Rattle.reg_process.specs.Events.{Kept, Steps, Refused as RefusedBy}
 use Rattle.reg_records.specs.declared.entries.LogEntry.{LogEntry}
 use Rattle.reg_node.specs.declared.faults.NodeFault.{NodeFault}
 use Rattle.reg_node.specs.declared.faults.NodeFault.TheVariants.{Full, NoRoom, Refused}
-use Rattle.reg_node.specs.Logs.{Outgoing, AreSteps, state_after, outputs_of}
+use Rattle.reg_node.specs.Logs.{Outgoing, AreSteps, calls_in, state_after, outputs_of}
 
--- A node as contracts see it: its process, how many entries it logged, how many of them it was told are durable, and
--- what went out of its last steps and is held back, in their order.
+-- A node as contracts see it: its process, how many entries it logged, how many of them are calls, how many it was told
+-- are durable, and what went out of its last steps and is held back, in their order.
 pub record NodeState : Type 0 where
   pub process : Kept
   pub logged : ℕ
+  pub calls : ℕ
   pub durable : ℕ
   pub held : List Outgoing
 
@@ -33,7 +34,7 @@ pub record Logs (start : Op → ℕ → Start) (old : NodeState) (e : Step) (ent
   pub room : old.logged < MOST_EVENTS
   pub made : Steps start old.process e output.frames cast delivered output.reply new.process
   pub written : entry ≡ record { step = e; reply = output.reply }
-  pub rest : new ≡ record { process = new.process; logged = old.logged + 1; durable = old.durable; held = old.held ++ output ∷ [] }
+  pub rest : new ≡ record { process = new.process; logged = old.logged + 1; calls = old.calls + calls_in (entry ∷ []); durable = old.durable; held = old.held ++ output ∷ [] }
 
 -- no step was made, and nothing is logged or held: the process refuses it, or else nothing has changed
 abbrev pub LogsNothing : (Op → ℕ → Start) → NodeState → Step → NodeFault → NodeState → Type 0
@@ -81,6 +82,7 @@ pub record Lives (start : Op → ℕ → Start) (first : State) (past : Past) (n
   pub steps : AreSteps start first past.log
   pub process : n.process.failed ≡ false → n.process.state ≡ state_after start first past.log
   pub logged : n.logged ≡ length past.log
+  pub calls : n.calls ≡ calls_in past.log
   -- what it handed out, and then what it holds, is what went out of its steps since it was opened, each once, in order
   pub outputs : past.given ++ n.held ≡ drop past.opened (outputs_of start first past.log)
   -- what it handed out went out of steps whose entries are durable

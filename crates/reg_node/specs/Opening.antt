@@ -10,7 +10,7 @@ use Rattle.reg_process.specs.declared.faults.ProcessFault.TheVariants.{NoProcess
 use Rattle.reg_records.specs.declared.entries.LogEntry.{LogEntry}
 use Rattle.reg_node.specs.declared.faults.OpenFault.{OpenFault}
 use Rattle.reg_node.specs.declared.faults.OpenFault.TheVariants.{NoProcess, TooLong, NoStep, OutOfMemory}
-use Rattle.reg_node.specs.Logs.{IsStep, AreSteps, first_state, state_after}
+use Rattle.reg_node.specs.Logs.{IsStep, AreSteps, calls_in, first_state, state_after}
 use Rattle.reg_node.specs.Nodes.{NodeState, Past}
 
 -- a node that was just opened with these entries
@@ -21,6 +21,7 @@ opened_with log = record { log = log; opened = length log; given = [] }
 pub record IsOpened (log : List LogEntry) (n : NodeState) : Type 0 where
   pub goes_on : n.process.failed ≡ false
   pub logged : n.logged ≡ length log
+  pub calls : n.calls ≡ calls_in log
   pub durable : n.durable ≡ length log
   pub held : n.held ≡ []
 

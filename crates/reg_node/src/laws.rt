@@ -1,6 +1,7 @@
 //! Laws of nodes, of their logs, of chapters, and of records as text. Each is a function that does nothing: its
 //! contract is the law.
-ghost use Rattle.std.specs.Prelude.{ℕ, ◌≡◌, ◌≢◌, ◌+◌, ◌<◌, ◌≤◌, List, Some, slice_get, take, ◌++◌};
+ghost use Rattle.std.specs.Prelude.{ℕ, ◌≡◌, ◌≢◌, ◌+◌, ◌<◌, ◌≤◌, List, Some, length, slice_get, take, ◌++◌};
+ghost use Rattle.reg_base.specs.Memory.{memory};
 ghost use Rattle.reg_base.specs.declared.memory.Op.{Op};
 ghost use Rattle.reg_front.specs.Fronts.{KeepsLaws};
 ghost use Rattle.reg_front.specs.declared.starts.Start.{Start};
@@ -16,6 +17,7 @@ ghost use Rattle.reg_records.specs.declared.entries.LogEntry.{LogEntry};
 ghost use Rattle.reg_node.specs.Crashes.{AreOfSteps, IsGiven};
 ghost use Rattle.reg_node.specs.Logs.{AreSteps, Outgoing, outputs_of, state_after};
 ghost use Rattle.reg_node.specs.Opening.{IsFirstNoStep};
+ghost use Rattle.reg_node.specs.Openings.{opening_of};
 ghost use Rattle.reg_node.specs.declared.faults.LoggedFault.{LoggedFault};
 ghost use Rattle.reg_node.specs.declared.faults.LoggedFault.TheVariants.{Unspelled};
 ghost use Rattle.reg_node.specs.Logged.{IsSpelled, IsSpelledOn, LoggedHandsOut, LoggedState, Writes, WritesNothing};
@@ -76,4 +78,10 @@ pub fn over_stays_over()
     ensures put { (start : Op → ℕ → Start) (n registers : ℕ) (events : List Event) (time : ℕ → ℕ) (told : Tale) → AreTold start n registers events time told → IsOver told → (p q : ℕ) (s : Standing) → p < n → q < n → p ≢ q → slice_get told p ≡ Some (Some s) → next_of (peer_at ((whole start n registers events).nodes p).state q) ≤ s.put }
     ensures accepted { (start : Op → ℕ → Start) (n registers : ℕ) (events : List Event) (time : ℕ → ℕ) (told : Tale) → AreTold start n registers events time told → IsOver told → (p q : ℕ) → p < n → q < n → p ≢ q → (peer_at ((whole start n registers events).nodes q).state p).expected ≡ next_of (peer_at ((whole start n registers events).nodes p).state q) }
     ensures equal { (start : Op → ℕ → Start) (n registers : ℕ) (events : List Event) (time : ℕ → ℕ) (told : Tale) → KeepsLaws start → AreTold start n registers events time told → IsOver told → IsQuiescent n (whole start n registers events).nodes }
+{}
+
+/// What a chapter writes first, one after another over a memory of zeros, gives the values with which the chapter
+/// before it ended.
+pub fn an_opening_restores()
+    ensures { (values : List ℕ) → memory (length values) (opening_of values) ≡ values }
 {}

@@ -5,11 +5,13 @@
 #![tactic(auto)]
 
 mod chapters;
+mod courses;
 mod faults;
 pub mod laws;
 mod logged;
 mod meetings;
 mod nodes;
+mod openings;
 mod outputs;
 mod peers;
 mod replaying;
@@ -17,10 +19,12 @@ mod rooms;
 mod transcripts;
 
 pub use chapters::{Chapter, Told, ToldFault};
+pub use courses::{Course, Progress};
 pub use faults::{HelloFault, LoggedFault, MeetingFault, NodeFault, NotLogged, OpenFault};
 pub use logged::LoggedNode;
 pub use meetings::MeetingNode;
 pub use nodes::Node;
+pub use openings::opening_of;
 pub use outputs::Output;
 pub use peers::{Look, Peers};
 pub use reg_process::{ProcessFault, Put, Reply, Step};

@@ -81,6 +81,13 @@ impl<F: FrontEnd, A: Allocator + Copy> LoggedNode<F, A> {
         &self.meeting
     }
 
+    /// The number of its process.
+    pub fn process(&self) -> u8
+        ensures { result ≡ self.now.process }
+    {
+        self.process
+    }
+
     /// Whether it has stopped, since it made a step and had no text of its entry.
     pub fn is_stopped(&self) -> bool
         ensures { result ≡ self.now.stopped }

@@ -1,9 +1,9 @@
 //! One node.
-ghost use Rattle.std.specs.Prelude.{◌≡◌, ◌<◌, ◌≤◌, [], false, IfOk, IfErr, IsErrOf, OnErr, OnOk, MatchOption, MatchResult};
+ghost use Rattle.std.specs.Prelude.{◌≡◌, ◌<◌, ◌≤◌, [], false, if◌then◌else◌, length, IfOk, IfErr, IsErrOf, OnErr, OnOk, MatchOption, MatchResult};
 ghost use Rattle.reg_process.specs.Faults.{NewRefused, StepTakesMemory};
 ghost use Rattle.reg_process.specs.Process.{State};
 ghost use Rattle.reg_process.specs.declared.steps.Step.TheVariants.{Call, Take, Tick};
-ghost use Rattle.reg_node.specs.Logs.{first_state};
+ghost use Rattle.reg_node.specs.Logs.{calls_in, first_state, is_call as is_call_of};
 ghost use Rattle.reg_node.specs.Opening.{IsOpened, IsOpenFault, opened_with, unopened_by};
 ghost use Rattle.reg_node.specs.Nodes.{HandsOut, HandsOutNothing, Lives, Logs, LogsNothing, Past, marked, nothing_yet, past_given, past_logged};
 
@@ -20,12 +20,13 @@ use std::alloc::{Allocator, Global};
 use std::collections::VecDeque;
 use std::marker::Model;
 
-/// One process, with the count of the entries of its log. What goes out of a step is held back until the owner has said
+/// One process, with the counts of the entries and of the calls of its log. What goes out of a step is held back until the owner has said
 /// that the step's entry is durable.
 #[derive(Drop)]
 pub struct Node<F: FrontEnd, A: Allocator + Copy = Global> {
     process: Process<F, A>,
     logged: u64,
+    calls: u64,
     durable: u64,
     /// What went out of the last steps, in their order.
     held: VecDeque<Output<A>, A>,
@@ -38,9 +39,9 @@ impl<F: FrontEnd, A: Allocator + Copy> Model for Node<F, A> {
 
     ghost Value = { NodeState };
 
-    ghost view = { λ n. record { process = n.process; logged = n.logged; durable = n.durable; held = n.held.items } };
+    ghost view = { λ n. record { process = n.process; logged = n.logged; calls = n.calls; durable = n.durable; held = n.held.items } };
 
-    ghost invariant = { λ n. (n.logged ≤ MOST_EVENTS) × (n.durable ≤ n.logged) × (length n.held.items ≤ n.logged) };
+    ghost invariant = { λ n. (n.logged ≤ MOST_EVENTS) × (n.calls ≤ n.logged) × (n.durable ≤ n.logged) × (length n.held.items ≤ n.logged) };
 }
 
 /// Why no node is opened where there is no process.
@@ -53,10 +54,33 @@ fn unopened(fault: ProcessFault) -> OpenFault
     }
 }
 
+/// Whether a step is a call.
+fn is_call(step: &Step) -> bool
+    ensures { result ≡ is_call_of step.now }
+{
+    matches!(*step, Step::Call { op: _ })
+}
+
+/// By how many the calls grow with a step.
+fn calls_of(step: &Step) -> u64
+    ensures value { result ≡ (if is_call_of step.now then 1 else 0) }
+    ensures within { result ≤ 1 }
+{
+    u64::from(is_call(step))
+}
+
+/// How many of these entries are calls.
+fn count_calls(entries: &[LogEntry]) -> u64
+    ensures value { result ≡ calls_in entries.now }
+    ensures within { result ≤ length entries.now }
+{
+    entries.iter().filter(|entry| is_call(&entry.step)).count() as u64
+}
+
 impl<F: FrontEnd, A: Allocator + Copy> Node<F, A> {
     /// A node whose log is empty.
     pub fn new(alloc: A, shape: Shape, me: u8) -> Result<Node<F, A>, ProcessFault>
-        ensures made { IfOk result (λ n. n ≡ record { process = record { failed = false; state = first_state shape me; room = 0 }; logged = 0; durable = 0; held = [] }) }
+        ensures made { IfOk result (λ n. n ≡ record { process = record { failed = false; state = first_state shape me; room = 0 }; logged = 0; calls = 0; durable = 0; held = [] }) }
         ensures lives { IfOk result (Lives F.start (first_state shape me) nothing_yet) }
         ensures fault { IfErr result (λ fault. NewRefused shape.processes me fault) }
     {
@@ -64,6 +88,7 @@ impl<F: FrontEnd, A: Allocator + Copy> Node<F, A> {
         Ok(Node {
             process,
             logged: 0,
+            calls: 0,
             durable: 0,
             held: VecDeque::new(alloc),
         })
@@ -98,6 +123,7 @@ impl<F: FrontEnd, A: Allocator + Copy> Node<F, A> {
         Ok(Node {
             process,
             logged,
+            calls: count_calls(entries),
             durable: logged,
             held: VecDeque::new(alloc),
         })
@@ -115,6 +141,14 @@ impl<F: FrontEnd, A: Allocator + Copy> Node<F, A> {
         ensures { result ≡ self.now.logged }
     {
         self.logged
+    }
+
+    /// How many of them are calls.
+    pub fn calls(&self) -> u64
+        ensures value { result ≡ self.now.calls }
+        ensures within { result ≤ self.now.logged }
+    {
+        self.calls
     }
 
     /// How many of them it was told are durable.
@@ -143,6 +177,7 @@ impl<F: FrontEnd, A: Allocator + Copy> Node<F, A> {
                 self.held
                     .push_back_reserved(Output::new(outcome.frames, reply));
                 self.logged += 1;
+                self.calls += calls_of(step);
                 Ok(LogEntry { step: *step, reply })
             }
             Err(fault) => Err(NodeFault::Refused { fault }),

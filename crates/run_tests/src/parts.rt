@@ -12,6 +12,7 @@ mod links;
 mod logs;
 mod meetings;
 mod nodes;
+mod openings;
 mod orders;
 mod peers;
 mod plain_holdback;

@@ -22,14 +22,14 @@ const ID: LogId = LogId {
     begun: 12,
 };
 
-const HEAD: &str =
+pub(crate) const HEAD: &str =
     "e009c6ff tellwydar log 1\n69771c8e cluster 7\nded1c05f process 0\n91ba8d59 chapter 0\nb56a2825 begun 12\n2f99698f tellwydar record 1\n95118964 front linear\nc2025397 processes 2\ndc21685e registers x\n";
 
-const WRITE: &str = "fbc16c9f 0 call write x 5\n";
+pub(crate) const WRITE: &str = "fbc16c9f 0 call write x 5\n";
 
-const GOT: &str = "92e249cb 0 take 1 000a01020000000000000001\n";
+pub(crate) const GOT: &str = "92e249cb 0 take 1 000a01020000000000000001\n";
 
-const ACKNOWLEDGE: &str = "b9d266ce 0 take 1 001301010000000000000000020000000000000002 = done 0\n";
+pub(crate) const ACKNOWLEDGE: &str = "b9d266ce 0 take 1 001301010000000000000000020000000000000002 = done 0\n";
 
 /// The acknowledgement that another process took the first body.
 const TAKE_GOT: LogEntry = LogEntry {
@@ -230,7 +230,7 @@ fn unfit_entries_have_no_line(rt: HostRuntime) {
 }
 
 /// A node that goes on after the log of these pieces. None where there is no memory, or no such log.
-fn opened(alloc: Global, pieces: &[&str]) -> Option<LoggedNode<Linear>> {
+pub(crate) fn opened(alloc: Global, pieces: &[&str]) -> Option<LoggedNode<Linear>> {
     let text = joined(alloc, pieces).ok()?;
     match read_log(alloc, text.as_bytes(), 0) {
         Ok(read) => LoggedNode::open(alloc, read).ok(),

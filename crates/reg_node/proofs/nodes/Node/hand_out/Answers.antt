@@ -6,7 +6,7 @@ use Rattle.reg_node.proofs.nodes.Node.hand_out.Goals as goal
 pub returns-then-first_held-self-clause-lives : goal.returns-then-first_held-self-clause-lives
 returns-then-first_held-self-clause-lives g c = λ first past is.
     let fields = c.self.inside in
-    let old : NodeState = record { process = fields.process; logged = fields.logged; durable = fields.durable; held = fields.held.items } in
+    let old : NodeState = record { process = fields.process; logged = fields.logged; calls = fields.calls; durable = fields.durable; held = fields.held.items } in
     let count : c.len.result ≡ length fields.held.items = search rules in
     let due : first_held old < fields.durable = let test = c.if-first_held-self.true in omega arith in
     lives_pops g.F.FrontEnd.start first past old c.pop_front.result c.pop_front.new.self.items due c.pop_front.ensures.items
