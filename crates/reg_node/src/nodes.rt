@@ -20,8 +20,8 @@ use std::alloc::{Allocator, Global};
 use std::collections::VecDeque;
 use std::marker::Model;
 
-/// One process, with the counts of the entries and of the calls of its log. What goes out of a step is held back until the owner has said
-/// that the step's entry is durable.
+/// One process, with the counts of the entries and of the calls of its log. What goes out of a step is held back until
+/// the owner has said that the step's entry is durable.
 #[derive(Drop)]
 pub struct Node<F: FrontEnd, A: Allocator + Copy = Global> {
     process: Process<F, A>,
