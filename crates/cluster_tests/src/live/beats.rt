@@ -48,7 +48,10 @@ fn what_comes_ends_a_long_silence(rt: HostRuntime) {
     for look in 1..=126 {
         beat.hear();
         is_tick = beat.look(Some(7), false);
-        assert!(rt; is_tick == LOOKS.contains(&look) && !beat.is_long(), "{look}");
+        assert!(rt;
+            is_tick == LOOKS.contains(&look) && !beat.is_long(),
+            "{look}"
+        );
     }
     is_tick = beat.look(Some(7), false);
     assert!(rt; is_tick && beat.is_long());

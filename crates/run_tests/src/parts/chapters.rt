@@ -29,6 +29,7 @@ const FLAG_OF_FOUR: &[u8] = &[
     4, 0, 0, 0, 0, 0, 0, 0, 0, 0, 0, 0, 0, 0, 0, 0, 1, 0, 0, 0, 0, 0, 0, 0, 2, 0, 0, 0, 0, 0, 0, 0,
     3,
 ];
+
 const ONE_TOO_FEW: &[u8] = &[
     2, 0, 0, 0, 0, 0, 0, 0, 0, 0, 0, 0, 0, 0, 0, 0, 1, 0, 0, 0, 0, 0, 0, 0, 2, 0, 0, 0, 0, 0, 0, 0,
 ];
@@ -166,17 +167,25 @@ fn a_chapter_goes_on_where_something_is_not_accepted(rt: HostRuntime) {
 
 /// What one process alone tells, and whether its chapter is over then.
 const ALONE: &[(bool, &[u8], bool)] = &[
-    (false, &[2, 0, 0, 0, 0, 0, 0, 0, 0, 0, 0, 0, 0, 0, 0, 0, 0], false),
-    (true, &[3, 0, 0, 0, 0, 0, 0, 0, 0, 0, 0, 0, 0, 0, 0, 0, 0], true),
-    (false, &[2, 0, 0, 0, 0, 0, 0, 0, 0, 0, 0, 0, 0, 0, 0, 0, 0], false),
+    (
+        false,
+        &[2, 0, 0, 0, 0, 0, 0, 0, 0, 0, 0, 0, 0, 0, 0, 0, 0],
+        false,
+    ),
+    (
+        true,
+        &[3, 0, 0, 0, 0, 0, 0, 0, 0, 0, 0, 0, 0, 0, 0, 0, 0],
+        true,
+    ),
+    (
+        false,
+        &[2, 0, 0, 0, 0, 0, 0, 0, 0, 0, 0, 0, 0, 0, 0, 0, 0],
+        false,
+    ),
 ];
 
 /// Whether the chapter's own process tells this, and it is kept.
-fn is_told(
-    chapter: &mut Chapter,
-    process: &Process<Linear>,
-    row: &(bool, &[u8], bool),
-) -> bool {
+fn is_told(chapter: &mut Chapter, process: &Process<Linear>, row: &(bool, &[u8], bool)) -> bool {
     let (is_quiet, bytes, is_over) = *row;
     match chapter.tell(process, is_quiet) {
         Ok(told) => told.as_slice() == bytes && chapter.is_over() == is_over,

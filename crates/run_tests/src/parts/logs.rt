@@ -29,7 +29,8 @@ pub(crate) const WRITE: &str = "fbc16c9f 0 call write x 5\n";
 
 pub(crate) const GOT: &str = "92e249cb 0 take 1 000a01020000000000000001\n";
 
-pub(crate) const ACKNOWLEDGE: &str = "b9d266ce 0 take 1 001301010000000000000000020000000000000002 = done 0\n";
+pub(crate) const ACKNOWLEDGE: &str =
+    "b9d266ce 0 take 1 001301010000000000000000020000000000000002 = done 0\n";
 
 /// The acknowledgement that another process took the first body.
 const TAKE_GOT: LogEntry = LogEntry {
