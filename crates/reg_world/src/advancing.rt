@@ -17,7 +17,7 @@ use std::alloc::{AllocError, Allocator};
 #[inline(always)]
 pub(crate) fn advance<F: FrontEnd, A: Allocator + Copy, W: WireStore<A>>(
     members: &mut Vec<Member<F, A, W>, A>,
-    book: &mut Book<A>,
+    book: &mut Book<A, W::Events>,
     event: Event,
     moved: &(u8, Step),
     brief: &mut Brief<A>,
@@ -40,7 +40,7 @@ pub(crate) fn advance<F: FrontEnd, A: Allocator + Copy, W: WireStore<A>>(
 #[inline(always)]
 fn step_parts<F: FrontEnd, A: Allocator + Copy, W: WireStore<A>>(
     members: &mut Vec<Member<F, A, W>, A>,
-    book: &mut Book<A>,
+    book: &mut Book<A, W::Events>,
     brief: &mut Brief<A>,
     event: Event,
 ) -> Result<(), WorldFault>
@@ -57,7 +57,7 @@ fn step_parts<F: FrontEnd, A: Allocator + Copy, W: WireStore<A>>(
 /// Makes the events that are ahead, one after another, up to the first that is refused.
 pub(crate) fn run_ahead<F: FrontEnd, A: Allocator + Copy, W: WireStore<A>>(
     members: &mut Vec<Member<F, A, W>, A>,
-    book: &mut Book<A>,
+    book: &mut Book<A, W::Events>,
     brief: &mut Brief<A>,
     count: usize,
 ) -> Result<(), RunFault>

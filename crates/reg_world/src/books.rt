@@ -8,34 +8,34 @@ ghost use Rattle.reg_world.specs.Tallies.{Tally, no_calls};
 ghost use Rattle.reg_world.specs.Witnesses.{is_after as is_after_of, last_stamp as last_stamp_of};
 ghost use Rattle.reg_world.specs.Pages.{entered, copied_in, tallies_after, tally_after, calls_after, last_casts, first_in, firsts_in, tally_at, number_at, TimesDiffer, CallFits, MayEnter};
 
-use crate::accepted::Accepted;
 use crate::callers::Caller;
+use crate::events::EventStore;
 use crate::members::StepEffect;
 use crate::order::{CopyRead, First};
 use crate::witnesses::{is_after, last_stamp};
 use reg_base::{Delivered, OpId, Shape, Stamp};
 use reg_checkers::{Entry, History};
 use reg_process::{Event, Reply, Step};
-use std::alloc::{AllocError, Allocator, Global};
+use std::alloc::{AllocError, Allocator};
 use std::marker::Model;
 
 /// What a world tells of its run: the events that it accepted, the calls and answers, each cast's first delivery and
 /// the reads from a copy, with what is kept of the operations of each process.
 #[derive(Drop)]
-pub(crate) struct Book<A: Allocator + Copy = Global> {
-    accepted: Accepted<A>,
+pub(crate) struct Book<A: Allocator + Copy, E: EventStore<A>> {
+    accepted: E,
     history: History<A>,
     order: Vec<First, A>,
     reads: Vec<CopyRead, A>,
     callers: Vec<Caller<A>, A>,
 }
 
-impl<A: Allocator + Copy> Model for Book<A> {
+impl<A: Allocator + Copy, E: EventStore<A>> Model for Book<A, E> {
     ghost use Rattle.reg_world.specs.Pages.{Pages};
 
     ghost Value = { Pages };
 
-    ghost view = { λ b. record { shape = b.history.shape; accepted = b.accepted.taken; ahead = b.accepted.ahead; entries = b.history.entries; order = b.order.items; reads = b.reads.items; tallies = b.callers.items } };
+    ghost view = { λ b. record { shape = b.history.shape; accepted = E.taken b.accepted; ahead = E.ahead b.accepted; entries = b.history.entries; order = b.order.items; reads = b.reads.items; tallies = b.callers.items } };
 }
 
 /// What is kept of each of the given number of processes, which called nothing yet.
@@ -50,16 +50,16 @@ fn new_callers<A: Allocator + Copy>(alloc: A, count: u32) -> Result<Vec<Caller<A
 }
 
 /// Makes room in each list for what an event can add. The lists stay.
-fn reserve_all<A: Allocator + Copy>(
-    accepted: &mut Accepted<A>,
+fn reserve_all<A: Allocator + Copy, E: EventStore<A>>(
+    accepted: &mut E,
     history: &mut History<A>,
     order: &mut Vec<First, A>,
     reads: &mut Vec<CopyRead, A>,
     firsts: usize,
 ) -> Result<(), AllocError>
-    ensures accepted { accepted.new.taken ≡ accepted.old.taken }
-    ensures ahead { accepted.new.ahead ≡ accepted.old.ahead }
-    ensures accepted_room { OnOk result (1 ≤ accepted.new.room) }
+    ensures accepted { E.taken accepted.new ≡ E.taken accepted.old }
+    ensures ahead { E.ahead accepted.new ≡ E.ahead accepted.old }
+    ensures accepted_room { OnOk result (1 ≤ E.room accepted.new) }
     ensures shape { history.new.shape ≡ history.old.shape }
     ensures entries { history.new.entries ≡ history.old.entries }
     ensures entries_room { OnOk result (2 ≤ history.new.room) }
@@ -218,15 +218,15 @@ fn push_firsts<A: Allocator + Copy>(
     }
 }
 
-impl<A: Allocator + Copy> Book<A> {
+impl<A: Allocator + Copy, E: EventStore<A>> Book<A, E> {
     /// The book of a run in which nothing happened yet.
-    pub(crate) fn new(alloc: A, shape: Shape) -> Result<Book<A>, AllocError>
+    pub(crate) fn new(alloc: A, shape: Shape) -> Result<Book<A, E>, AllocError>
         ensures { IfOk result (λ b. b ≡ record { shape = shape; accepted = []; ahead = []; entries = []; order = []; reads = []; tallies = replicate shape.processes no_calls }) }
     {
         let history = History::new(alloc, shape)?;
         let callers = new_callers(alloc, shape.processes())?;
         Ok(Book {
-            accepted: Accepted::new(alloc),
+            accepted: E::new(alloc),
             history,
             order: Vec::new(alloc),
             reads: Vec::new(alloc),
@@ -235,11 +235,11 @@ impl<A: Allocator + Copy> Book<A> {
     }
 
     /// Puts these events ahead, before any was accepted. Nothing else changes.
-    pub(crate) fn put_ahead(&mut self, events: Vec<Event, A>)
+    pub(crate) fn put_ahead(&mut self, mut events: Vec<Event, A>)
         requires { self.old.accepted ≡ [] }
         ensures { self.new ≡ record self.old { ahead = events.items } }
     {
-        self.accepted.put_ahead(events);
+        self.accepted.put_ahead(&mut events);
     }
 
     /// The first event that is ahead.
@@ -250,10 +250,10 @@ impl<A: Allocator + Copy> Book<A> {
     }
 
     /// The events accepted so far.
-    pub(crate) fn accepted(&self) -> &[Event]
-        ensures { result.now ≡ self.now.accepted }
+    pub(crate) fn accepted(&self) -> &E
+        ensures { E.taken result.now ≡ self.now.accepted }
     {
-        self.accepted.as_slice()
+        &self.accepted
     }
 
     /// The history alone.

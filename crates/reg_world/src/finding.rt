@@ -4,6 +4,7 @@ ghost use Rattle.reg_world.specs.WorldParts.{call_refusal as call_refusal_of, wi
 
 use crate::books::Book;
 use crate::callers::Caller;
+use crate::events::EventStore;
 use crate::faults::WorldFault;
 use crate::members::Member;
 use crate::stores::WireStore;
@@ -111,7 +112,7 @@ fn take_step(frame: Result<Frame, WorldFault>, from: u8, to: u8) -> Result<(u8, 
 #[inline(always)]
 fn found_step<F: FrontEnd, A: Allocator + Copy, W: WireStore<A>>(
     members: &[Member<F, A, W>],
-    book: &Book<A>,
+    book: &Book<A, W::Events>,
     event: &Event,
 ) -> Result<(u8, Step), WorldFault>
     ensures { result ≡ found_step_of members.now book.now event.now }
@@ -145,7 +146,7 @@ fn found_step<F: FrontEnd, A: Allocator + Copy, W: WireStore<A>>(
 #[inline(always)]
 pub(crate) fn found<F: FrontEnd, A: Allocator + Copy, W: WireStore<A>>(
     members: &[Member<F, A, W>],
-    book: &Book<A>,
+    book: &Book<A, W::Events>,
     event: &Event,
 ) -> Result<(u8, Step), WorldFault>
     ensures { result ≡ found_of members.now book.now event.now }

@@ -4,11 +4,13 @@ ghost use Rattle.reg_frames.specs.declared.bodies.Body.TheVariants.{Ack};
 ghost use Rattle.reg_world.specs.Words.{HasRoom};
 ghost use Rattle.reg_world.specs.Packed.{frame_of, IsKept, Says, Grows};
 
-use crate::stores::WireStore;
+use crate::accepted::Accepted;
+use crate::stores::{ListingStore, WireStore};
 use crate::strips::Strips;
 use crate::words::{FIRST_COUNT, MOST_SLOTS, Slot, Word, numbers_from};
 use reg_base::limits::MOST_RESENT;
 use reg_frames::{Body, Frame};
+use reg_process::Event;
 use std::alloc::{AllocError, Allocator, Global};
 use std::marker::Model;
 
@@ -160,6 +162,8 @@ impl<A: Allocator + Copy> Model for PackedWires<A> {
 }
 
 impl<A: Allocator + Copy> WireStore<A> for PackedWires<A> {
+    type Events = Accepted<A>;
+
     ghost wires = { λ w. w };
 
     fn new(alloc: A, count: u32) -> Result<PackedWires<A>, AllocError> {
@@ -196,5 +200,11 @@ impl<A: Allocator + Copy> WireStore<A> for PackedWires<A> {
         self.strips
             .push_all(usize::from(to), &words[..count as usize])?;
         Ok(true)
+    }
+}
+
+impl<A: Allocator + Copy> ListingStore<A> for PackedWires<A> {
+    fn listed(events: &Accepted<A>) -> &[Event] {
+        events.as_slice()
     }
 }

@@ -15,12 +15,13 @@ ghost use Rattle.reg_world.specs.WorldParts.{IsWorld};
 
 use crate::advancing::{advance, run_ahead};
 use crate::books::Book;
+use crate::events::EventStore;
 use crate::faults::{RunFault, WorldFault};
 use crate::finding::found;
 use crate::members::{Member, new_members};
 use crate::order::{CopyRead, First};
 use crate::slices::Wires;
-use crate::stores::WireStore;
+use crate::stores::{ListingStore, WireStore};
 use crate::witnesses::{points_of, witness_of};
 use reg_base::limits::MOST_EVENTS;
 use reg_base::{OpId, Shape};
@@ -40,7 +41,7 @@ pub struct World<F: FrontEnd, A: Allocator + Copy = Global, W: WireStore<A> = Wi
     alloc: A,
     failed: bool,
     members: Vec<Member<F, A, W>, A>,
-    book: Book<A>,
+    book: Book<A, W::Events>,
     /// What went out of the last event.
     brief: Brief<A>,
 }
@@ -181,16 +182,9 @@ impl<F: FrontEnd, A: Allocator + Copy, W: WireStore<A>> World<F, A, W> {
     pub fn events(&self) -> u32
         ensures value { result ≡ length self.now.accepted }
         ensures few { result ≤ MOST_EVENTS }
-    {
-        self.book.accepted().len() as u32
-    }
-
-    /// The events accepted so far, in order. The run that the world tells of is the run of these events.
-    pub fn accepted(&self) -> &[Event]
-        ensures value { result.now ≡ self.now.accepted }
         ensures all { (run_in F.start self.now).accepted ≡ self.now.accepted }
     {
-        self.book.accepted()
+        self.book.accepted().len() as u32
     }
 
     /// The calls and answers, each with the number of its event, from 0.
@@ -333,6 +327,16 @@ impl<F: FrontEnd, A: Allocator + Copy, W: WireStore<A>> World<F, A, W> {
         // (for the proof: by this getter's contract the history is one, each entry in place)
         history.entries();
         Ok((history, ids))
+    }
+}
+
+impl<F: FrontEnd, A: Allocator + Copy, W: ListingStore<A>> World<F, A, W> {
+    /// The events accepted so far, in order. The run that the world tells of is the run of these events.
+    pub fn accepted(&self) -> &[Event]
+        ensures value { result.now ≡ self.now.accepted }
+        ensures all { (run_in F.start self.now).accepted ≡ self.now.accepted }
+    {
+        W::listed(self.book.accepted())
     }
 }
 

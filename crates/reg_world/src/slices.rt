@@ -1,9 +1,11 @@
 //! The wires of one process, with slices of its frames.
 ghost use Rattle.std.specs.Prelude.{◌≡◌, [], slice_index_or};
 
-use crate::stores::WireStore;
+use crate::accepted::Accepted;
+use crate::stores::{ListingStore, WireStore};
 use crate::strips::{Item, Strips};
 use reg_frames::Frame;
+use reg_process::Event;
 use std::alloc::{AllocError, Allocator, Global};
 use std::marker::Model;
 
@@ -42,6 +44,8 @@ impl<A: Allocator + Copy> Wires<A> {
 }
 
 impl<A: Allocator + Copy> WireStore<A> for Wires<A> {
+    type Events = Accepted<A>;
+
     ghost wires = { λ w. w };
 
     fn new(alloc: A, count: u32) -> Result<Wires<A>, AllocError> {
@@ -67,5 +71,11 @@ impl<A: Allocator + Copy> WireStore<A> for Wires<A> {
     #[inline(always)]
     fn put_again(&mut self, _to: u8, _first: u64, _count: u64) -> Result<bool, AllocError> {
         Ok(false)
+    }
+}
+
+impl<A: Allocator + Copy> ListingStore<A> for Wires<A> {
+    fn listed(events: &Accepted<A>) -> &[Event] {
+        events.as_slice()
     }
 }

@@ -1,4 +1,4 @@
-//! What keeps the wires of one process.
+//! What keeps the wires of one process, and with them which list of events a world keeps.
 ghost use Rattle.std.specs.Prelude.{◌≡◌, ◌<◌, ◌≤◌, ◌++◌, ◌∷◌, List, [], true, false, length, replicate, IfOk, OnOk, slice_get, slice_set, slice_index_or};
 ghost use Rattle.reg_base.specs.declared.limits.TheConstants.{MOST_RESENT};
 ghost use Rattle.reg_frames.specs.declared.bodies.Body.{Body};
@@ -6,11 +6,16 @@ ghost use Rattle.reg_frames.specs.declared.bodies.Frame.{Frame};
 ghost use Rattle.reg_process.specs.Process.{numbered_from};
 ghost use Rattle.reg_world.specs.Sent.{AreOn};
 
+use crate::events::EventStore;
 use reg_frames::Frame;
+use reg_process::Event;
 use std::alloc::{AllocError, Allocator};
 
 /// All frames that a process ever put for each process.
 pub trait WireStore<A: Allocator + Copy>: Drop {
+    /// What keeps the events of a world with these wires.
+    type Events: EventStore<A>;
+
     ghost wires: { Self → List (List Frame) };
 
     /// A wire to each of `count` processes, with no frame.
@@ -39,4 +44,11 @@ pub trait WireStore<A: Allocator + Copy>: Drop {
         requires few { count ≤ MOST_RESENT }
         ensures again { IfOk result (λ done. done ≡ true → (bodies : List Body) → length bodies ≡ count → AreOn (slice_index_or (wires self.old) to []) (numbered_from first bodies) → wires self.new ≡ slice_set (wires self.old) to (slice_index_or (wires self.old) to [] ++ numbered_from first bodies)) }
         ensures kept { IfOk result (λ done. done ≡ false → wires self.new ≡ wires self.old) };
+}
+
+/// Wires whose worlds can list the events that they accepted.
+pub trait ListingStore<A: Allocator + Copy>: WireStore<A> {
+    /// The events that were accepted.
+    fn listed(events: &Self::Events) -> &[Event]
+        ensures { result.now ≡ Self.Events.taken events.now };
 }

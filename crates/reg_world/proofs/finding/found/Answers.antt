@@ -4,10 +4,10 @@ use Rattle.reg_world.proofs.finding.found.Goals as goal
 
 pub returns : goal.returns
 returns g c =
-    let a = ap length c.accepted.ensures in let l = c.if-accepted.false in
+    let a = c.len.ensures ∙ ap length c.accepted.ensures in let l = c.if-len.false in
     c.found_step.ensures ∙ one_more c.args.members.now c.args.book.now c.args.event.now (omega (arith, a, l))
 
-pub returns-then-accepted : goal.returns-then-accepted
-returns-then-accepted g c =
-    let a = ap length c.accepted.ensures in let l = c.if-accepted.true in
+pub returns-then-len : goal.returns-then-len
+returns-then-len g c =
+    let a = c.len.ensures ∙ ap length c.accepted.ensures in let l = c.if-len.true in
     none_more c.args.members.now c.args.book.now c.args.event.now (omega (arith, a, l))
