@@ -1,6 +1,7 @@
 pub mod OnWires
 pub mod Sharing
 pub mod Packing
+pub mod Outlining
 pub mod Numbering
 pub mod run
 pub mod one_order

@@ -1,5 +1,5 @@
 //! All processes and wires, over a list of events. The wires of one process are kept as lists of frames or as lists of
-//! words.
+//! words, and the events as a list or in eight bytes each.
 #![tactic(auto)]
 
 mod accepted;
@@ -13,12 +13,15 @@ mod fronts;
 pub mod laws;
 mod members;
 mod order;
+mod outlines;
 mod packed;
+mod packed_events;
 mod putting;
 mod running;
 mod slices;
 mod stores;
 mod strips;
+mod unlisted;
 mod witnesses;
 mod words;
 
@@ -31,3 +34,4 @@ pub use reg_process::Event;
 pub use running::World;
 pub use slices::Wires;
 pub use stores::{ListingStore, WireStore};
+pub use unlisted::UnlistedWires;

@@ -1,6 +1,6 @@
 -- A step of a member, from the brief of its process.
 use Rattle.std.proofs.Common.{◌≡◌, ℕ, ◌<◌, List, length, Option, Some, None, Result, Ok, Err, refl, sym, ap, subst, ◌∙◌, arith}
-use Rattle.std.specs.Prelude.{MatchResult, IfOk, IfErr, OnOk, cond}
+use Rattle.std.specs.Prelude.{MatchResult, IfErr, OnOk, cond}
 use Rattle.reg_base.specs.Order.{In}
 use Rattle.reg_base.specs.declared.stamps.Stamp.{Stamp}
 use Rattle.reg_base.specs.declared.stamps.Delivered.{Delivered}
