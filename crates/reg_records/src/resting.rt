@@ -218,7 +218,6 @@ pub fn settle<F: FrontEnd, A: Allocator + Copy, W: WireStore<A>>(
         return Err(SettleFault::Failed);
     }
     // (for the proof: by these getters' contracts the world is the run of its accepted events, and its history theirs)
-    world.accepted();
     world.history();
     let before = world.events();
     let mut next = 0;

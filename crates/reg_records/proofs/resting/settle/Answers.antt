@@ -9,7 +9,7 @@ pub loop-round-init : goal.loop-round-init
 loop-round-init g c =
     let start = g.F.FrontEnd.start in
     let old = c.args.world.now in
-    let on : IsGoingOn start old = record { going = sym c.if-has_failed.ensures; accepted = c.accepted.ensures.all; history = sym c.history.ensures.value ∙ c.history.ensures.entries } in
+    let on : IsGoingOn start old = record { going = sym c.if-has_failed.ensures; accepted = c.events-before.ensures.all; history = sym c.history.ensures.value ∙ c.history.ensures.entries } in
     record {
       nears = nears_none start old on;
       events = omega arith;
