@@ -15,7 +15,7 @@ use reg_history::Report;
 use reg_workload::{
     Play, SeedWords, Workload, WorkloadFault, play_fair_in, play_seeded_in, read_table,
 };
-use reg_world::{NamedFront, PackedWires, WireStore};
+use reg_world::{NamedFront, UnlistedWires, WireStore};
 use std::alloc::{AllocError, Allocator, Global};
 use std::io::Write;
 
@@ -81,7 +81,7 @@ fn report_of<F: NamedFront, A: Allocator + Copy>(
     ensures shows { IfOk result (λ r. ShowsPlay fair F.start work (PointsOf F.front) r) }
     ensures why { IfErr result (λ f. f ≡ Fault.OutOfMemory) }
 {
-    let Ok(play) = play_by::<F, A, PackedWires<A>>(alloc, &work, fair) else {
+    let Ok(play) = play_by::<F, A, UnlistedWires<A>>(alloc, &work, fair) else {
         return Err(Fault::OutOfMemory);
     };
     report_run(alloc, work.front, work.names, play.world)

@@ -81,7 +81,6 @@ fn firsts_at_events<F: FrontEnd, A: Allocator + Copy, W: WireStore<A>>(world: &W
     ensures { (k : ℕ) (f : First) → IsAt (run_in F.start world.now).order k f → f.at ≤ LAST_EVENT }
 {
     world.order();
-    world.accepted();
     world.events();
 }
 

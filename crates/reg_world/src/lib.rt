@@ -25,11 +25,13 @@ mod unlisted;
 mod witnesses;
 mod words;
 
+pub use accepted::Accepted;
 pub use events::EventStore;
 pub use faults::{RunFault, WorldFault};
 pub use fronts::NamedFront;
 pub use order::{CopyRead, First};
 pub use packed::PackedWires;
+pub use packed_events::PackedEvents;
 pub use reg_process::Event;
 pub use running::World;
 pub use slices::Wires;

@@ -16,7 +16,7 @@ use crate::tables::undrawn::count_undrawn;
 use crate::told::tell;
 use reg_front::FrontEnd;
 use reg_workload::{Play, SeedWords, Workload, play_seeded_in};
-use reg_world::{PackedWires, World};
+use reg_world::{UnlistedWires, World};
 use std::alloc::{Allocator, Global};
 
 /// The most plays of a table.
@@ -37,7 +37,7 @@ pub struct Outcomes<A: Allocator + Copy = Global> {
 /// Counts what a finished play told.
 fn count_finished<F: FrontEnd, A: Allocator + Copy>(
     alloc: A,
-    world: &World<F, A, PackedWires<A>>,
+    world: &World<F, A, UnlistedWires<A>>,
     seed: u64,
     tallies: &mut Tallies<A>,
 ) -> Result<(), InterleavingFault>
@@ -72,9 +72,9 @@ fn count_play<F: FrontEnd, A: Allocator + Copy>(
     ensures refused { IfErr result (IsPlayFault F.start work.now seed) }
 {
     let words = SeedWords::new(seed);
-    let play: Play<F, A, PackedWires<A>> = play_seeded_in(alloc, work, words)?;
+    let play: Play<F, A, UnlistedWires<A>> = play_seeded_in(alloc, work, words)?;
     // (for the proof: by these getters' contracts the world is the run of its events)
-    play.world.accepted();
+    play.world.events();
     play.world.history();
     if play.finished {
         count_finished(alloc, &play.world, seed, tallies)

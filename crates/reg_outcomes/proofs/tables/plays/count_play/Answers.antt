@@ -14,7 +14,7 @@ returns-then-play-clause-counted g c =
     let work = c.args.work.now in
     let made = c.in_ok-play.play.world in
     let is = is_play_from start work c.args.seed made c.new-words.result c.in_ok-play.ensures.turns c.new-words.ensures in
-    let answered = finished_where_answered start g.met.F.FrontEnd.lawful work.shape work.scripts work.budget made c.in_ok-play.play.finished c.in_ok-play.ensures.play c.requires.scripts c.accepted.ensures.all (sym c.history.ensures.value ∙ c.history.ensures.entries) in
+    let answered = finished_where_answered start g.met.F.FrontEnd.lawful work.shape work.scripts work.budget made c.in_ok-play.play.finished c.in_ok-play.ensures.play c.requires.scripts c.events.ensures.all (sym c.history.ensures.value ∙ c.history.ensures.entries) in
     on_ok c.count_finished.result (λ told. (told.0, seen_finished start work c.args.seed made is told.0 c.in_ok-play.play.finished c.if-play.true c.in_ok-play.ensures.play answered told.1, told.2)) c.count_finished.ensures.counted
 
 pub returns-then-play-clause-refused : goal.returns-then-play-clause-refused
@@ -32,6 +32,6 @@ returns-clause-counted g c =
     let work = c.args.work.now in
     let made = c.in_ok-play.play.world in
     let is = is_play_from start work c.args.seed made c.new-words.result c.in_ok-play.ensures.turns c.new-words.ensures in
-    let answered = finished_where_answered start g.met.F.FrontEnd.lawful work.shape work.scripts work.budget made c.in_ok-play.play.finished c.in_ok-play.ensures.play c.requires.scripts c.accepted.ensures.all (sym c.history.ensures.value ∙ c.history.ensures.entries) in
+    let answered = finished_where_answered start g.met.F.FrontEnd.lawful work.shape work.scripts work.budget made c.in_ok-play.play.finished c.in_ok-play.ensures.play c.requires.scripts c.events.ensures.all (sym c.history.ensures.value ∙ c.history.ensures.entries) in
     let seen = seen_unfinished start work c.args.seed made is c.in_ok-play.play.finished c.if-play.false c.in_ok-play.ensures.play answered in
     (seen.0, seen.1, λ plays counted. c.add_unfinished.ensures plays seen.0 seen.2 counted)
