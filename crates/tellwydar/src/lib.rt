@@ -31,5 +31,6 @@ pub use reg_workload::{
     play_fair, play_fair_in, play_seeded, play_seeded_in,
 };
 pub use reg_world::{
-    CopyRead, Event, First, PackedWires, RunFault, WireStore, Wires, World, WorldFault,
+    Accepted, CopyRead, Event, EventStore, First, ListingStore, PackedEvents, PackedWires,
+    RunFault, UnlistedWires, WireStore, Wires, World, WorldFault,
 };
