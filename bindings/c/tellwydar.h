@@ -364,7 +364,8 @@ enum {
     TELLWYDAR_NODE_LOST = 11,      /* 1 if it has found out that its log was lost */
     TELLWYDAR_NODE_HEARD_ALL = 12, /* 1 if it has heard from all others */
     TELLWYDAR_NODE_WHOLE = 13,     /* how many bytes of the text that was opened last are the log */
-    TELLWYDAR_NODE_PLACE = 14      /* the line or the entry that the last refusal to open names, else 0 */
+    TELLWYDAR_NODE_PLACE = 14,     /* the line or the entry that the last refusal to open names, else 0 */
+    TELLWYDAR_NODE_CALLS = 15      /* how many entries of its log are calls */
 };
 uint64_t tellwydar_node_look(struct tellwydar_node *handle, uint32_t what, uint16_t reg);
 /* What its process knows of another one, as `tellwydar_process_known`, and besides: */
@@ -423,6 +424,33 @@ enum {
  * stands for the usual number. The result is 0, TELLWYDAR_NO_SHAPE, or one of those above. */
 uint32_t tellwydar_room(uint32_t processes, uint32_t registers, uint64_t operations, uint64_t entries,
                         struct tellwydar_chapter_room *room);
+
+/* A chapter behind another one begins with what that one ended with: process 0 first calls the writes of all registers
+ * that weren't 0, and nobody calls anything else until all of them are delivered at itself. */
+
+/* Sets the room of the node's chapter, by the numbers of `tellwydar_room`. It comes behind no other one then, and
+ * nobody has asked for its end. The result is 0, or TELLWYDAR_CLOSED, and then nothing has changed. */
+uint32_t tellwydar_node_set_room(struct tellwydar_node *handle, uint64_t operations, uint64_t entries, uint64_t ahead);
+/* Tells with which values of the registers, in their order, the chapter before ended. The result is 0; or
+ * TELLWYDAR_CLOSED where no room was set, TELLWYDAR_NO_SHAPE where there are more than 4,096, or TELLWYDAR_NO_MEMORY,
+ * and then nothing has changed. */
+uint32_t tellwydar_node_follow(struct tellwydar_node *handle, const uint64_t *values, size_t values_length);
+/* Asks for the end of the node's chapter, as is due where another node tells how far it has come. The result is 0, or
+ * TELLWYDAR_CLOSED where no room was set. */
+uint32_t tellwydar_node_end(struct tellwydar_node *handle);
+/* What to look at. All are 0 until a room was set. */
+enum {
+    TELLWYDAR_COURSE_ENDING = 0,    /* 1 where the chapter is to end: somebody asked, or there is little room left */
+    TELLWYDAR_COURSE_FAR_AHEAD = 1, /* 1 where so many own casts are on their way that no other one is made */
+    TELLWYDAR_COURSE_OPENING = 2,   /* 1 where a write of the chapter before isn't delivered here, or goes on */
+    TELLWYDAR_COURSE_QUIET = 3,     /* 1 where the node calls nothing more in this chapter, and no operation goes on */
+    TELLWYDAR_COURSE_CALLS = 4,     /* how many calls weren't made to write what the chapter before ended with */
+    TELLWYDAR_COURSE_NEXT = 5,      /* 1 where a register of the chapter before is to be written next, */
+    TELLWYDAR_COURSE_REGISTER = 6,  /* its number, */
+    TELLWYDAR_COURSE_VALUE = 7      /* and its value */
+};
+/* `running` is 1 where an operation runs or its reply isn't handed out, and else 0. */
+uint64_t tellwydar_node_course(struct tellwydar_node *handle, uint32_t what, uint32_t running);
 
 /* Gives back what the node holds, but for the handle's own block: call `tellwydar_node_free` in its place. */
 void tellwydar_node_close(struct tellwydar_node *handle);

@@ -266,6 +266,44 @@ static void chapters(struct written *it) {
                           found.most == 1048537);
 }
 
+/* The second of two chapters, which comes behind the values 0 and 7, as process 0 sees it. */
+static void courses(struct written *it) {
+    struct tellwydar_log log = of_process(0);
+    uint64_t values[2] = {0, 7}, zeros[4097] = {0};
+    expect("a node", tellwydar_node_new(&it->node) == 0 && begun(&log, "x y", it) == 0);
+    expect("none yet", tellwydar_node_set_room(it->node, 3, 20, 5) == TELLWYDAR_CLOSED);
+    expect("opened", reopened(it, it->length, 0) == 0 && tellwydar_node_hear(it->node, 1, 0) == 0);
+    expect("no room", tellwydar_node_follow(it->node, values, 2) == TELLWYDAR_CLOSED &&
+                          tellwydar_node_end(it->node) == TELLWYDAR_CLOSED &&
+                          tellwydar_node_course(it->node, TELLWYDAR_COURSE_CALLS, 0) == 0);
+    expect("a room", tellwydar_node_set_room(it->node, 3, 20, 1) == 0);
+    expect("too many values", tellwydar_node_follow(it->node, zeros, 4097) == TELLWYDAR_NO_SHAPE);
+    expect("no opening", tellwydar_node_course(it->node, TELLWYDAR_COURSE_OPENING, 0) == 0);
+    expect("values", tellwydar_node_follow(it->node, values, 2) == 0);
+    expect("an opening", tellwydar_node_course(it->node, TELLWYDAR_COURSE_OPENING, 0) == 1);
+    expect("its write", tellwydar_node_course(it->node, TELLWYDAR_COURSE_NEXT, 0) == 1 &&
+                            tellwydar_node_course(it->node, TELLWYDAR_COURSE_REGISTER, 0) == 1 &&
+                            tellwydar_node_course(it->node, TELLWYDAR_COURSE_VALUE, 0) == 7);
+    expect("called", tellwydar_node_call(it->node, TELLWYDAR_WRITE, 1, 7) == 0 && seen(it, TELLWYDAR_NODE_CALLS) == 1);
+    expect("is the only one", tellwydar_node_course(it->node, TELLWYDAR_COURSE_NEXT, 1) == 0);
+    expect("and not the caller's", tellwydar_node_course(it->node, TELLWYDAR_COURSE_CALLS, 1) == 0);
+    expect("it is on its way", tellwydar_node_course(it->node, TELLWYDAR_COURSE_FAR_AHEAD, 1) == 1);
+    expect("nobody asked", tellwydar_node_course(it->node, TELLWYDAR_COURSE_ENDING, 1) == 0);
+    expect("somebody does", tellwydar_node_end(it->node) == 0 &&
+                                tellwydar_node_course(it->node, TELLWYDAR_COURSE_ENDING, 1) == 1);
+    expect("it is acknowledged", tellwydar_node_take(it->node, 1, got, sizeof got) == 0 &&
+                                     tellwydar_node_take(it->node, 1, ack, sizeof ack) == 0);
+    expect("its reply is held", tellwydar_node_course(it->node, TELLWYDAR_COURSE_OPENING, 1) == 1 &&
+                                    tellwydar_node_course(it->node, TELLWYDAR_COURSE_QUIET, 1) == 0);
+    expect("and then not", tellwydar_node_course(it->node, TELLWYDAR_COURSE_OPENING, 0) == 0 &&
+                               tellwydar_node_course(it->node, TELLWYDAR_COURSE_QUIET, 0) == 1);
+    expect("a new room", tellwydar_node_set_room(it->node, 1, 20, 5) == 0 &&
+                             tellwydar_node_course(it->node, TELLWYDAR_COURSE_CALLS, 0) == 1 &&
+                             tellwydar_node_course(it->node, TELLWYDAR_COURSE_ENDING, 0) == 1);
+    expect("no such number", tellwydar_node_course(it->node, 8, 0) == 0);
+    tellwydar_node_free(it->node);
+}
+
 int main(void) {
     struct written writer = {.node = NULL}, other = {.node = NULL};
     expect("a handle", tellwydar_node_new(&writer.node) == 0 && writer.node != NULL);
@@ -281,6 +319,7 @@ int main(void) {
     other_node(&other);
     write_and_read(&writer, &other);
     chapters(&other);
+    courses(&other);
     printf("%d passed, %d failed\n", passed, failed);
     return failed != 0;
 }

@@ -11,3 +11,4 @@ pub mod Nodes
 pub mod NodeChapters
 pub mod RoomRows
 pub mod NodePeers
+pub mod NodeCourses

@@ -31,7 +31,7 @@ use Rattle.reg_c.specs.declared.nodes.KeptNode.TheVariants.{Linear, LocalRead, L
 use Rattle.reg_c.specs.declared.node_parts.NodeLook.{NodeLook}
 use Rattle.reg_c.specs.declared.node_parts.NodeLook.TheVariants.{OfProcess, OfNode, Whole, Place}
 use Rattle.reg_c.specs.declared.node_parts.NodePart.{NodePart}
-use Rattle.reg_c.specs.declared.node_parts.NodePart.TheVariants.{Logged, Durable, Stopped, Lost, HeardAll}
+use Rattle.reg_c.specs.declared.node_parts.NodePart.TheVariants.{Logged, Durable, Calls, Stopped, Lost, HeardAll}
 use Rattle.reg_c.specs.declared.parts.ProcessLook.TheVariants.{OfState, ReplyValue, ReplyPlace}
 use Rattle.reg_c.specs.Events.{no_event, no_frame, no_world}
 use Rattle.reg_c.specs.NodeCodes.{handed_code, hello_code, log_code, log_place, logged_code, not_logged, open_code, open_place}
@@ -40,7 +40,7 @@ use Rattle.reg_c.specs.Worlds.{reply_place, reply_value, seen}
 
 -- what is held at first: no node, no bytes, and nothing that was handed out
 abbrev pub IsNothing : HeldNode → Type 0
-IsNothing h = (h.node ≡ Closed) × (h.bytes.items ≡ []) × (h.output ≡ None) × (h.chapter ≡ None) × (h.peers ≡ None) × (h.whole ≡ 0) × (h.place ≡ 0)
+IsNothing h = (h.node ≡ Closed) × (h.bytes.items ≡ []) × (h.output ≡ None) × (h.chapter ≡ None) × (h.peers ≡ None) × (h.course ≡ None) × (h.whole ≡ 0) × (h.place ≡ 0)
 
 -- Opening
 
@@ -71,7 +71,7 @@ pub record IsReadAs (text : List ℕ) (durable : ℕ) (j : Journal) : Type 0 whe
   pub enough : durable ≤ length j.entries
 
 -- a node goes on after the log that the text is, of which this many bytes are the log; no bytes of a step are held,
--- nothing was handed out, and no peer was heard
+-- nothing was handed out, no peer was heard, and its chapter has no course
 pub record OpensNode (text : List ℕ) (durable : ℕ) (h : HeldNode) : Type 0 where
   pub journal : Journal
   pub read : IsReadAs text durable journal
@@ -81,6 +81,7 @@ pub record OpensNode (text : List ℕ) (durable : ℕ) (h : HeldNode) : Type 0 w
   pub output : h.output ≡ None
   pub chapter : h.chapter ≡ Some (first_chapter journal)
   pub peers : h.peers ≡ Some (first_beats journal.shape.processes)
+  pub course : h.course ≡ None
 
 -- no log is read, for this fault
 pub record IsUnread (text : List ℕ) (durable code place : ℕ) : Type 0 where
@@ -214,6 +215,7 @@ flag is = cond is 1 0
 abbrev pub node_part : NodePart → LoggedState → ℕ
 node_part Logged l = l.meeting.node.logged
 node_part Durable l = l.meeting.node.durable
+node_part Calls l = l.meeting.node.calls
 node_part Stopped l = flag l.stopped
 node_part Lost l = flag l.meeting.lost
 node_part HeardAll l = flag (all_heard l.meeting.heard)
@@ -234,7 +236,8 @@ node_look_of what =
     (if what == 11 then Some (OfNode Lost) else
     (if what == 12 then Some (OfNode HeardAll) else
     (if what == 13 then Some Whole else
-    (if what == 14 then Some Place else option_map OfProcess (process_look_of what))))))))
+    (if what == 14 then Some Place else
+    (if what == 15 then Some (OfNode Calls) else option_map OfProcess (process_look_of what)))))))))
 
 -- the number that a caller gets: 0 where it asks for nothing that there is
 abbrev pub node_number : HeldNode → ℕ → ℕ → ℕ

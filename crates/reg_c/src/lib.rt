@@ -7,12 +7,14 @@ mod beginning;
 mod chapter_handles;
 mod choosing;
 mod codes;
+mod course_handles;
 mod events;
 pub mod holding;
 mod judging;
 mod looking;
 pub mod node_chapters;
 mod node_codes;
+pub mod node_courses;
 mod node_handles;
 pub mod node_parts;
 pub mod node_peers;
@@ -32,6 +34,9 @@ mod worlds;
 pub use beginning::tellwydar_node_begin;
 pub use chapter_handles::{
     tellwydar_node_hear_state, tellwydar_node_is_over, tellwydar_node_tell_state,
+};
+pub use course_handles::{
+    tellwydar_node_course, tellwydar_node_end, tellwydar_node_follow, tellwydar_node_set_room,
 };
 pub use judging::{
     tellwydar_check_points, tellwydar_check_points_expecting, tellwydar_check_serial,

@@ -209,7 +209,7 @@ pub unsafe extern "C" fn tellwydar_node_came(handle: *mut u8, peer: u8) -> u32
 pub unsafe extern "C" fn tellwydar_node_close(handle: *mut u8)
     ghost held: { HeldNode }
     requires* { sem 𝓛 (lies_at the_row full_share handle held) }
-    ensures* { ∃ₛ (λ (after : HeldNode). sem 𝓛 (lies_at the_row full_share handle after) ∗ ⌜ (after.node ≡ KeptNode.Closed) × (after.output ≡ None) × (after.chapter ≡ None) × (after.peers ≡ None) × (vec_capacity after.bytes ≡ 0) ⌝) }
+    ensures* { ∃ₛ (λ (after : HeldNode). sem 𝓛 (lies_at the_row full_share handle after) ∗ ⌜ (after.node ≡ KeptNode.Closed) × (after.output ≡ None) × (after.chapter ≡ None) × (after.peers ≡ None) × (after.course ≡ None) × (vec_capacity after.bytes ≡ 0) ⌝) }
 {
     close(&mut *(handle as *mut HeldNode))
 }

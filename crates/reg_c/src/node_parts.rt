@@ -20,6 +20,8 @@ pub enum NodePart {
     Logged,
     /// How many of them it was told are durable.
     Durable,
+    /// How many of them are calls.
+    Calls,
     /// 1 if it has stopped, since it had no text of an entry.
     Stopped,
     /// 1 if it has found out that its log was lost.
@@ -52,6 +54,7 @@ pub fn node_look(what: u32) -> Option<NodeLook>
         12 => NodeLook::OfNode(NodePart::HeardAll),
         13 => NodeLook::Whole,
         14 => NodeLook::Place,
+        15 => NodeLook::OfNode(NodePart::Calls),
         _ => NodeLook::OfProcess(process_look(what)?),
     };
     Some(look)
@@ -71,6 +74,7 @@ fn part<F: FrontEnd>(node: &LoggedNode<F>, part: NodePart) -> u64
     match part {
         NodePart::Logged => meeting.node().logged(),
         NodePart::Durable => meeting.node().durable(),
+        NodePart::Calls => meeting.node().calls(),
         NodePart::Stopped => flag_of(node.is_stopped()),
         NodePart::Lost => flag_of(meeting.is_lost()),
         NodePart::HeardAll => flag_of(meeting.has_heard_all()),

@@ -18,7 +18,7 @@ use reg_base::Op;
 use reg_commands::fill;
 use reg_frames::decode;
 use reg_front::{FrontEnd, Linear, LocalRead, LocalWrite};
-use reg_node::{Chapter, LoggedFault, LoggedNode, Output, Peers};
+use reg_node::{Chapter, Course, LoggedFault, LoggedNode, Output, Peers};
 use reg_process::{ProcessFault, Step};
 use std::alloc::Global;
 
@@ -43,6 +43,8 @@ pub struct HeldNode {
     pub chapter: Option<Chapter>,
     /// What is known of the silence of its peers: none if no node was opened.
     pub peers: Option<Peers>,
+    /// The course of its chapter: none until its room is set.
+    pub course: Option<Course>,
     /// How many bytes of the text that was opened last are the log.
     pub whole: u64,
     /// The line or the entry that the last refusal of a log named.
@@ -74,6 +76,7 @@ pub fn new(alloc: Global) -> Result<Unboxed<HeldNode>, u32>
         output: None,
         chapter: None,
         peers: None,
+        course: None,
         whole: 0,
         place: 0,
     };
@@ -284,12 +287,13 @@ pub fn frames(held: &mut HeldNode, room: &mut [u8], length: &mut usize) -> u32
 
 /// Gives back what is held.
 pub fn close(held: &mut HeldNode)
-    ensures { (held.new.node ≡ KeptNode.Closed) × (held.new.output ≡ None) × (held.new.chapter ≡ None) × (held.new.peers ≡ None) × (vec_capacity held.new.bytes ≡ 0) }
+    ensures { (held.new.node ≡ KeptNode.Closed) × (held.new.output ≡ None) × (held.new.chapter ≡ None) × (held.new.peers ≡ None) × (held.new.course ≡ None) × (vec_capacity held.new.bytes ≡ 0) }
 {
     let alloc = *held.bytes.allocator();
     held.node = KeptNode::Closed;
     held.output = None;
     held.chapter = None;
     held.peers = None;
+    held.course = None;
     held.bytes = Vec::new(alloc);
 }

@@ -87,6 +87,7 @@ pub fn open(held: &mut HeldNode, text: &[u8], durable: u64) -> u32
                 output: None,
                 chapter: Some(chapter),
                 peers: Some(peers),
+                course: None,
                 whole,
                 place: 0,
             };

@@ -66,7 +66,7 @@ tellwydar_node_close_spec 𝓤 𝓛 𝓜 𝓡 wired =
     calls_at ! (framed 𝓤 𝓛.H 𝓜 𝓣) G (met 𝓤 𝓛 𝓜 𝓡 (code.calls-reg_c::nodes::close 𝓡.env wired)) z
     (and_then ! (get ! refl) (no_more !)) (λ v.
     use1 𝓛 (later (some (λ (r : Unit {0}). ((‵ (flft κ full_share) ⊛ ‵ ftrue) ⊛ ‵ (unit.own_val r (v ∷ []))) ⊛
-    some (λ (ws : HeldNode × Unit {0}). ‵ (lasts g.ended z.0.0 z.0.3 ws) ⊛ raw (fact 𝓤 ((ws.0.node ≡ Closed) × (ws.0.output ≡ None) × (ws.0.chapter ≡ None) × (ws.0.peers ≡ None) × (vec_capacity ws.0.bytes ≡ 0))))))) (id⊢ 𝓤 _) $
+    some (λ (ws : HeldNode × Unit {0}). ‵ (lasts g.ended z.0.0 z.0.3 ws) ⊛ raw (fact 𝓤 ((ws.0.node ≡ Closed) × (ws.0.output ≡ None) × (ws.0.chapter ≡ None) × (ws.0.peers ≡ None) × (ws.0.course ≡ None) × (vec_capacity ws.0.bytes ≡ 0))))))) (id⊢ 𝓤 _) $
     await ! tt $ pick ! (λ r. split ! $ split ! $ split ! $ lft_end ! tt $
     -- [the lifetime is over; nothing; the result; what the call ensures; what the lender keeps; the locals]
     move ! (3 ∷ []) $ pick ! (λ ws. split ! $ move ! (1 ∷ []) $ heard ! _ (λ f0. fsplit ! $ fsplit ! $
@@ -78,4 +78,4 @@ tellwydar_node_close_spec 𝓤 𝓛 𝓜 𝓡 wired =
     returns ! (look_at ! 0 refl) $ free_all ! refl $ keep ! (0 ∷ []) $ feq_i ! _ (vunit ∷ []) _ refl $
     suffices ! _ (ends_at 𝓛 f.ended stayed c (y (block_ptr b o)) vunit tt (tt, tt) (tt, tt)) $
     nothing ! $ nothing ! $ join ! $ nothing ! $ group ! 3 $ frame ! $
-    show ! (λ (h : HeldNode). sep 𝓤 (sem 𝓛 (lies_at R full_share (block_ptr b o) h)) (fact 𝓤 ((h.node ≡ Closed) × (h.output ≡ None) × (h.chapter ≡ None) × (h.peers ≡ None) × (vec_capacity h.bytes ≡ 0)))) ws.0 $ says ! f0 $ done !))))))))))
+    show ! (λ (h : HeldNode). sep 𝓤 (sem 𝓛 (lies_at R full_share (block_ptr b o) h)) (fact 𝓤 ((h.node ≡ Closed) × (h.output ≡ None) × (h.chapter ≡ None) × (h.peers ≡ None) × (h.course ≡ None) × (vec_capacity h.bytes ≡ 0)))) ws.0 $ says ! f0 $ done !))))))))))
