@@ -18,8 +18,8 @@ from dataclasses import dataclass
 from typing import Any, Callable, List, NamedTuple, Optional, Sequence, Tuple, Union
 
 from . import (
-    _CALLS, _REFUSALS, _ROOM, CompareAndSwap, Front, Known, Op, Refused, Reply, _framed, _library, _Progress, _ranged,
-    _reply,
+    _CALLS, _REFUSALS, _ROOM, CompareAndSwap, Front, Known, Op, Refused, Reply, Write, _framed, _library, _Progress,
+    _ranged, _reply,
 )
 
 _NOTHING_DUE = 71
@@ -55,6 +55,10 @@ def _declare() -> None:
         ("tell_state", u32, [handle, u32, room, size, ctypes.POINTER(size)]),
         ("hear_state", u32, [handle, u8, room, size]),
         ("is_over", u32, [handle]),
+        ("set_room", u32, [handle, u64, u64, u64]),
+        ("follow", u32, [handle, ctypes.POINTER(u64), size]),
+        ("end", u32, [handle]),
+        ("course", u64, [handle, u32, u32]),
         ("mark_durable", u32, [handle, u64]),
         ("hand_out", u32, [handle]),
         ("frames", u32, [handle, room, size, ctypes.POINTER(size)]),
@@ -207,6 +211,53 @@ class Node(_Progress):
         """Whether the chapter is over, by what it told and heard: then everybody has accepted all that anybody put."""
         return self._asked(_library.tellwydar_node_is_over) != 0
 
+    def follow(self, values: Sequence[int], *, operations: int, entries: int, ahead: int) -> None:
+        """Sets the room of its chapter: the operations and the entries of this process at which it is to end, and how
+        many of its casts may be on their way. And tells with which values of the registers, in their order, the chapter
+        before ended, none for the first one: those that aren't 0 are what process 0 writes first, and nothing else is
+        called until they are delivered."""
+        room = (_ranged(it, 64) for it in (operations, entries, ahead))
+        row: Any = (ctypes.c_uint64 * len(values))(*(_ranged(it, 64) for it in values))
+        self._told(self._asked(_library.tellwydar_node_set_room, *room))
+        self._told(self._asked(_library.tellwydar_node_follow, row, len(values)))
+
+    def end(self) -> None:
+        """Asks for the end of its chapter, as is due where another node tells how far it has come."""
+        self._told(self._asked(_library.tellwydar_node_end))
+
+    def _course(self, what: int, is_running: bool = False) -> int:
+        return self._asked(_library.tellwydar_node_course, what, int(is_running))
+
+    @property
+    def is_ending(self) -> bool:
+        """Whether its chapter is to end, since there is little room left or somebody has asked for it: then it calls
+        nothing more."""
+        return self._course(0) != 0
+
+    @property
+    def is_far_ahead(self) -> bool:
+        """Whether so many of its casts are on their way that no other is made."""
+        return self._course(1) != 0
+
+    def is_opening(self, is_running: bool) -> bool:
+        """Whether the values that the chapter before ended with aren't all delivered here, or the write of one goes on:
+        then nothing else is called. (`is_running`: an operation runs, or its reply isn't handed out.)"""
+        return self._course(2, is_running) != 0
+
+    def is_quiet(self, is_running: bool) -> bool:
+        """Whether it calls nothing more in its chapter, and no operation goes on."""
+        return self._course(3, is_running) != 0
+
+    @property
+    def own_calls(self) -> int:
+        """How many of its calls weren't made to write what the chapter before ended with."""
+        return self._course(4)
+
+    @property
+    def next_opening(self) -> Optional[Write]:
+        """What it writes next of what the chapter before ended with: only process 0 does."""
+        return Write(self._course(6), self._course(7)) if self._course(5) else None
+
     def mark_durable(self, count: int) -> None:
         """Notes that so many entries of the log are durable, those that it was opened with among them."""
         self._told(self._asked(_library.tellwydar_node_mark_durable, _ranged(count, 64)))
@@ -224,6 +275,11 @@ class Node(_Progress):
     def logged(self) -> int:
         """How many entries its log has."""
         return self._look(8)
+
+    @property
+    def calls(self) -> int:
+        """How many of them are calls."""
+        return self._look(15)
 
     @property
     def durable(self) -> int:

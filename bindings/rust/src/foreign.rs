@@ -146,6 +146,10 @@ unsafe extern "C" {
     pub fn tellwydar_node_tell_state(handle: *mut Opaque, is_quiet: u32, room: *mut u8, room_length: usize, length: *mut usize) -> u32;
     pub fn tellwydar_node_hear_state(handle: *mut Opaque, sender: u8, bytes: *const u8, bytes_length: usize) -> u32;
     pub fn tellwydar_node_is_over(handle: *mut Opaque) -> u32;
+    pub fn tellwydar_node_set_room(handle: *mut Opaque, operations: u64, entries: u64, ahead: u64) -> u32;
+    pub fn tellwydar_node_follow(handle: *mut Opaque, values: *const u64, values_length: usize) -> u32;
+    pub fn tellwydar_node_end(handle: *mut Opaque) -> u32;
+    pub fn tellwydar_node_course(handle: *mut Opaque, what: u32, running: u32) -> u64;
     pub fn tellwydar_room(processes: u32, registers: u32, operations: u64, entries: u64, row: *mut RoomRow) -> u32;
     pub fn tellwydar_node_look(handle: *mut Opaque, what: u32, register: u16) -> u64;
     pub fn tellwydar_node_known(handle: *mut Opaque, what: u32, peer: u8) -> u64;

@@ -2,7 +2,7 @@
 use crate::foreign::{self, LogRow, Opaque};
 use crate::processes::{Frames, Known, ROOM, reply_of, with_numbers};
 use crate::worlds::refused;
-use crate::{FrontEnd, Op, Refused, Reply};
+use crate::{FrontEnd, Op, Refused, Reply, Room};
 use std::fmt;
 use std::ptr::NonNull;
 
@@ -257,9 +257,68 @@ impl LoggedNode {
         unsafe { foreign::tellwydar_node_is_over(self.handle.as_ptr()) != 0 }
     }
 
+    /// Sets the room of its chapter, and tells with which values of the registers, in their order, the one before
+    /// ended: none for the first one. Those that aren't 0 are what process 0 writes first, and nothing else is called
+    /// until they are delivered.
+    ///
+    /// # Errors
+    ///
+    /// `NoShape` where there are more than 4,096 values, and `OutOfMemory`.
+    pub fn follow(&mut self, room: Room, values: &[u64]) -> Result<(), Refused> {
+        let (handle, Room { operations, entries, ahead, .. }) = (self.handle.as_ptr(), room);
+        // SAFETY: as in `call`.
+        told(unsafe { foreign::tellwydar_node_set_room(handle, operations, entries, ahead) })?;
+        // SAFETY: as in `call`; the pointer and the length are those of one slice.
+        told(unsafe { foreign::tellwydar_node_follow(handle, values.as_ptr(), values.len()) })
+    }
+
+    /// Asks for the end of its chapter, as is due where another node tells how far it has come.
+    pub fn end(&mut self) {
+        // SAFETY: as in `call`. (A chapter without a room has no end.)
+        unsafe { foreign::tellwydar_node_end(self.handle.as_ptr()) };
+    }
+
+    /// Whether its chapter is to end, since there is little room left or somebody has asked for it: then it calls
+    /// nothing more.
+    pub fn is_ending(&self) -> bool {
+        self.course(0, false) != 0
+    }
+
+    /// Whether so many of its casts are on their way that no other is made.
+    pub fn is_far_ahead(&self) -> bool {
+        self.course(1, false) != 0
+    }
+
+    /// Whether the values that the chapter before ended with aren't all delivered here, or the write of one goes on:
+    /// then nothing else is called. (`is_running`: an operation runs, or its reply isn't handed out.)
+    pub fn is_opening(&self, is_running: bool) -> bool {
+        self.course(2, is_running) != 0
+    }
+
+    /// Whether it calls nothing more in its chapter, and no operation goes on.
+    pub fn is_quiet(&self, is_running: bool) -> bool {
+        self.course(3, is_running) != 0
+    }
+
+    /// How many of its calls weren't made to write what the chapter before ended with.
+    pub fn own_calls(&self) -> u64 {
+        self.course(4, false)
+    }
+
+    /// What it writes next of what the chapter before ended with: only process 0 does.
+    pub fn next_opening(&self) -> Option<Op> {
+        let next = |what| self.course(what, false);
+        (next(5) != 0).then(|| Op::Write { register: next(6) as u16, value: next(7) })
+    }
+
     /// How many entries its log has.
     pub fn logged(&self) -> u64 {
         self.look(8, 0)
+    }
+
+    /// How many of them are calls.
+    pub fn calls(&self) -> u64 {
+        self.look(15, 0)
     }
 
     /// How many of them it was told are durable.
@@ -347,6 +406,11 @@ impl LoggedNode {
     fn number_of(&self, peer: u8, what: u32) -> u64 {
         // SAFETY: as in `look`.
         unsafe { foreign::tellwydar_node_known(self.handle.as_ptr(), what, peer) }
+    }
+
+    fn course(&self, what: u32, is_running: bool) -> u64 {
+        // SAFETY: as in `look`.
+        unsafe { foreign::tellwydar_node_course(self.handle.as_ptr(), what, is_running.into()) }
     }
 
     fn look(&self, what: u32, register: u16) -> u64 {

@@ -130,7 +130,7 @@ class Node:
                         self._is_opening = False
                         self._answered.notify_all()
                     return
-                story.call(Write(*due))
+                story.call(due)
             self._commit()
 
     # --- under the lock

@@ -5,8 +5,7 @@ import re
 import secrets
 from typing import Callable, Iterator, List, Optional, Tuple
 
-from .. import Node, Op, Output, Read
-from .chapters import opening_of
+from .. import Node, Op, Output, Read, Write
 from .core import NodeFailed
 from .logfile import HEAD_LINES, Head, LogFault, LogFile, keep, lines_of, open_log, say_cut
 from .room import Room
@@ -20,7 +19,7 @@ class Story:
 
     def __init__(self, head: Head, path: str, room: Room, resume: bool, say: Callable[[str], None]):
         self._path, self._room, self._say = path, room, say
-        self.called_before, self.opening = 0, []  # type: int, List[Tuple[int, int]]
+        self.called_before, self._ended_with = 0, []  # type: int, List[int]
         self.last_head, self.last_state = head, b""
         chapter = self._last_chapter() if resume else 0
         if chapter > 0:
@@ -29,7 +28,8 @@ class Story:
         text = self._open(head, not resume)
         try:
             self._go_on(head, text, False)
-            self.ending |= os.path.exists(self._quiet_of(chapter))
+            if os.path.exists(self._quiet_of(chapter)):
+                self._end_soon()
             self.file.cut(self.node.whole)
         except BaseException:
             self.file.close()
@@ -93,12 +93,12 @@ class Story:
             if found != wanted:
                 node.close()
                 raise LogFault(f"{path} is of {found.decode()}, and this node of {wanted.decode()}")
+        node.follow(self._ended_with, **self._room._asdict())
         self.node, self.running = node, node.busy
         self.lines: List[bytes] = []
-        # (a name is never behind a number, so these words stand in each line of a call once, and in no other)
-        self.called = text.count(b" %d call " % head.me, 0, node.whole)
         self._queued, self._held = self._bodies(), 0  # bodies that went out, and steps of which nothing did yet
-        self.ending, self._is_said_quiet = self._is_full(node.logged), False
+        # (as the node told last, for those who don't hold the lock)
+        self.ending, self._own_calls, self._is_said_quiet = node.is_ending, node.own_calls, False
         self.is_owed = False  # an entry isn't on the disk, or on its way there, before which nothing else goes out
 
     # --- steps
@@ -108,18 +108,18 @@ class Story:
         self.lines.append(make(*given))
         self._held += 1
         self.is_owed = True
+        self.ending = self.node.is_ending
 
     def call(self, op: Op) -> None:
         was_owed = self.is_owed
         self.step(self.node.call, op)
         if isinstance(op, Read) and not self.node.busy:
             self.is_owed = was_owed  # it is answered and puts no frame, so nobody can miss its entry
-        self.running, self.called = True, self.called + 1
+        self.running, self._own_calls = True, self.node.own_calls
 
     def calls(self) -> int:
         """How many calls of this chapter weren't made to write what the last one ended with."""
-        opened = min(self.called, len(self.opening)) if self.head.me == 0 else 0
-        return self.called - opened
+        return self._own_calls
 
     def _bodies(self) -> int:
         """How many bodies the node queued for each other one: as many for all."""
@@ -149,7 +149,6 @@ class Story:
     def outputs(self, logged: int) -> Iterator[Output]:
         """What goes out now that so many entries are durable."""
         self.node.mark_durable(logged)
-        self.ending |= self._is_full(logged)
         while self._held > 0 and (output := self.node.hand_out()) is not None:
             self._held -= 1
             self.running &= output.reply is None
@@ -157,17 +156,18 @@ class Story:
 
     # --- chapters
 
-    def _is_full(self, logged: int) -> bool:
-        """Whether there is little room left, where the log has so many entries."""
-        return self.called >= self._room.operations or logged >= self._room.entries
+    def _end_soon(self) -> None:
+        """Nothing more is called in this chapter."""
+        self.node.end()
+        self.ending = True
 
     def is_far_ahead(self) -> bool:
         """Whether so many casts of this node are on their way that no other is made."""
-        return self.node.unsettled >= self._room.ahead
+        return self.node.is_far_ahead
 
     def is_quiet(self) -> bool:
         """Whether this node calls nothing more in this chapter, and no operation goes on."""
-        return self.ending and not self.running and not self.is_opening()
+        return self.node.is_quiet(self.running)
 
     def tell_state(self) -> bytes:
         """The bytes that tell the others how far this node has come in its chapter."""
@@ -175,18 +175,16 @@ class Story:
 
     def is_opening(self) -> bool:
         """Whether the values that the last chapter ended with aren't all written here: then nothing else is called."""
-        if not self.opening:
-            return False
-        return self.node.delivered < len(self.opening) or self.running and self.calls() == 0
+        return self.node.is_opening(self.running)
 
-    def next_opening(self) -> Optional[Tuple[int, int]]:
+    def next_opening(self) -> Optional[Write]:
         """What this node writes next of what the last chapter ended with."""
-        return self.opening[self.called] if self.head.me == 0 and self.called < len(self.opening) else None
+        return self.node.next_opening
 
     def heard(self, sender: int, state: bytes) -> None:
         """Another node told how far it has come: somebody has little room left."""
         self.node.hear_state(sender, state)
-        self.ending = True
+        self._end_soon()
 
     def say_quiet(self) -> None:
         """Before it is told that this node calls nothing more in this chapter, that is kept for when it is resumed."""
@@ -199,7 +197,7 @@ class Story:
         self.called_before += self.calls()
         self.last_state = self.node.tell_state(True)
         self.last_head = self.head
-        self.opening = opening_of([self.node.register(r) for r in range(len(self.head.registers))])
+        self._ended_with = [self.node.register(r) for r in range(len(self.head.registers))]
 
     def is_over(self) -> bool:
         """Whether the chapter is over: all were told or heard that nobody calls any more, and has what anybody put."""

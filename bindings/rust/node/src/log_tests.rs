@@ -73,7 +73,7 @@ fn a_log_is_read_as_it_was_written() {
     drop(file);
     let text = read(&room.log()).expect("a log");
     let node = open(&room.log(), &text).expect("a node");
-    assert_eq!((node.whole(), node.logged(), begun(&text), count_calls(&text)), (log.len(), 5, 12, 4));
+    assert_eq!((node.whole(), node.logged(), begun(&text), node.calls()), (log.len(), 5, 12, 4));
     assert_eq!(entries(&text), ENTRIES);
 }
 

@@ -32,11 +32,6 @@ pub fn begun(log: &[u8]) -> u64 {
     lines(log).nth(BEGUN).and_then(number).unwrap_or_default()
 }
 
-/// How many operations were called by the entries of a log.
-pub fn count_calls(log: &[u8]) -> u32 {
-    lines(log).skip(HEAD).filter(|it| word(it, 1) == b"call").count() as u32
-}
-
 /// The text of a file, without the zeros at its end: those are room that was made.
 pub fn read(path: &Path) -> Result<Vec<u8>, Fault> {
     Ok(without_room(fs::read(path).map_err(|why| at_path(path, why))?))

@@ -21,14 +21,11 @@ pub struct Ended {
 struct Chapter {
     head: LogHead,
     node: LoggedNode,
-    /// How many operations were called, how many entries there are, how many of them are written, and of how many what
-    /// went out is handed out.
-    called: u32,
+    /// How many entries there are, how many of them are written, and of how many what went out is handed out.
     entries: u64,
     written: u64,
     handed: u64,
     is_running: bool,
-    is_ending: bool,
     is_said_quiet: bool,
 }
 
@@ -48,8 +45,8 @@ pub struct Story {
 struct Before {
     /// How many operations their callers called.
     called: u64,
-    /// What the last one ended with, but for zeros: what process 0 writes first.
-    opening: Vec<(u16, u64)>,
+    /// The values that the last one ended with.
+    values: Vec<u64>,
     ended: Option<Ended>,
 }
 
@@ -106,20 +103,22 @@ impl Chapter {
         }
         Ok(Self {
             head: LogHead { begun: log_text::begun(log), ..head.clone() },
-            called: log_text::count_calls(log),
             entries: node.logged(),
             written: node.logged(),
             handed: node.logged(),
             is_running: node.busy(),
             node,
-            is_ending: quiet_of(path).exists(),
             is_said_quiet: false,
         })
     }
 
-    /// Whether there is little room left.
-    fn is_full(&self, room: Room) -> bool {
-        u64::from(self.called) >= room.operations || self.entries >= room.entries
+    /// Goes on in this room, with the log at this path, behind what the chapters before have left.
+    fn follow(&mut self, room: Room, path: &Path, before: &Before) -> Result<(), Refused> {
+        self.node.follow(room, &before.values)?;
+        if quiet_of(path).exists() {
+            self.node.end();
+        }
+        Ok(())
     }
 }
 
@@ -136,7 +135,7 @@ impl Story {
         } else {
             begun(head, path, LogFile::create(path)?)?
         };
-        chapter.is_ending |= chapter.is_full(room);
+        chapter.follow(room, &log_of(path, chapter.head.chapter), &before)?;
         Ok(Self { path: path.to_path_buf(), room, chapter, disk, log, before })
     }
 
@@ -156,12 +155,12 @@ impl Story {
 
     /// Whether nothing more is called in this chapter.
     pub fn is_ending(&self) -> bool {
-        self.chapter.is_ending
+        self.node().is_ending()
     }
 
     /// Whether so many casts of this node are on their way that no other is made.
     pub fn is_far_ahead(&self) -> bool {
-        self.node().unsettled() >= self.room.ahead
+        self.node().is_far_ahead()
     }
 
     /// Whether the operation that goes on has a reply, which isn't handed out yet.
@@ -192,9 +191,7 @@ impl Story {
     /// Calls an operation. As of each step, its entry is added to the log, but not written.
     pub fn call(&mut self, op: Op) -> Result<(), Refused> {
         self.step(|node| node.call(op))?;
-        self.chapter.called += 1;
         self.chapter.is_running = true;
-        self.chapter.is_ending |= self.chapter.is_full(self.room);
         Ok(())
     }
 
@@ -202,7 +199,6 @@ impl Story {
     pub fn step(&mut self, step: impl FnOnce(&mut LoggedNode) -> Result<&[u8], Refused>) -> Result<(), Refused> {
         self.log.add(step(&mut self.chapter.node)?);
         self.chapter.entries += 1;
-        self.chapter.is_ending |= self.chapter.is_full(self.room);
         Ok(())
     }
 
@@ -273,7 +269,7 @@ impl Story {
 
     /// Whether this node calls nothing more in this chapter, and no operation goes on.
     pub fn is_quiet(&self) -> bool {
-        self.is_ending() && !self.is_running() && !self.is_opening()
+        self.node().is_quiet(self.is_running())
     }
 
     /// The bytes that tell the others how far this node has come in its chapter.
@@ -284,31 +280,28 @@ impl Story {
 
     /// Whether the values that the last chapter ended with aren't all written here: then nothing else is called.
     pub fn is_opening(&self) -> bool {
-        let count = self.before.opening.len() as u64;
-        count > 0 && (self.chapter.node.delivered() < count || self.is_running() && !self.is_own())
+        self.node().is_opening(self.is_running())
     }
 
     /// What this node writes next of what the last chapter ended with.
     pub fn next_opening(&self) -> Option<Op> {
-        let next = self.before.opening.get(self.chapter.called as usize);
-        let (register, value) = *next.filter(|_| self.head().process == 0)?;
-        Some(Op::Write { register, value })
+        self.node().next_opening()
     }
 
     /// How many operations its caller has called, in earlier runs too.
     pub fn called(&self) -> u64 {
-        self.before.called + self.before.own_calls(&self.chapter)
+        self.before.called + self.node().own_calls()
     }
 
     /// Whether the operation that was called last is its caller's.
     pub fn is_own(&self) -> bool {
-        self.before.own_calls(&self.chapter) > 0
+        self.node().own_calls() > 0
     }
 
     /// Another node told how far it has come: somebody has little room left.
     pub fn heard_state(&mut self, sender: u8, bytes: &[u8]) -> Result<(), Refused> {
         self.chapter.node.hear_state(sender, bytes)?;
-        self.chapter.is_ending = true;
+        self.chapter.node.end();
         Ok(())
     }
 
@@ -339,6 +332,7 @@ impl Story {
         let path = log_of(&self.path, head.chapter);
         eprintln!("chapter {} begins, in {}", head.chapter, path.display());
         (self.chapter, self.log) = begun(head, &path, LogFile::create(&path)?)?;
+        self.chapter.follow(self.room, &path, &self.before)?;
         Ok(true)
     }
 }
@@ -360,19 +354,12 @@ impl Before {
         Ok(before)
     }
 
-    /// How many calls of the chapter after these don't write what they ended with.
-    fn own_calls(&self, chapter: &Chapter) -> u64 {
-        let opening = if chapter.head.process == 0 { self.opening.len() as u64 } else { 0 };
-        u64::from(chapter.called).saturating_sub(opening)
-    }
-
     /// A chapter is over: what the next one begins with, and what is told to those who don't know it yet.
     fn end(&mut self, chapter: &mut Chapter) -> Result<(), Refused> {
-        self.called += self.own_calls(chapter);
+        self.called += chapter.node.own_calls();
         let state = chapter.node.tell_state(true)?.to_vec();
         self.ended = Some(Ended { begun: chapter.head.begun, state });
-        let values = (0..chapter.head.names.len() as u16).map(|it| (it, chapter.node.register(it)));
-        self.opening = values.filter(|&(_, value)| value != 0).collect();
+        self.values = (0..chapter.head.names.len() as u16).map(|it| chapter.node.register(it)).collect();
         Ok(())
     }
 }
