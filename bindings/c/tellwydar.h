@@ -18,9 +18,10 @@
 
 #define TELLWYDAR_VERSION "0.1.0"
 
-/* Which functions and numbers there are. 2 adds compare-and-swaps, 3 nodes, 4 the judge of histories, and 6 chapters and
- * looks at the peers of a node: all functions and numbers of those before are there, and mean what they did. */
-#define TELLWYDAR_ABI 6
+/* Which functions and numbers there are. 2 adds compare-and-swaps, 3 nodes, 4 the judge of histories, 6 chapters and looks
+ * at the peers of a node, and 7 how one chapter follows another: all functions and numbers of those before are there, and
+ * mean what they did. */
+#define TELLWYDAR_ABI 7
 
 #ifdef __cplusplus
 extern "C" {
