@@ -5,12 +5,12 @@ use crate::local_rows::{local_read, local_write_compares, local_write_lost, loca
 use crate::macros::{call, take, tick};
 use crate::values::WRITE_FIVE;
 use crate::world_rows::{Row, linear_answers, linear_frames, linear_orders};
-use reg_base::{OpId, Shape};
+use reg_base::{Answer, OpId, Shape};
 use reg_frames::Frame;
 use reg_front::{Front, FrontEnd, Linear, LocalRead, LocalWrite};
-use reg_history::Point;
+use reg_history::{Entry, Point};
 use reg_process::Process;
-use reg_world::{Event, RunFault, World, WorldFault};
+use reg_world::{Event, RunFault, UnlistedWires, World, WorldFault};
 use std::alloc::{Allocator, Global};
 use std::process::Abort;
 
@@ -241,4 +241,31 @@ fn a_run_goes_on_behind_its_list(rt: HostRuntime) {
     for (events, fault) in OWNED {
         demand(&rt, fault, runs_so(rt.alloc(), shape, events, *fault));
     }
+}
+
+/// A write that the other process acknowledges.
+const ACKNOWLEDGED: [Event; 3] = [call!(0, WRITE_FIVE), take!(0, 1, 0), take!(1, 0, 1)];
+
+#[test]
+fn a_world_that_lists_no_events_makes_the_run(rt: HostRuntime) {
+    let shape = shape_of(&rt, 2);
+    let world = World::<Linear, Global, UnlistedWires>::run(rt.alloc(), shape, &ACKNOWLEDGED);
+    let world = world.expect(&rt, "a run");
+    let id = OpId {
+        process: 0,
+        number: 0,
+    };
+    let told = [
+        Entry::Called {
+            at: 0,
+            id,
+            op: WRITE_FIVE,
+        },
+        Entry::Answered {
+            at: 2,
+            id,
+            answer: Answer::Done,
+        },
+    ];
+    assert!(rt; world.events() == 3 && world.history().entries() == told.as_slice());
 }
