@@ -2,7 +2,7 @@
 ghost use Rattle.std.specs.Prelude.{◌≡◌, ◌<◌, ◌≤◌, [], length, replicate, slice_index, IfOk, IfSome, IfNone, MatchResult, MatchOption, if◌then◌else◌, is_ok, option_map, Some, None, IfErr, IsTrue, false};
 ghost use Rattle.reg_base.specs.declared.limits.TheConstants.{MOST_PROCESSES};
 ghost use Rattle.reg_base.specs.Order.{Rising, is_clear as is_clear_by};
-ghost use Rattle.reg_holdback.specs.Waiting.{cast_of, casts_of, ready_of, without_first, with_cast, received, receive_fault, refusal_of, IsLatestOwn, seen_of, IsReady, NoneClear};
+ghost use Rattle.reg_holdback.specs.Waiting.{cast_of, ready_of, without_first, with_cast, received, receive_fault, refusal_of, IsLatestOwn, seen_of, IsReady, NoneClear};
 
 use crate::held::HeldCasts;
 use reg_base::{Delivered, Op, Shape, Stamp};
@@ -37,14 +37,14 @@ pub struct Holdback<A: Allocator + Copy = Global> {
 
 impl<A: Allocator + Copy> Model for Holdback<A> {
     ghost use Rattle.std.specs.Prelude.{length, ◌≤◌, ◌<◌};
-    ghost use Rattle.reg_holdback.specs.Waiting.{Waiting, casts_of};
+    ghost use Rattle.reg_holdback.specs.Waiting.{Waiting};
     ghost use Rattle.reg_holdback.specs.Bounds.{InRange};
 
     ghost Value = { Waiting };
 
-    ghost view = { λ h. record { me = h.me; seen = h.seen.items; held = casts_of h.held } };
+    ghost view = { λ h. record { me = h.me; seen = h.seen.items; held = h.held } };
 
-    ghost invariant = { λ h. InRange (record { me = h.me; seen = h.seen.items; held = casts_of h.held }) };
+    ghost invariant = { λ h. InRange (record { me = h.me; seen = h.seen.items; held = h.held }) };
 }
 
 /// Whether one of the other processes is not known to have passed a stamp.
@@ -148,11 +148,12 @@ impl<A: Allocator + Copy> Holdback<A> {
         ensures after { MatchOption result (self.new ≡ self.old) (λ _. self.new ≡ without_first self.old) }
         ensures rising { Rising self.old.held }
     {
-        let stamp = self.held.first()?;
-        if !is_clear(&self.seen, self.me, stamp, &mut self.behind) {
+        let first = self.held.first()?;
+        if !is_clear(&self.seen, self.me, first.stamp, &mut self.behind) {
             return None;
         }
-        self.held.pop_first()
+        let Delivered { stamp, op } = self.held.pop_first()?;
+        Some((stamp, op))
     }
 
     /// How many casts are held.
