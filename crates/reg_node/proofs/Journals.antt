@@ -9,6 +9,8 @@ use Rattle.reg_text.proofs.Joining.{joined, number}
 use Rattle.reg_text.proofs.Split.{AllLack, lines_text, none_left}
 use Rattle.reg_node.specs.declared.transcripts.logs.LogFault.{LogFault}
 use Rattle.reg_node.specs.declared.transcripts.logs.LogFault.TheVariants.{Damaged, Foreign, Line, NoProcess, OutOfMemory}
+use Rattle.reg_node.specs.declared.transcripts.logs.LogId.{LogId}
+use Rattle.reg_node.specs.Headless.{first_lines}
 use Rattle.reg_node.specs.LogFaults.{IsLogFault}
 use Rattle.reg_node.specs.RecordLines.{account_lines, head_lines, recorded_text}
 use Rattle.reg_node.specs.LogTexts.{IsJournal, Journal, SpellsLog, account_of, entry_line, grown_by, id_lines, log_crc, log_lines, log_text, recorded_by}
@@ -27,6 +29,11 @@ lack (l ∷ ls) h = (h.0, lack ls h.1)
 
 counted : (words : List ℕ) (n : ℕ) → Lacks 10 words → n < 2 ^ 64 → Lacks 10 (words ++ decimal n)
 counted words n h small = joined 10 words (decimal n) h (number n small)
+
+-- no line feed stands in the first lines of a log
+pub are_first : (id : LogId) → id.cluster < 2 ^ 64 → id.process < 2 ^ 64 → id.chapter < 2 ^ 64 → AreLines (first_lines id)
+are_first id cluster process chapter =
+    (refl, (counted (codes "cluster ") id.cluster refl cluster, (counted (codes "process ") id.process refl process, (counted (codes "chapter ") id.chapter refl chapter, tt))))
 
 pub are_lines : (j : Journal) → IsJournal j → AreLines (log_lines j)
 are_lines j good = (

@@ -17,3 +17,5 @@ pub mod Fours
 pub mod Standings
 pub mod Ended
 pub mod Restoring
+pub mod Parted
+pub mod Headed

@@ -11,6 +11,7 @@ pub mod Stops
 pub mod Seals
 pub mod Unsealing
 pub mod LogTexts
+pub mod Headless
 pub mod LogFaults
 pub mod LineFaults
 pub mod Fours

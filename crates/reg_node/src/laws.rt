@@ -1,9 +1,12 @@
 //! Laws of nodes, of their logs, of chapters, and of records as text. Each is a function that does nothing: its
 //! contract is the law.
-ghost use Rattle.std.specs.Prelude.{ℕ, ◌≡◌, ◌≢◌, ◌+◌, ◌<◌, ◌≤◌, List, Some, length, slice_get, take, ◌++◌};
+ghost use Rattle.std.specs.Prelude.{ℕ, ◌≡◌, ◌≢◌, ◌==◌, ◌+◌, ◌<◌, ◌≤◌, ◌^◌, List, [], Some, length, slice_get, take, true, ◌++◌};
+ghost use Rattle.std.specs.List.{list_all};
 ghost use Rattle.reg_base.specs.Memory.{memory};
+ghost use Rattle.reg_base.specs.Shape.{Extent};
 ghost use Rattle.reg_base.specs.declared.memory.Op.{Op};
 ghost use Rattle.reg_front.specs.Fronts.{KeepsLaws};
+ghost use Rattle.reg_front.specs.declared.named.Front.{Front};
 ghost use Rattle.reg_front.specs.declared.starts.Start.{Start};
 ghost use Rattle.reg_process.specs.Process.{State, next_of, peer_at};
 ghost use Rattle.reg_process.specs.declared.events.Event.{Event};
@@ -12,7 +15,10 @@ ghost use Rattle.reg_world.specs.Laws.{IsQuiescent};
 ghost use Rattle.reg_world.specs.World.{whole};
 ghost use Rattle.reg_node.specs.ChapterLaws.{AreTold};
 ghost use Rattle.reg_node.specs.Chapters.{IsOver, Standing, Tale};
-ghost use Rattle.reg_node.specs.LogTexts.{Journal, SpellsLog, entry_line, grown_by, log_text};
+ghost use Rattle.reg_node.specs.Headless.{IsHeadless};
+ghost use Rattle.reg_node.specs.LogFaults.{IsNoLog};
+ghost use Rattle.reg_node.specs.LogTexts.{IsJournal, Journal, SpellsLog, begun_with, entry_line, grown_by, log_text};
+ghost use Rattle.reg_node.specs.declared.transcripts.logs.LogId.{LogId};
 ghost use Rattle.reg_records.specs.declared.entries.LogEntry.{LogEntry};
 ghost use Rattle.reg_node.specs.Crashes.{AreOfSteps, IsGiven};
 ghost use Rattle.reg_node.specs.Logs.{AreSteps, Outgoing, outputs_of, state_after};
@@ -64,6 +70,13 @@ pub fn each_record_has_a_text()
 /// line that a crash tore, or zeros.
 pub fn what_a_crash_leaves_spells_the_log()
     ensures { (j : Journal) (tail : List ℕ) → Lacks 10 tail → SpellsLog (log_text j ++ tail) j tail }
+{}
+
+/// What a crash leaves of a log before its head is whole spells no log: no step was made that it tells of. And it is
+/// found: a first part of the text of a log with no entries, which lacks some of it, with zeros behind it or none.
+pub fn a_headless_log_never_began()
+    ensures none { (id : LogId) (bytes : List ℕ) → id.cluster < 2 ^ 64 → id.process < 2 ^ 64 → id.chapter < 2 ^ 64 → IsHeadless id bytes → IsNoLog bytes }
+    ensures found { (id : LogId) (front : Front) (shape : Extent) (names : List (List ℕ)) (part left zeros : List ℕ) → IsJournal (begun_with id front shape names) → log_text (begun_with id front shape names) ≡ part ++ left → left ≢ [] → list_all (λ b. b == 0) zeros ≡ true → IsHeadless id (part ++ zeros) }
 {}
 
 /// With a further entry the text of a log grows by the line of the entry.

@@ -32,5 +32,5 @@ pub use reg_records::LogEntry;
 pub use rooms::{NoRoom, Room, room_in};
 pub use transcripts::{
     LineFault, Log, LogFault, LogId, ReadLog, Record, RecordFault, Recorded, begin_log,
-    parse_record, read_log, recorded_line, sealed_entry, text_of_record,
+    is_headless, parse_record, read_log, recorded_line, sealed_entry, text_of_record,
 };

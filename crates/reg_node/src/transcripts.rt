@@ -2,6 +2,7 @@
 //! of a record, each behind its seal.
 mod beginning;
 mod frame_text;
+mod headless;
 mod logs;
 mod record_text;
 mod recorded;
@@ -12,6 +13,7 @@ mod texts;
 mod writing;
 
 pub use beginning::begin_log;
+pub use headless::is_headless;
 pub use logs::{Log, LogFault, LogId, ReadLog, read_log};
 pub use record_text::{Record, RecordFault, parse_record};
 pub use recorded::Recorded;

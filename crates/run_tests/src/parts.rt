@@ -6,6 +6,7 @@ mod fields;
 mod frames;
 mod fronts;
 mod growths;
+mod headless;
 mod holdbacks;
 mod large_texts;
 mod links;

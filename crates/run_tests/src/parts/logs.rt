@@ -15,7 +15,7 @@ use std::alloc::{AllocError, Allocator, Global};
 use std::test::Fail;
 
 /// The log of process 0 of two that share a register x.
-const ID: LogId = LogId {
+pub(crate) const ID: LogId = LogId {
     cluster: 7,
     process: 0,
     chapter: 0,
@@ -114,7 +114,7 @@ fn push_read(text: &mut String, read: Result<ReadLog, LogFault>) -> Result<(), A
 }
 
 /// The pieces of a text as one.
-fn joined(alloc: Global, pieces: &[&str]) -> Result<String, AllocError> {
+pub(crate) fn joined(alloc: Global, pieces: &[&str]) -> Result<String, AllocError> {
     let mut text = String::new(alloc);
     for piece in pieces {
         text.push_str(piece)?;

@@ -1,4 +1,4 @@
-use Rattle.std.proofs.Common.{ℕ, List, ◌++◌, get_or, sym, ap, ◌∙◌}
+use Rattle.std.proofs.Common.{List, ◌++◌, get_or, sym, ap, ◌∙◌}
 use Rattle.reg_base.specs.declared.memory.Op.{Op}
 use Rattle.reg_node.specs.Openings.{write_of}
 use Rattle.reg_node.proofs.Restoring.{opening_more}
