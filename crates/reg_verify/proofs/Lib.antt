@@ -1,3 +1,4 @@
 pub mod Logged
 pub mod Shown
 pub mod Merged
+pub mod Gathered

@@ -17,7 +17,7 @@ use Rattle.reg_checkers.proofs.Places.{IsAt-map, element_at, get_push_other, get
 use Rattle.reg_world.specs.Worlds.{Made}
 use Rattle.reg_records.specs.declared.entries.LogEntry.{LogEntry}
 use Rattle.reg_records.specs.Playing.{AreTallied}
-use Rattle.reg_records.specs.Records.{IsFaithful, NothingLeft, Plays, Turn, entry_of, mentions}
+use Rattle.reg_records.specs.Records.{IsFaithful, Plays, Turn, entry_of, mentions}
 use Rattle.reg_records.specs.Merges.{IsFirstLeft, IsFull, IsGreatest, NoneHasMore}
 use Rattle.reg_records.proofs.Alone.{mention_more, mention_same}
 use Rattle.reg_records.proofs.MergeVerdicts.{has_log, not_full, stands_below}
@@ -170,7 +170,7 @@ all_stand start shape order logs w faithful k p at =
     let same : t.2.process ≡ p = same_Some t.2.process p (sym t.2.mention ∙ at) in
     (t.2.entry, subst (λ (q : ℕ). entry_of logs q (mentions q (take k order)) ≡ Some t.2.entry) same t.2.stands)
 
-same_lists : {X : Type 0} (xs ys : List X) → ((k : ℕ) → k < length xs → slice_get xs k ≡ slice_get ys k) → length xs ≡ length ys → xs ≡ ys
+pub same_lists : {X : Type 0} (xs ys : List X) → ((k : ℕ) → k < length xs → slice_get xs k ≡ slice_get ys k) → length xs ≡ length ys → xs ≡ ys
 same_lists [] [] each e = refl
 same_lists [] (y ∷ ys) each e = absurd (omega arith)
 same_lists (x ∷ xs) [] each e = absurd (omega arith)

@@ -4,3 +4,5 @@ pub mod Verifies
 pub mod Judging
 pub mod Merges
 pub mod Laying
+pub mod Gathers
+pub mod Gathering

@@ -3,12 +3,16 @@
 #![tactic(auto)]
 
 mod faults;
+mod gathering;
 mod laying;
+mod log_merging;
 mod logs;
 mod merging;
 mod verifying;
 
 pub use faults::VerifyFault;
+pub use gathering::{HeadPart, LogsFault};
+pub use log_merging::{merge_logs, merge_logs_text};
 pub use merging::Merge;
-pub use reg_node::{Record, RecordFault, Recorded, parse_record};
+pub use reg_node::{LogFault, Record, RecordFault, Recorded, parse_record};
 pub use verifying::{Verify, read_record_text, report_by_front};

@@ -128,7 +128,7 @@ fn order_steps<F: FrontEnd, A: Allocator + Copy>(
 }
 
 /// The steps in an order that is a run, by the front end.
-fn order_by_front<A: Allocator + Copy>(
+pub(crate) fn order_by_front<A: Allocator + Copy>(
     alloc: A,
     front: Front,
     shape: Shape,

@@ -19,6 +19,8 @@ mod lines;
 #[cfg(test)]
 mod litmus;
 #[cfg(test)]
+mod logs_merged;
+#[cfg(test)]
 mod one_shown;
 #[cfg(test)]
 mod orders_shown;
