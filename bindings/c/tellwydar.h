@@ -19,9 +19,9 @@
 #define TELLWYDAR_VERSION "0.1.0"
 
 /* Which functions and numbers there are. 2 adds compare-and-swaps, 3 nodes, 4 the judge of histories, 6 chapters and looks
- * at the peers of a node, and 7 how one chapter follows another: all functions and numbers of those before are there, and
- * mean what they did. */
-#define TELLWYDAR_ABI 7
+ * at the peers of a node, 7 how one chapter follows another, and 8 the merge of logs, and whether one never began: all
+ * functions and numbers of those before are there, and mean what they did. */
+#define TELLWYDAR_ABI 8
 
 #ifdef __cplusplus
 extern "C" {
@@ -312,6 +312,12 @@ struct tellwydar_log {
 uint32_t tellwydar_node_begin(const struct tellwydar_log *log, const uint8_t *names, size_t names_length, uint8_t *room,
                               size_t room_length, size_t *length);
 
+/* Puts into `headless` 1 where the text is what a crash can leave of this log before its head is whole, else 0. So no
+ * step stands in it, and the log can be begun anew. Of `log` the cluster, the chapter and the process are looked at,
+ * and not what was drawn. The result is 0, or TELLWYDAR_NO_MEMORY, and then nothing has changed. */
+uint32_t tellwydar_node_is_headless(const struct tellwydar_log *log, const uint8_t *text, size_t text_length,
+                                    uint32_t *headless);
+
 /* Makes a handle with no node behind it: until one is opened, all but looks tell TELLWYDAR_CLOSED. The result is 0, and
  * the handle is set; or TELLWYDAR_NO_MEMORY, and it isn't. */
 uint32_t tellwydar_node_new(struct tellwydar_node **handle);
@@ -461,6 +467,41 @@ static inline void tellwydar_node_free(struct tellwydar_node *handle) {
     tellwydar_node_close(handle);
     free(handle);
 }
+
+/* --- Logs: those of all processes of a chapter, merged ------------------------------------------------------------------------- */
+
+/* What is told of logs that are merged. */
+struct tellwydar_merged {
+    size_t length;  /* how many bytes the text of the record has, also where less room was lent */
+    uint64_t log;   /* of a refusal: the log that it names, by its place from 0, else 0 */
+    uint64_t place; /* and what else it names, else 0 */
+};
+/* Why there is no record of logs. A text that is no log is told as `tellwydar_node_open` tells it, by TELLWYDAR_NOT_A_LOG,
+ * TELLWYDAR_NO_PROCESS or TELLWYDAR_FOREIGN, and the line or the entry in `place`; by TELLWYDAR_DAMAGED if behind the
+ * last line that stands whole a further one ends, which no crash leaves: `place` is then the entry that should be there. */
+enum {
+    TELLWYDAR_NO_LOG = 96,           /* there is no text */
+    TELLWYDAR_OTHER_CHAPTER = 97,    /* the log is the first that isn't of the first one's chapter: `place` is where they differ */
+    TELLWYDAR_SAME_PROCESS = 98,     /* the log is of the process of the one at `place` */
+    TELLWYDAR_NO_LOG_OF = 99,        /* no log is of the process `place` */
+    TELLWYDAR_TOO_MANY_ENTRIES = 100, /* more than 1,048,576 in all logs together */
+    TELLWYDAR_UNFAITHFUL = 101       /* the entry `place` of the log is in no run of first entries of the logs */
+};
+/* Where the heads of logs differ: the first of these. */
+enum {
+    TELLWYDAR_CLUSTER = 0,
+    TELLWYDAR_CHAPTER = 1,
+    TELLWYDAR_FRONT = 2,
+    TELLWYDAR_PROCESSES = 3,
+    TELLWYDAR_REGISTERS = 4
+};
+/* Puts as many bytes into the room as it takes of the text of the record that has the steps of all these logs in an
+ * order that is a run: `tellwydar_verify` takes it. The logs are those of one chapter, one of each process, in any order,
+ * and stand one behind the other: the first has `lengths[0]` bytes, and so on. What a crash left behind the last line of
+ * a log that stands whole is none of it. The result is 0; or it tells why there is no such record, and then `told`
+ * says where, and neither the room nor `length` has changed. TELLWYDAR_NO_MEMORY may come in place of all. */
+uint32_t tellwydar_merge_logs(const uint8_t *logs, size_t logs_length, const uint64_t *lengths, size_t lengths_length, uint8_t *room,
+                              size_t room_length, struct tellwydar_merged *told);
 
 #ifdef __cplusplus
 }

@@ -73,6 +73,24 @@ static void beginnings(struct written *it) {
     expect("and no more", memcmp(room, written_head, 3) == 0 && room[3] == 9);
 }
 
+/* Logs that a crash kept from being begun: each part of a head, with zeros behind it. A step behind it is another matter. */
+static void headless(struct written *it) {
+    struct tellwydar_log log = of_process(0), other = of_process(1);
+    size_t whole = strlen(written_head);
+    uint8_t text[512] = {0};
+    uint32_t told = 9;
+    int all = 1;
+    for (size_t length = 0; length < whole; length++) {
+        memset(text, 0, sizeof text);
+        memcpy(text, written_head, length);
+        all &= tellwydar_node_is_headless(&log, text, length, &told) == 0 && told == 1;
+        all &= tellwydar_node_is_headless(&log, text, sizeof text, &told) == 0 && told == 1;
+    }
+    expect("each part of a head", all);
+    expect("of another process", tellwydar_node_is_headless(&other, text, whole - 1, &told) == 0 && told == 0);
+    expect("the whole head", tellwydar_node_is_headless(&log, it->text, it->length, &told) == 0 && told == 0);
+}
+
 /* Texts with which no node is opened. What was open stays so. */
 static void unopened(struct written *it) {
     char text[512];
@@ -304,12 +322,50 @@ static void courses(struct written *it) {
     tellwydar_node_free(it->node);
 }
 
+/* What is told of the logs of two processes, in this order. */
+static uint32_t merged(const struct written *first, const struct written *second, uint8_t *room, size_t size,
+                       struct tellwydar_merged *told) {
+    uint8_t logs[2 * sizeof first->text];
+    uint64_t lengths[2] = {first->length, second->length};
+    memcpy(logs, first->text, first->length);
+    memcpy(logs + first->length, second->text, second->length);
+    return tellwydar_merge_logs(logs, first->length + second->length, lengths, 2, room, size, told);
+}
+
+/* The logs of a chapter, merged. */
+static void merges(void) {
+    static const char record[] = "tellwydar record 1\nfront linear\nprocesses 2\nregisters x\n0 call write x 5\n";
+    struct written first, second;
+    struct tellwydar_log own = of_process(0), other = of_process(1), later = other;
+    struct tellwydar_merged told = {.length = 9, .log = 9, .place = 9};
+    uint8_t room[128] = {0};
+    later.chapter = 1;
+    expect("begun logs", begun(&own, "x", &first) == 0 && begun(&other, "x", &second) == 0);
+    memcpy(first.text + first.length, called_line, sizeof called_line - 1);
+    first.length += sizeof called_line - 1;
+    expect("one record", merged(&second, &first, room, sizeof room, &told) == 0 && told.length == sizeof record - 1 &&
+                             memcmp(room, record, told.length) == 0);
+    room[8] = 9;
+    expect("the front of it", merged(&first, &second, room, 8, &told) == 0 && told.length == sizeof record - 1 &&
+                                  memcmp(room, record, 8) == 0 && room[8] == 9);
+    expect("twice", merged(&first, &first, room, 0, &told) == TELLWYDAR_SAME_PROCESS && told.log == 1 && told.place == 0 &&
+                        told.length == sizeof record - 1);
+    expect("one alone", tellwydar_merge_logs(second.text, second.length, &(uint64_t){second.length}, 1, room, 0, &told) ==
+                            TELLWYDAR_NO_LOG_OF && told.place == 0);
+    expect("none", tellwydar_merge_logs(room, 0, &(uint64_t){0}, 0, room, 0, &told) == TELLWYDAR_NO_LOG);
+    expect("another chapter", begun(&later, "x", &second) == 0 && merged(&first, &second, room, 0, &told) ==
+                                  TELLWYDAR_OTHER_CHAPTER && told.log == 1 && told.place == TELLWYDAR_CHAPTER);
+    memcpy(second.text, called_line, sizeof called_line - 1);
+    expect("no log", merged(&first, &second, room, 0, &told) == TELLWYDAR_NOT_A_LOG && told.log == 1 && told.place == 1);
+}
+
 int main(void) {
     struct written writer = {.node = NULL}, other = {.node = NULL};
     expect("a handle", tellwydar_node_new(&writer.node) == 0 && writer.node != NULL);
     expect("with no node", tellwydar_node_tick(writer.node) == TELLWYDAR_CLOSED &&
                                tellwydar_node_hand_out(writer.node) == TELLWYDAR_CLOSED);
     beginnings(&writer);
+    headless(&writer);
     expect("opened", reopened(&writer, writer.length, 0) == 0 && seen(&writer, TELLWYDAR_NODE_WHOLE) == writer.length);
     unopened(&writer);
     write_ahead(&writer);
@@ -320,6 +376,7 @@ int main(void) {
     write_and_read(&writer, &other);
     chapters(&other);
     courses(&other);
+    merges();
     printf("%d passed, %d failed\n", passed, failed);
     return failed != 0;
 }

@@ -7,6 +7,7 @@ use Rattle.reg_process.specs.declared.faults.ProcessFault.TheVariants.{NoProcess
 use Rattle.reg_text.specs.Lines.{lines_of}
 use Rattle.reg_text.specs.Words.{names_text}
 use Rattle.reg_node.specs.declared.transcripts.logs.LogId.{LogId}
+use Rattle.reg_node.specs.Headless.{IsHeadless}
 use Rattle.reg_node.specs.LogTexts.{IsJournal, Journal, begun_with, log_text}
 use Rattle.reg_commands.specs.Lent.{filled}
 use Rattle.reg_c.specs.declared.beginning.LogRow.{LogRow}
@@ -52,3 +53,9 @@ abbrev pub TellsBegun : LogRow → List ℕ → ℕ → List ℕ → List ℕ �
 TellsBegun row text code old new old_length new_length =
     ((code ≡ 0) × ((bytes : List ℕ) × BeginsLog row text bytes × (new ≡ filled bytes old) × (new_length ≡ length bytes)))
     ⊎ ((0 < code) × IsUnbegun row text code × (new ≡ old) × (new_length ≡ old_length))
+
+-- 1 says that the text is what a crash can leave of the log with these numbers before its head is whole, and 0 that it
+-- isn't; or there was no memory, and nothing has changed
+abbrev pub TellsHeadless : LogRow → List ℕ → ℕ → ℕ → ℕ → Type 0
+TellsHeadless row text code old new =
+    ((code ≡ 0) × (((new ≡ 1) × IsHeadless (id_in row) text) ⊎ ((new ≡ 0) × (¬ IsHeadless (id_in row) text)))) ⊎ ((code ≡ refusal_code OutOfMemory) × (new ≡ old))

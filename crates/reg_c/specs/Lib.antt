@@ -12,3 +12,4 @@ pub mod NodeChapters
 pub mod RoomRows
 pub mod NodePeers
 pub mod NodeCourses
+pub mod LogMerges

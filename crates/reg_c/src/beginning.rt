@@ -3,7 +3,7 @@ ghost use Rattle.std.specs.Prelude.{◌≡◌, ◌≤◌, ◌<◌, ◌^◌, ◌�
 ghost use Rattle.reg_base.specs.Names.{names_fault};
 ghost use Rattle.reg_base.specs.declared.limits.TheConstants.{MOST_PROCESSES};
 ghost use Rattle.reg_process.specs.declared.faults.ProcessFault.{ProcessFault};
-ghost use Rattle.reg_c.specs.Beginning.{BeginsLog, IsMisplaced, IsUnbegun, SaysNames, TellsBegun};
+ghost use Rattle.reg_c.specs.Beginning.{BeginsLog, IsMisplaced, IsUnbegun, SaysNames, TellsBegun, TellsHeadless};
 ghost use Rattle.reg_c.specs.Events.{refusal_code};
 ghost use Rattle.reg_c.specs.NodeCodes.{bad_names};
 ghost use Rattle.reg_text.specs.Lines.{lines_of};
@@ -17,7 +17,7 @@ use reg_base::limits::MOST_REGISTERS;
 use reg_base::{Names, Shape};
 use reg_commands::fill;
 use reg_front::Front;
-use reg_node::{LogId, begin_log};
+use reg_node::{LogId, begin_log, is_headless};
 use reg_process::ProcessFault;
 use reg_text::{Lines, TextFault, Why, read_names};
 use std::alloc::{AllocError, Global};
@@ -143,5 +143,33 @@ pub extern "C" fn tellwydar_node_begin(
             0
         }
         Err(code) => code,
+    }
+}
+
+/// Puts into `headless` 1 where the text is what a crash can leave, before its head is whole, of the log that the row
+/// says, else 0. Of the row the cluster, the chapter and the process are looked at. If the result isn't 0, there was no
+/// memory, and nothing has changed.
+#[unsafe(no_mangle)]
+pub extern "C" fn tellwydar_node_is_headless(
+    alloc: Global,
+    row: &LogRow,
+    text: &[u8],
+    headless: &mut u32,
+) -> u32
+    ensures { TellsHeadless row.now text.now result headless.old headless.new }
+{
+    let LogRow {
+        cluster,
+        chapter,
+        begun,
+        process,
+        ..
+    } = *row;
+    match is_headless(alloc, text, log_id(cluster, process, chapter, begun)) {
+        Ok(answer) => {
+            *headless = u32::from(answer);
+            0
+        }
+        Err(_) => code_of_refusal(ProcessFault::OutOfMemory),
     }
 }

@@ -11,6 +11,7 @@ mod course_handles;
 mod events;
 pub mod holding;
 mod judging;
+mod log_merges;
 mod looking;
 pub mod node_chapters;
 mod node_codes;
@@ -31,7 +32,7 @@ mod unboxed;
 mod verdicts;
 mod worlds;
 
-pub use beginning::tellwydar_node_begin;
+pub use beginning::{tellwydar_node_begin, tellwydar_node_is_headless};
 pub use chapter_handles::{
     tellwydar_node_hear_state, tellwydar_node_is_over, tellwydar_node_tell_state,
 };
@@ -42,6 +43,7 @@ pub use judging::{
     tellwydar_check_points, tellwydar_check_points_expecting, tellwydar_check_serial,
     tellwydar_check_serial_expecting,
 };
+pub use log_merges::{MergedRow, tellwydar_merge_logs};
 pub use node_handles::{
     tellwydar_node_bytes, tellwydar_node_call, tellwydar_node_came, tellwydar_node_close,
     tellwydar_node_compare_and_swap, tellwydar_node_frames, tellwydar_node_hand_out,
