@@ -17,7 +17,7 @@ import zlib
 
 import zmq
 
-from tellwydar import CompareAndSwap, Front, Read, Swap, Write, check, merge
+from tellwydar import CompareAndSwap, Front, Read, Swap, Write, check, merge_logs
 from tellwydar import Node as CoreNode
 from tellwydar.net import (
     Busy, Closed, Keys, LogFault, LossyRoad, Node, NodeFailed, Paused, Refused, TimedOut, core, judge, road,
@@ -106,9 +106,8 @@ class Logs(unittest.TestCase):
 
     def merged(self, *lists, **other):
         """The entries in the order that is found."""
-        told = merge(judge.record([judge.read(path, self.said.append) for path in self.logs(*lists, **other)]))
-        self.assertEqual(told.status, 0, told.line)
-        return told.answer.decode().splitlines()[4:]
+        logs = [judge.read(path, self.said.append).text for path in self.logs(*lists, **other)]
+        return merge_logs(logs).decode().splitlines()[4:]
 
     def refused(self, why, *lists, **other):
         with self.assertRaises(LogFault) as told:
@@ -124,8 +123,8 @@ class Logs(unittest.TestCase):
         self.assertEqual(self.said, [])
 
     def test_the_record_is_one_text(self):
-        logs = [judge.read(path, self.said.append) for path in self.logs(self.own, self.other)]
-        self.assertEqual(merge(judge.record(logs)).answer, (
+        logs = [judge.read(path, self.said.append).text for path in self.logs(self.own, self.other)]
+        self.assertEqual(merge_logs(logs), (
             b"tellwydar record 1\nfront linear\nprocesses 2\nregisters x\n0 call write x 5\n"
             b"1 take 0 001e010100000000000000000100000000000000010200000000000000000005\n"
             b"0 take 1 000a01020000000000000001\n0 take 1 001301010000000000000000020000000000000002 = done 0\n"))
@@ -228,7 +227,7 @@ class Logs(unittest.TestCase):
             for zeros in (b"", bytes(5)):
                 self.said.clear()
                 path = self.put("0.log", log[:-short] + zeros)
-                self.assertEqual(judge.read(path, self.said.append).steps, [it.encode() for it in self.own[:2]])
+                self.assertEqual(lines_of(judge.read(path, self.said.append).text)[9:], self.own[:2])
                 dropped = f"{path}: the last {last - short} bytes are no whole entries; dropped"
                 self.assertEqual(self.said, [] if short == last else [dropped])
 
@@ -250,7 +249,7 @@ class Spellings(unittest.TestCase):
     def read(self, data):
         with open(self.path, "wb") as file:
             file.write(data)
-        return [step.decode() for step in judge.read(self.path, self.said.append).steps]
+        return lines_of(judge.read(self.path, self.said.append).text)[9:]
 
     def test_is_read_as_it_was_written(self):
         text = self.head.text()

@@ -4,8 +4,8 @@ Each process of a `World` keeps a copy of all registers, and keeps it in step by
 by events: calls of operations, takes of frames, ticks. A history of one's own is judged by `check_serial` and `check_points`. The
 commands of the program `awreg` are `replay`, `check`, `play` and `play_fair`. A `Process` is one process alone, whose
 frames one carries oneself; what such processes did is put into one order by `merge`, and judged by `verify`. A `Node` is
-one process that outlives crashes by a log, which one writes down. What any system answered its clients is judged by
-`judge`.
+one process that outlives crashes by a log, which one writes down; the logs of all are put into one order by
+`merge_logs`. What any system answered its clients is judged by `judge`.
 
 The environment's TELLWYDAR_LIB names the folder of `libtellwydar.so`, which `tools/bindings --keep FOLDER` makes.
 """
@@ -17,9 +17,10 @@ from dataclasses import dataclass
 from typing import Any, Callable, Dict, List, NoReturn, Optional, Sequence, Tuple, Union
 
 __all__ = [
-    "UNEQUAL", "Answered", "Called", "CompareAndSwap", "Fault", "Front", "HistoryRefused", "Judgement", "Known", "Look",
-    "Node", "Output", "Process", "Read", "Refused", "Reply", "Row", "Swap", "Told", "Unequal", "World", "Write",
-    "check", "check_points", "check_serial", "judge", "merge", "play", "play_fair", "replay", "verify",
+    "UNEQUAL", "Answered", "Called", "CompareAndSwap", "Fault", "Front", "HistoryRefused", "Judgement", "Known",
+    "LogsFault", "LogsRefused", "Look", "Node", "Output", "Process", "Read", "Refused", "Reply", "Row", "Swap", "Told",
+    "Unequal", "World", "Write", "check", "check_points", "check_serial", "judge", "merge", "merge_logs", "play",
+    "play_fair", "replay", "verify",
 ]
 
 
@@ -555,3 +556,4 @@ class Process(_Progress):
 
 from .histories import HistoryRefused, Judgement, Row, judge  # noqa: E402 (they stand on what is above)
 from .node import Look, Node, Output  # noqa: E402
+from .logs import LogsFault, LogsRefused, merge_logs  # noqa: E402

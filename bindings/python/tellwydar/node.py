@@ -44,6 +44,7 @@ def _declare() -> None:
     size, room, handle = ctypes.c_size_t, ctypes.c_char_p, ctypes.c_void_p
     for word, result, given in (
         ("begin", u32, [ctypes.POINTER(_Log), room, size, room, size, ctypes.POINTER(size)]),
+        ("is_headless", u32, [ctypes.POINTER(_Log), room, size, ctypes.POINTER(u32)]),
         ("new", u32, [ctypes.POINTER(handle)]),
         ("open", u32, [handle, room, size, u64]),
         ("call", u32, [handle, u32, u32, u64]),
@@ -134,6 +135,17 @@ class Node(_Progress):
         if code:
             raise Refused(_REFUSALS[code])
         return room.raw[: length.value]
+
+    @staticmethod
+    def is_headless(log: bytes, *, cluster: int, process: int, chapter: int) -> bool:
+        """Whether this is what a crash can leave of such a log before its head is whole: then no step stands in it, and
+        it can be begun anew."""
+        row = _Log(_ranged(cluster, 64), _ranged(chapter, 64), process=_ranged(process, 8))
+        headless = ctypes.c_uint32()
+        code = _library.tellwydar_node_is_headless(ctypes.byref(row), log, len(log), ctypes.byref(headless))
+        if code:
+            raise Refused(_REFUSALS[code])
+        return headless.value == 1
 
     @classmethod
     def open(cls, log: bytes, durable: int, *, guarded: bool = False) -> "Node":

@@ -53,6 +53,14 @@ pub struct RoomRow {
     pub most: u64,
 }
 
+#[derive(Default)]
+#[repr(C)]
+pub struct MergedRow {
+    pub length: usize,
+    pub log: u64,
+    pub place: u64,
+}
+
 /// What a handle points to.
 #[derive(Debug)]
 #[repr(C)]
@@ -132,6 +140,7 @@ unsafe extern "C" {
         room_length: usize,
         length: *mut usize,
     ) -> u32;
+    pub fn tellwydar_node_is_headless(log: *const LogRow, text: *const u8, text_length: usize, headless: *mut u32) -> u32;
     pub fn tellwydar_node_new(handle: *mut *mut Opaque) -> u32;
     pub fn tellwydar_node_open(handle: *mut Opaque, text: *const u8, text_length: usize, durable: u64) -> u32;
     pub fn tellwydar_node_call(handle: *mut Opaque, kind: u32, register: u32, value: u64) -> u32;
@@ -156,5 +165,14 @@ unsafe extern "C" {
     pub fn tellwydar_node_watch(handle: *mut Opaque, peer: u8) -> u32;
     pub fn tellwydar_node_came(handle: *mut Opaque, peer: u8) -> u32;
     pub fn tellwydar_node_close(handle: *mut Opaque);
+    pub fn tellwydar_merge_logs(
+        logs: *const u8,
+        logs_length: usize,
+        lengths: *const u64,
+        lengths_length: usize,
+        room: *mut u8,
+        room_length: usize,
+        told: *mut MergedRow,
+    ) -> u32;
     pub fn free(block: *mut Opaque);
 }

@@ -57,6 +57,30 @@ impl fmt::Display for LogFault {
 
 impl std::error::Error for LogFault {}
 
+impl From<&LogHead> for LogRow {
+    fn from(head: &LogHead) -> Self {
+        Self {
+            cluster: head.cluster,
+            chapter: head.chapter,
+            begun: head.begun,
+            front: head.front.number().into(),
+            processes: head.processes.into(),
+            process: head.process,
+        }
+    }
+}
+
+/// The fault that these numbers tell.
+pub(crate) fn log_fault(code: u32, place: u64) -> LogFault {
+    match code {
+        72 => LogFault::NotALog { line: place },
+        73 => LogFault::Damaged { entry: place },
+        74 => LogFault::NotAStep { entry: place },
+        75 => LogFault::Foreign { entry: place },
+        code => LogFault::Refused(refused(code)),
+    }
+}
+
 /// What is due at a look at another process.
 #[derive(Clone, Copy, Debug, PartialEq, Eq)]
 pub struct Look {
@@ -106,13 +130,11 @@ impl LoggedNode {
     ///
     /// `NoShape`, `NoProcess`, `BadNames` and `OutOfMemory`.
     pub fn begin(head: &LogHead) -> Result<Vec<u8>, Refused> {
-        let LogHead { cluster, chapter, begun, front, processes, process, ref names } = *head;
         // (the library takes one text, with a space between two names)
-        if names.iter().any(|it| it.contains(' ')) {
+        if head.names.iter().any(|it| it.contains(' ')) {
             return Err(Refused::BadNames);
         }
-        let (names, processes) = (names.join(" "), processes.into());
-        let row = LogRow { cluster, chapter, begun, front: front.number().into(), processes, process };
+        let (row, names) = (LogRow::from(head), head.names.join(" "));
         let (mut room, mut length) = (vec![0; HEAD + names.len()], 0);
         // SAFETY: each pointer and length are those of one value, which are apart.
         let code = unsafe {
@@ -120,6 +142,19 @@ impl LoggedNode {
         };
         room.truncate(length);
         if code == 0 { Ok(room) } else { Err(refused(code)) }
+    }
+
+    /// Whether the text is what a crash can leave of this log before its head is whole: then no step stands in it, and
+    /// the log can be begun anew. The cluster, the chapter and the process are looked at.
+    ///
+    /// # Errors
+    ///
+    /// `OutOfMemory`.
+    pub fn is_headless(text: &[u8], head: &LogHead) -> Result<bool, Refused> {
+        let (row, mut headless) = (LogRow::from(head), 0);
+        // SAFETY: each pointer and length are those of one value, which are apart.
+        let code = unsafe { foreign::tellwydar_node_is_headless(&row, text.as_ptr(), text.len(), &mut headless) };
+        if code == 0 { Ok(headless == 1) } else { Err(refused(code)) }
     }
 
     /// A node that goes on after its log, and hasn't heard from any other process. All entries count as durable, so see
@@ -138,14 +173,7 @@ impl LoggedNode {
         // SAFETY: the handle is of `tellwydar_node_new`; the pointer and the length are those of one slice.
         let code = unsafe { foreign::tellwydar_node_open(handle.as_ptr(), text.as_ptr(), text.len(), durable) };
         let place = node.look(14, 0);
-        match code {
-            0 => Ok(node),
-            72 => Err(LogFault::NotALog { line: place }),
-            73 => Err(LogFault::Damaged { entry: place }),
-            74 => Err(LogFault::NotAStep { entry: place }),
-            75 => Err(LogFault::Foreign { entry: place }),
-            code => Err(LogFault::Refused(refused(code))),
-        }
+        if code == 0 { Ok(node) } else { Err(log_fault(code, place)) }
     }
 
     /// Calls an operation, and gives the bytes by which the log grows.

@@ -45,6 +45,20 @@ fn written() -> Result<(LoggedNode, String), Refused> {
 }
 
 #[test]
+fn a_log_whose_head_is_not_whole_never_began() {
+    let told = |text: &[u8], process| LoggedNode::is_headless(text, &head(process));
+    for length in 0..HEAD.len() {
+        let (part, zeros) = (&HEAD.as_bytes()[..length], [0; 20]);
+        assert_eq!(told(part, 0), Ok(true), "{length}");
+        assert_eq!(told(&[part, &zeros[..]].concat(), 0), Ok(true), "{length}");
+        // (the first 44 bytes say nothing of a process, but for its seal)
+        assert_eq!(told(part, 1), Ok(length <= 44), "{length}");
+    }
+    assert_eq!(told(HEAD.as_bytes(), 0), Ok(false));
+    assert_eq!(told(&[HEAD, CALLED].concat().into_bytes(), 0), Ok(false));
+}
+
+#[test]
 fn a_log_begins_with_its_head() {
     assert_eq!(LoggedNode::begin(&head(0)).as_deref(), Ok(HEAD.as_bytes()));
     let begun = |change: &dyn Fn(&mut LogHead)| {

@@ -39,9 +39,7 @@ class Head(NamedTuple):
 
     def never_began(self, text: bytes) -> bool:
         """Whether this is what a crash can leave of such a log before its head is whole."""
-        text = text.rstrip(b"\0")
-        sure = b"".join(self.text().splitlines(True)[:4])  # (behind these stands what was drawn)
-        return sure.startswith(text) or text.startswith(sure) and text.count(b"\n") < HEAD_LINES
+        return Node.is_headless(text, cluster=self.cluster, process=self.me, chapter=self.chapter)
 
 
 def lines_of(text: bytes, most: int = -1) -> List[bytes]:

@@ -23,7 +23,7 @@ fn word(line: &[u8], at: usize) -> &[u8] {
 }
 
 /// The number that the line of a head says.
-pub fn number(line: &[u8]) -> Option<u64> {
+fn number(line: &[u8]) -> Option<u64> {
     std::str::from_utf8(word(line, 1)).ok()?.parse().ok()
 }
 
@@ -59,15 +59,6 @@ pub fn open(path: &Path, text: &[u8]) -> Result<LoggedNode, Fault> {
         LogFault::Foreign { entry } => at(entry + first, "of another process"),
         why => Fault::OtherLog(format!("{}: {why}", path.display())),
     })
-}
-
-/// Whether a text lacks some of the head of this log and has no other: a crash came before all of it was written.
-pub fn is_headless(text: &[u8], head: &LogHead) -> Result<bool, Fault> {
-    let whole = LoggedNode::begin(head)?;
-    // (behind the first lines comes what was drawn)
-    let known: usize = whole.split_inclusive(|&it| it == b'\n').take(BEGUN).map(<[u8]>::len).sum();
-    let known = known.min(text.len());
-    Ok(text[..known] == whole[..known] && text.iter().filter(|&&it| it == b'\n').take(HEAD).count() < HEAD)
 }
 
 /// A line as it is told.

@@ -3,16 +3,11 @@ use crate::fault::Fault;
 use crate::log_text::{self, HEAD, shown};
 use std::fmt;
 use std::path::{Path, PathBuf};
-use tellwydar::verify;
+use tellwydar::{LogFault, LogsFault, merge_logs, verify};
 
-/// The lines before the entries of a record.
-const RECORD_HEAD: usize = 4;
 /// The lines that all logs of a chapter have in common, from 0: cluster, chapter, front end, processes, registers.
 const COMMON: [usize; 5] = [1, 3, 6, 7, 8];
 const PROCESS: usize = 2;
-const PROCESSES: usize = 7;
-/// What the library says of an entry that is in no run of first entries of the logs.
-const UNFAITHFUL: &str = "unfaithful";
 
 /// Why logs have no report: one can't be read, they aren't those of one cluster, or no run has what a line says.
 #[derive(Clone, Debug, PartialEq, Eq)]
@@ -38,84 +33,76 @@ impl From<Fault> for MergeFault {
     }
 }
 
-/// A log, by its lines without seals.
-struct Log {
-    path: PathBuf,
-    process: usize,
+/// A log, each entry of which is a step of its process.
+struct Log<'a> {
+    path: &'a Path,
     text: Vec<u8>,
-    /// How many of its entries are judged.
-    entries: usize,
+    /// How many bytes of it stand whole.
+    whole: usize,
 }
 
-impl Log {
-    fn read(path: &Path) -> Result<Self, MergeFault> {
+impl<'a> Log<'a> {
+    fn read(path: &'a PathBuf) -> Result<Self, MergeFault> {
         let text = log_text::read(path)?;
-        let node = log_text::open(path, &text)?;
-        let (log, rest) = text.split_at(node.whole());
-        // (a crash leaves a part of a line, and no whole one)
-        if rest.contains(&b'\n') {
-            let line = HEAD + node.logged() as usize + 1;
-            return Err(MergeFault::at(path, line, "changed, or a line before it is missing"));
-        }
-        log_text::say_cut(path, rest.len());
-        let lines: Vec<&[u8]> = log_text::lines(log).collect();
-        let process = log_text::number(lines[PROCESS]).unwrap_or_default() as usize;
-        Ok(Self { path: path.to_path_buf(), process, text: lines.concat(), entries: node.logged() as usize })
+        let whole = log_text::open(path, &text)?.whole();
+        Ok(Self { path, text, whole })
     }
 
-    fn lines(&self) -> impl Iterator<Item = &[u8]> {
-        self.text.split_inclusive(|&it| it == b'\n')
+    /// A line of its head, without its seal.
+    fn line(&self, at: usize) -> String {
+        shown(log_text::lines(&self.text).nth(at).unwrap_or_default())
     }
 
-    fn entry_lines(&self) -> impl Iterator<Item = &[u8]> {
-        self.lines().skip(HEAD).take(self.entries)
-    }
-
-    fn line(&self, at: usize) -> &[u8] {
-        self.lines().nth(at).unwrap_or_default()
+    /// Leaves so many entries.
+    fn cut(&mut self, entries: u64) {
+        let lines = self.text.split_inclusive(|&it| it == b'\n').take(HEAD + entries as usize);
+        self.whole = lines.map(<[u8]>::len).sum();
+        self.text.truncate(self.whole);
     }
 }
 
-/// The logs by their processes, where they are those of one cluster and one chapter.
-fn gathered(mut logs: Vec<Log>) -> Result<Vec<Log>, MergeFault> {
-    logs.sort_by_key(|it| it.process);
-    let Some(first) = logs.first() else { return Err(MergeFault("no log".to_string())) };
-    for it in &logs {
-        if let Some(&at) = COMMON.iter().find(|&&at| it.line(at) != first.line(at)) {
-            let (path, other, wanted) = (it.path.display(), first.path.display(), shown(first.line(at)));
-            return Err(MergeFault(format!("{path} is of {}, and {other} of {wanted}", shown(it.line(at)))));
+/// Why there is no record of these logs, by their paths and lines.
+fn told(logs: &[Log<'_>], fault: LogsFault) -> MergeFault {
+    let at_entry = |log: usize, entry: u64, why| MergeFault::at(logs[log].path, HEAD + entry as usize + 1, why);
+    match fault {
+        LogsFault::Unread { log, fault: LogFault::Damaged { entry } } => {
+            at_entry(log, entry, "changed, or a line before it is missing")
         }
+        LogsFault::Unread { log, fault } => MergeFault(format!("{}: {fault}", logs[log].path.display())),
+        LogsFault::Other { log, part } => {
+            let (log, first, at) = (&logs[log], &logs[0], COMMON[part as usize]);
+            let (path, other) = (log.path.display(), first.path.display());
+            MergeFault(format!("{path} is of {}, and {other} of {}", log.line(at), first.line(at)))
+        }
+        LogsFault::Twice { log, before } => {
+            let (path, other) = (logs[log].path.display(), logs[before].path.display());
+            MergeFault(format!("{path} and {other} are both of {}", logs[log].line(PROCESS)))
+        }
+        LogsFault::Unfaithful { log, entry } => at_entry(log, entry, "unfaithful"),
+        fault => MergeFault(fault.to_string()),
     }
-    if let Some(pair) = logs.windows(2).find(|it| it[0].process == it[1].process) {
-        let (path, other, process) = (pair[1].path.display(), pair[0].path.display(), pair[0].process);
-        return Err(MergeFault(format!("{path} and {other} are both of process {process}")));
-    }
-    let processes = log_text::number(first.line(PROCESSES)).unwrap_or_default() as usize;
-    if let Some(process) = (0..processes).find(|&it| logs.get(it).is_none_or(|log| log.process != it)) {
-        return Err(MergeFault(format!("no log of process {process}")));
-    }
-    Ok(logs)
 }
 
-/// All entries as the text of a record, log by log.
-fn record(logs: &[Log]) -> Vec<u8> {
-    let head = logs[0].lines().skip(HEAD - RECORD_HEAD).take(RECORD_HEAD);
-    head.chain(logs.iter().flat_map(Log::entry_lines)).collect::<Vec<_>>().concat()
-}
-
-/// Which entry of which log a line of that record is, and what the library says of it.
-fn refused(logs: &[Log], line: &[u8]) -> Result<(usize, usize, String), MergeFault> {
-    let line = shown(line);
-    let other = || MergeFault(line.clone());
-    let (number, why) = line.strip_prefix("line ").and_then(|it| it.split_once(": ")).ok_or_else(other)?;
-    let mut entry = number.parse::<usize>().ok().and_then(|it| it.checked_sub(RECORD_HEAD + 1)).ok_or_else(other)?;
-    for (at, log) in logs.iter().enumerate() {
-        if entry < log.entries {
-            return Ok((at, entry, why.to_string()));
+/// The record of these logs in an order that is a run.
+///
+/// With `cut` what is in no run of first entries of the logs is left out, with a word on the error stream.
+fn record(paths: &[PathBuf], cut: bool) -> Result<Vec<u8>, MergeFault> {
+    let mut logs = paths.iter().map(Log::read).collect::<Result<Vec<_>, _>>()?;
+    let dropped: Vec<_> = logs.iter().map(|it| it.text.len() - it.whole).collect();
+    loop {
+        let texts: Vec<&[u8]> = logs.iter().map(|it| it.text.as_slice()).collect();
+        match merge_logs(&texts) {
+            Ok(record) => {
+                logs.iter().zip(dropped).for_each(|(log, count)| log_text::say_cut(log.path, count));
+                return Ok(record);
+            }
+            Err(LogsFault::Unfaithful { log, entry }) if cut => {
+                eprintln!("cut: {}", told(&logs, LogsFault::Unfaithful { log, entry }));
+                logs[log].cut(entry);
+            }
+            Err(fault) => return Err(told(&logs, fault)),
         }
-        entry -= log.entries;
     }
-    Err(other())
 }
 
 /// The report of the run that these logs are.
@@ -126,22 +113,8 @@ fn refused(logs: &[Log], line: &[u8]) -> Result<(usize, usize, String), MergeFau
 ///
 /// The first place at which they are none.
 pub fn merge(paths: &[PathBuf], cut: bool) -> Result<Vec<u8>, MergeFault> {
-    let mut logs = gathered(paths.iter().map(|it| Log::read(it)).collect::<Result<_, _>>()?)?;
-    loop {
-        let merged = tellwydar::merge(&record(&logs));
-        if merged.status == 0 {
-            let told = verify(&merged.answer);
-            let why = || MergeFault(shown(&told.line));
-            return if told.status == 0 { Ok(told.answer) } else { Err(why()) };
-        }
-        let (at, entry, why) = refused(&logs, &merged.line)?;
-        let fault = MergeFault::at(&logs[at].path, HEAD + entry + 1, &why);
-        if !cut || why != UNFAITHFUL {
-            return Err(fault);
-        }
-        eprintln!("cut: {fault}");
-        logs[at].entries = entry;
-    }
+    let report = verify(&record(paths, cut)?);
+    if report.status == 0 { Ok(report.answer) } else { Err(MergeFault(shown(&report.line))) }
 }
 
 #[cfg(test)]

@@ -23,11 +23,7 @@ fn merged(test: &str, logs: &[Vec<u8>], cut: bool) -> Result<Vec<u8>, String> {
 
 /// The record of these logs in the order that the library finds, or why there is none.
 fn ordered(test: &str, logs: &[Vec<u8>]) -> Result<String, String> {
-    stored(test, logs, |paths| {
-        let logs = gathered(paths.iter().map(|it| Log::read(it)).collect::<Result<_, _>>()?)?;
-        let told = tellwydar::merge(&record(&logs));
-        if told.status == 0 { Ok(shown(&told.answer) + "\n") } else { Err(MergeFault(shown(&told.line))) }
-    })
+    stored(test, logs, |paths| record(paths, false)).map(|it| shown(&it) + "\n")
 }
 
 /// A log whose lines have another text in place of this one.
@@ -87,7 +83,7 @@ fn what_was_never_put_finds_no_place() {
     };
     assert!(read("linear", "0 call read x\n").is_ok());
     let told = read("local-read", "0 call read x = value 0 0\n");
-    assert_eq!(told, Err("line 6: unfaithful".to_string()));
+    assert_eq!(told, Err("1.log: line 10: unfaithful".to_string()));
 }
 
 #[test]
@@ -103,7 +99,7 @@ fn the_count_0_is_put_by_an_early_frame_alone() {
     };
     let order = ordered(&cast(1, 2)).expect("an order");
     assert!(order.ends_with(&[&wrote, &cast(1, 2), early].concat()), "{order}");
-    assert_eq!(ordered(&cast(0, 1)), Err("line 7: unfaithful".to_string()));
+    assert_eq!(ordered(&cast(0, 1)), Err("0.log: line 12: unfaithful".to_string()));
 }
 
 #[test]
