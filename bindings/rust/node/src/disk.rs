@@ -1,65 +1,169 @@
-//! The disk of a node with `sync`: a thread of its own has entries there, so that the node's thread waits for that for
-//! no longer than its caller wants to.
-use crate::log_file::Entries;
+//! The disk of a node: one thread has all that is written in hands, so that the node's thread waits for the disk for no
+//! longer than its caller wants to.
+use crate::fault::Fault;
+use crate::log_file::{LogFile, keep};
 use crate::road::Ringer;
 use std::io;
+use std::path::PathBuf;
+use std::sync::Arc;
+use std::sync::atomic::{AtomicBool, Ordering, fence};
 use std::sync::mpsc::{Receiver, SyncSender, TryRecvError, sync_channel};
-use std::thread;
+use std::thread::{self, JoinHandle};
+use std::time::Duration;
 
-/// What has entries on a disk.
-pub trait Write: Fn(&Entries) -> io::Result<()> + Send + 'static {}
+const BRIEF: Duration = Duration::from_millis(1);
 
-impl<W: Fn(&Entries) -> io::Result<()> + Send + 'static> Write for W {}
+/// What there is to do, which is given back when it is done.
+#[derive(Debug)]
+pub enum Job {
+    /// These entries are added to the log, which has so many then; with `force` all of it is on the disk.
+    Write { lines: Vec<u8>, entries: u64, force: bool },
+    /// The log is on the disk, and so many operations were called up to the end of its chapter, says the file at this
+    /// path.
+    Quiet { path: PathBuf, called: u64 },
+    /// The log is on the disk, and that of the next chapter, which is at this path, begins with this text.
+    Turn { path: PathBuf, text: Vec<u8> },
+}
 
-/// The thread, which has to do with some entries at a time. It ends where this is dropped, once it is done.
+/// What is just to be done to the disk.
+#[derive(Clone, Copy, Debug, PartialEq, Eq)]
+pub enum Act {
+    /// Entries are written; whether they are forced to the disk then.
+    Write(bool),
+    Force,
+    Quiet,
+    /// The log of a chapter that is over is forced to the disk.
+    End,
+    Create,
+    Begin,
+}
+
+/// For how long one waits until it is done.
+#[derive(Clone, Copy, Debug, PartialEq, Eq)]
+pub enum Wait {
+    Not,
+    /// Before one waits on a road too, which costs more.
+    Briefly,
+    Long,
+}
+
+/// What goes before each act, and may refuse it.
+pub trait Gate: FnMut(Act) -> io::Result<()> + Send + 'static {}
+
+impl<G: FnMut(Act) -> io::Result<()> + Send + 'static> Gate for G {}
+
+/// The thread, which has one job at a time.
 pub struct Disk {
-    entries: SyncSender<Entries>,
-    done: Receiver<(Entries, io::Result<()>)>,
+    /// It ends where there is nobody who could give it one.
+    jobs: Option<SyncSender<Job>>,
+    done: Receiver<Result<Job, Fault>>,
+    thread: Option<JoinHandle<()>>,
+    /// Whether it rings once it is done.
+    rings: Arc<AtomicBool>,
     is_busy: bool,
+    /// It was waited for briefly.
+    is_slow: bool,
 }
 
 fn is_gone() -> io::Error {
     io::Error::other("the thread that writes the log is gone")
 }
 
+fn done(mut job: Job, log: &mut LogFile, gate: &mut impl Gate) -> Result<Job, Fault> {
+    match &mut job {
+        Job::Write { lines, force, .. } => {
+            gate(Act::Write(*force))?;
+            log.write(lines, *force)?;
+            lines.clear();
+            if *force {
+                gate(Act::Force)?;
+                log.force()?;
+            }
+        }
+        Job::Quiet { path, called } => {
+            gate(Act::Quiet)?;
+            log.force()?;
+            keep(path, format!("{called}\n").as_bytes())?;
+        }
+        Job::Turn { path, text } => {
+            gate(Act::End)?;
+            log.force()?;
+            gate(Act::Create)?;
+            let mut next = LogFile::create(path)?;
+            gate(Act::Begin)?;
+            next.begin(text)?;
+            *log = next;
+        }
+    }
+    Ok(job)
+}
+
 impl Disk {
-    /// Starts the thread, which writes by this function, and then rings.
-    pub fn start(ringer: Ringer, write: impl Write) -> io::Result<Self> {
-        let ((entries, given), (tell, done)) = (sync_channel::<Entries>(1), sync_channel(1));
+    /// Starts the thread, which has this log in hands.
+    pub fn start(mut log: LogFile, ringer: Ringer, mut gate: impl Gate) -> io::Result<Self> {
+        let ((jobs, given), (tell, done_with)) = (sync_channel(1), sync_channel(1));
+        let rings = Arc::new(AtomicBool::new(false));
+        let is_awaited = Arc::clone(&rings);
         let serve = move || {
-            for it in given {
-                let wrote = write(&it);
-                if tell.send((it, wrote)).is_err() {
+            for job in given {
+                if tell.send(done(job, &mut log, &mut gate)).is_err() {
                     return;
                 }
-                ringer.ring();
+                // (either this is seen to be awaited, or what was told just now is seen)
+                fence(Ordering::SeqCst);
+                if is_awaited.swap(false, Ordering::Relaxed) {
+                    ringer.ring();
+                }
             }
         };
-        thread::Builder::new().name("tellwydar-disk".to_string()).spawn(serve)?;
-        Ok(Self { entries, done, is_busy: false })
+        let thread = thread::Builder::new().name("tellwydar-disk".to_string()).spawn(serve)?;
+        Ok(Self { jobs: Some(jobs), done: done_with, thread: Some(thread), rings, is_busy: false, is_slow: false })
     }
 
-    /// Whether it has begun with entries, and isn't known to have them on the disk.
+    /// Whether it has a job, and isn't known to be done with it.
     pub fn is_busy(&self) -> bool {
         self.is_busy
     }
 
-    /// Gives it entries, where it isn't busy: nothing is waited for.
-    pub fn begin(&mut self, entries: Entries) -> io::Result<()> {
-        self.is_busy = true;
-        self.entries.try_send(entries).map_err(|_| is_gone())
+    /// Gives it a job, where it isn't busy: nothing is waited for.
+    pub fn begin(&mut self, job: Job) -> io::Result<()> {
+        (self.is_busy, self.is_slow) = (true, false);
+        self.jobs.as_ref().and_then(|it| it.try_send(job).ok()).ok_or_else(is_gone)
     }
 
-    /// The entries that it has begun with, once they are on the disk. With `must` that is waited for.
-    pub fn end(&mut self, must: bool) -> io::Result<Option<Entries>> {
-        let done = if must { self.done.recv().map_err(TryRecvError::from) } else { self.done.try_recv() };
+    /// The job that it has, if it is done with it within this time; where that was brief, it rings else once it is. For a
+    /// job one waits briefly once.
+    pub fn end(&mut self, wait: Wait) -> Result<Option<Job>, Fault> {
+        if !self.is_busy {
+            return Ok(None);
+        }
+        let mut done = match wait {
+            Wait::Briefly if !self.is_slow => self.done.recv_timeout(BRIEF).map_err(|_| TryRecvError::Empty),
+            Wait::Not | Wait::Briefly => self.done.try_recv(),
+            Wait::Long => self.done.recv().map_err(TryRecvError::from),
+        };
+        if done.is_err() && wait == Wait::Briefly {
+            // (said each time: it may have rung for the last job only now)
+            self.is_slow = true;
+            self.rings.store(true, Ordering::Relaxed);
+            fence(Ordering::SeqCst);
+            done = self.done.try_recv();
+        }
         match done {
-            Ok((entries, wrote)) => {
+            Ok(done) => {
                 self.is_busy = false;
-                wrote.map(|()| Some(entries))
+                done.map(Some)
             }
             Err(TryRecvError::Empty) => Ok(None),
-            Err(TryRecvError::Disconnected) => Err(is_gone()),
+            Err(TryRecvError::Disconnected) => Err(is_gone().into()),
         }
+    }
+}
+
+impl Drop for Disk {
+    /// Waits until the thread is done with its job and has let go of the log.
+    fn drop(&mut self) {
+        self.jobs = None;
+        let _ = self.thread.take().map(JoinHandle::join);
     }
 }

@@ -4,40 +4,15 @@ use std::fs::{File, OpenOptions, TryLockError};
 use std::io::{self, Read, Write};
 use std::os::unix::fs::{FileExt, OpenOptionsExt};
 use std::path::{Path, PathBuf};
-use std::sync::Arc;
 
 /// Room that is made ahead of what is forced to the disk: a file that doesn't grow is there a third sooner.
 const ROOM: u64 = 1 << 20;
 
-/// Entries that are to be written, and where.
-#[derive(Debug)]
-pub struct Entries {
-    file: Arc<File>,
-    lines: Vec<u8>,
-    at: u64,
-    /// How much room is made before.
-    room: Option<u64>,
-    sync: bool,
-}
-
-impl Entries {
-    /// Hands them to the system, in one call, and with `sync` to the disk.
-    pub fn write(&self) -> io::Result<()> {
-        if let Some(room) = self.room {
-            self.file.set_len(room)?;
-        }
-        self.file.write_all_at(&self.lines, self.at)?;
-        if self.sync { self.file.sync_data() } else { Ok(()) }
-    }
-}
-
-/// A file that grows by entries. Those that were added are written by [`LogFile::write`], or where one wants to: then
-/// nothing else is added before [`LogFile::wrote`] is told so.
+/// A file that grows by entries.
 #[derive(Debug)]
 pub struct LogFile {
     path: PathBuf,
-    file: Arc<File>,
-    lines: Vec<u8>,
+    file: File,
     /// How many bytes are written, and how many the file has, where room was made.
     end: u64,
     room: u64,
@@ -69,7 +44,7 @@ impl LogFile {
     fn of(path: &Path, options: &OpenOptions) -> Result<Self, Fault> {
         let file = options.open(path).map_err(|why| at_path(path, why))?;
         match file.try_lock() {
-            Ok(()) => Ok(Self { path: path.to_path_buf(), file: Arc::new(file), lines: Vec::new(), end: 0, room: 0 }),
+            Ok(()) => Ok(Self { path: path.to_path_buf(), file, end: 0, room: 0 }),
             Err(TryLockError::WouldBlock) => {
                 Err(Fault::OtherLog(format!("{} is the log of a node that runs", path.display())))
             }
@@ -94,17 +69,16 @@ impl LogFile {
 
     /// A file that is there, with its text. From here on it is in no other program's hands.
     pub fn reopen(path: &Path) -> Result<(Self, Vec<u8>), Fault> {
-        let file = Self::of(path, OpenOptions::new().read(true).write(true))?;
+        let mut file = Self::of(path, OpenOptions::new().read(true).write(true))?;
         let mut text = Vec::new();
-        (&*file.file).read_to_end(&mut text).map_err(|why| at_path(path, why))?;
+        file.file.read_to_end(&mut text).map_err(|why| at_path(path, why))?;
         Ok((file, text))
     }
 
     /// Begins a log in this file, which is on the disk then.
     pub fn begin(&mut self, head: &[u8]) -> io::Result<()> {
         self.go_on(0)?;
-        self.add(head);
-        self.write(false)?;
+        self.write(head, false)?;
         self.file.sync_all()?;
         sync_folder(&self.path)
     }
@@ -115,32 +89,21 @@ impl LogFile {
         self.file.set_len(whole)
     }
 
-    /// Adds the bytes of an entry, which aren't written yet.
-    pub fn add(&mut self, bytes: &[u8]) {
-        self.lines.extend_from_slice(bytes);
-    }
-
-    /// Hands all that was added to the system, and with `sync` to the disk.
-    pub fn write(&mut self, sync: bool) -> io::Result<()> {
-        let entries = self.taken(sync);
-        entries.write()?;
-        self.wrote(entries);
+    /// Hands entries to the system, in one call. Where they are forced to the disk then, room is made before.
+    pub fn write(&mut self, entries: &[u8], is_forced: bool) -> io::Result<()> {
+        let end = self.end + entries.len() as u64;
+        if is_forced && end > self.room {
+            self.file.set_len(end + ROOM)?;
+            self.room = end + ROOM;
+        }
+        self.file.write_all_at(entries, self.end)?;
+        self.end = end;
         Ok(())
     }
 
-    /// All that was added, to be written.
-    pub fn taken(&mut self, sync: bool) -> Entries {
-        let end = self.end + self.lines.len() as u64;
-        let room = (sync && end > self.room).then_some(end + ROOM);
-        self.room = room.unwrap_or(self.room);
-        Entries { file: Arc::clone(&self.file), lines: std::mem::take(&mut self.lines), at: self.end, room, sync }
-    }
-
-    /// These entries, which were taken, are written.
-    pub fn wrote(&mut self, entries: Entries) {
-        self.end = entries.at + entries.lines.len() as u64;
-        self.lines = entries.lines;
-        self.lines.clear();
+    /// Has all that was written on the disk.
+    pub fn force(&self) -> io::Result<()> {
+        self.file.sync_data()
     }
 }
 

@@ -87,8 +87,7 @@ fn a_cut_entry_is_dropped_and_the_log_goes_on_before_it() {
     let mut node = open(&room.log(), &text).expect("a node");
     assert_eq!((entries(&text[..node.whole()]), node.logged()), (ENTRIES.replace("0 tick\n", ""), 4));
     file.go_on(node.whole() as u64).expect("room");
-    file.add(node.tick().expect("an entry"));
-    file.write(true).expect("room");
+    file.write(node.tick().expect("an entry"), true).expect("room");
     // (what a crash leaves here has room after it)
     assert!(fs::read(room.log()).expect("a log").len() > log.len());
     assert_eq!(read(&room.log()).expect("a log"), log);

@@ -1,14 +1,13 @@
 //! A node: one process with its log, and a road to the others.
 //!
 //! A step is made, its entry is written, and only then does the library hand out its frames and its answer; of what
-//! comes in, some messages are taken with one write for all. With `sync` a thread of its own has entries on the disk
-//! (`Disk`). While it writes the node makes no step: it waits on its road, until the disk is done or its caller's time
-//! is up.
+//! comes in, some messages are taken with one write for all. A thread of its own has the files in hands (`Disk`). While
+//! it writes what something waits for, the node makes no step: it waits on its road, until the disk is done or its
+//! caller's time is up.
 use crate::complaints::{Complaint, Complaints, Kind};
 use crate::config::{Config, ConfigFault};
-use crate::disk::{Disk, Write};
+use crate::disk::{Disk, Gate, Wait};
 use crate::fault::Fault;
-use crate::log_file::Entries;
 use crate::message::{Brings, Meeting, Met};
 use crate::options::{Options, road_of};
 use crate::parcels::Parcels;
@@ -58,6 +57,8 @@ pub struct Node<F: Front> {
     /// How far it came, as it told it last in this chapter.
     told: Option<Vec<u8>>,
     arrived: Vec<Arrived>,
+    /// Something went on that had waited for the disk, and nothing else was waited for since.
+    is_settled: bool,
     unserved: u32,
     rang: bool,
     is_stopped: bool,
@@ -70,11 +71,11 @@ impl<F: Front> Node<F> {
     ///
     /// Where the road or the log is refused. No log is begun where the road is refused.
     pub fn open(config: &Config, options: &Options) -> Result<Self, Fault> {
-        Self::open_with(config, options, Entries::write)
+        Self::open_with(config, options, |_| Ok(()))
     }
 
-    /// A node that with `sync` has entries on the disk by this function.
-    fn open_with(config: &Config, options: &Options, write: impl Write) -> Result<Self, Fault> {
+    /// A node whose disk goes through this gate.
+    fn open_with(config: &Config, options: &Options, gate: impl Gate) -> Result<Self, Fault> {
         let processes = config.nodes.len() as u8;
         if F::NAME.parse() != Ok(config.front) {
             return Err(ConfigFault::new(format!(
@@ -102,8 +103,7 @@ impl<F: Front> Node<F> {
             names: config.registers.clone(),
         };
         let sync = config.sync || options.sync;
-        let disk = if sync { Some(Disk::start(ringer, write)?) } else { None };
-        let story = Story::open(head, &options.log, room, options.resume, disk)?;
+        let story = Story::open(head, options, (room, sync), |log| Disk::start(log, ringer, gate))?;
         let mut node = Self {
             front: PhantomData,
             meeting: Meeting::new(story.head()),
@@ -121,6 +121,7 @@ impl<F: Front> Node<F> {
             answer: None,
             told: None,
             arrived: Vec::new(),
+            is_settled: false,
             unserved: 0,
             rang: false,
             is_stopped: false,
@@ -142,9 +143,8 @@ impl<F: Front> Node<F> {
     /// answer. `Paused` where nothing was called in time: a chapter ended, or not all others were heard, or they were
     /// too far behind with what this node cast, or the disk had to do with what came before.
     ///
-    /// With `sync` the time-out holds too while the disk writes, but that is given a tenth of a second where nothing
-    /// else is between the operation and its answer. Only where a chapter ends and the next one begins the disk is
-    /// waited for.
+    /// The time-out holds whatever the disk does, but that is given a tenth of a second where nothing else is between
+    /// the operation and its answer.
     pub fn perform(&mut self, op: Op, timeout: Option<Duration>) -> Result<Answer, Fault> {
         let performed = self.performed(op, timeout.map(|it| Instant::now() + it));
         self.kept(performed)
@@ -251,23 +251,26 @@ impl<F: Front> Node<F> {
     /// Writes down the reads that were gathered: what was told so far is kept, also where this program is killed.
     ///
     /// A read that is answered at once and puts no frame is written with the next step that isn't one, or before the
-    /// node waits, or where 64 were gathered. So a program that is killed may lose the entries of up to 64 reads. Where
-    /// the disk writes such reads, it is waited for.
+    /// node waits, or where 64 were gathered, while which are written 64 more are told at most. So a program that is
+    /// killed may lose the entries of up to 128 reads. This waits for the disk.
     pub fn keep(&mut self) -> Result<(), Fault> {
-        let kept = self.is_up().and_then(|()| self.written());
+        let kept = self.is_up().and_then(|()| self.write_until(Story::is_kept));
         self.kept(kept)
+    }
+
+    /// Whether what was told so far is kept.
+    pub(crate) fn is_kept(&self) -> bool {
+        self.story.is_kept()
     }
 
     /// Makes a call, and all that it brings about at once.
     fn call(&mut self, op: Op) -> Result<(), Fault> {
         self.story.call(op)?;
-        let is_read = matches!(op, Op::Read { .. });
-        if is_read && !self.story.node().busy() && self.held_till.is_none() {
-            // (it is answered at once and puts no frame, and what it read of is durable: nobody can miss its entry)
-            self.hand_out()?;
-        } else {
-            self.data_due = !is_read || self.story.head().front == FrontEnd::Linear;
+        if self.story.is_owing() {
+            self.data_due |= !matches!(op, Op::Read { .. }) || self.story.head().front == FrontEnd::Linear;
             self.commit()?;
+        } else {
+            self.hand_out()?;
         }
         self.tell_end()
     }
@@ -275,7 +278,11 @@ impl<F: Front> Node<F> {
     fn served(&mut self, until: Option<Instant>) -> Result<bool, Fault> {
         self.is_up()?;
         self.unserved = 0;
+        self.is_settled = false;
         self.commit()?;
+        if until.is_none_or(|it| it > Instant::now()) {
+            self.settle(Wait::Briefly)?;
+        }
         let wait = self.next_due(until).map(|it| it.saturating_duration_since(Instant::now()));
         let mut arrived = std::mem::take(&mut self.arrived);
         let rang = self.road.receive(wait, &mut arrived)?;
@@ -284,7 +291,7 @@ impl<F: Front> Node<F> {
             // (what came is taken the next time: a call comes before the disk writes again)
             arrived.truncate(MOST_KEPT);
             self.arrived = arrived;
-            self.settle(false)?;
+            self.settle(Wait::Not)?;
         } else {
             for it in arrived.drain(..) {
                 self.heard(it, now)?;
@@ -305,11 +312,12 @@ impl<F: Front> Node<F> {
 
     /// When something has to be done next, if nothing comes before.
     fn next_due(&self, until: Option<Instant>) -> Option<Instant> {
-        if self.story.is_writing() {
-            return [until, self.road.due()].into_iter().flatten().min();
-        }
-        if !self.arrived.is_empty() {
+        let is_writing = self.story.is_writing();
+        if self.is_settled || !is_writing && !self.arrived.is_empty() {
             return Some(Instant::now());
+        }
+        if is_writing {
+            return [until, self.road.due()].into_iter().flatten().min();
         }
         let node = self.story.node();
         let is_idle =
@@ -372,8 +380,8 @@ impl<F: Front> Node<F> {
 }
 
 impl<F: Front> Drop for Node<F> {
-    /// Writes down the reads that were gathered. (There is nobody whom one could tell that they can't be written.)
+    /// Writes down all that was called. (There is nobody whom one could tell that it can't be written.)
     fn drop(&mut self) {
-        let _ = self.keep();
+        let _ = self.is_up().and_then(|()| self.write_until(Story::is_written));
     }
 }

@@ -168,8 +168,7 @@ impl Port {
     /// operation more: one that it counts is in its log, perhaps on the disk, and goes on where the node is resumed.
     fn end_of<F: Front>(&self, node: &mut Node<F>, op: Op, end: &AtomicBool) -> (End, Result<(), Fault>) {
         let called = node.so_far().0;
-        // (what is told is in the log before)
-        let answered = self.answered(node, op, end).and_then(|answer| node.keep().map(|()| answer));
+        let answered = self.answered(node, op, end).and_then(|answer| self.kept(node, end).map(|()| answer));
         let why = match answered {
             Ok(answer) => return (End::Answered(answer), Ok(())),
             Err(why) => why,
@@ -196,6 +195,18 @@ impl Port {
             }
         }
         Err(Fault::Rung)
+    }
+
+    /// What is told is in the log before. While the disk writes it others are told how the node is.
+    fn kept<F: Front>(&self, node: &mut Node<F>, end: &AtomicBool) -> Result<(), Fault> {
+        while !node.is_kept() {
+            if end.load(Ordering::Relaxed) {
+                return Err(Fault::Rung);
+            }
+            node.serve(None)?;
+            self.tell_looks(node);
+        }
+        Ok(())
     }
 }
 

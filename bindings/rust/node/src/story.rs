@@ -1,13 +1,19 @@
 //! Where one node is: its chapter with its log, and the chapters before. All that a chapter is, is in its log, so a node
 //! that was killed is made again. It needs the logs of its last two chapters, and no others.
-use crate::disk::Disk;
+use crate::disk::{Disk, Job, Wait};
 use crate::fault::Fault;
-use crate::log_file::{LogFile, at_path, folder_of, keep};
+use crate::log_file::LogFile;
 use crate::log_text;
-use std::fs::{self, File};
-use std::io::{self, Read};
+use crate::options::Options;
+use files::{called_up_to, drawn, last_chapter, log_of, quiet_of};
+use std::io;
 use std::path::{Path, PathBuf};
 use tellwydar::{LogHead, LoggedNode, Look, Op, Output, Refused, Room};
+
+mod files;
+
+/// So many entries may be unwritten while the disk writes, of reads that were answered at once.
+const MOST_UNWRITTEN: u64 = 128;
 
 /// How a node's last chapter ended, for those who don't know it yet.
 #[derive(Debug)]
@@ -25,6 +31,10 @@ struct Chapter {
     entries: u64,
     written: u64,
     handed: u64,
+    /// How many are durable: with `sync` those that are on the disk, else all that are written.
+    durable: u64,
+    /// So many have to be, before anything else goes out: behind these are only reads that were answered at once.
+    owed: u64,
     is_running: bool,
     is_said_quiet: bool,
 }
@@ -34,10 +44,22 @@ pub struct Story {
     path: PathBuf,
     room: Room,
     chapter: Chapter,
-    /// With `sync`.
-    disk: Option<Disk>,
-    log: LogFile,
+    sync: bool,
+    /// Entries that weren't given to the disk yet, and room for others while it has these.
+    lines: Vec<u8>,
+    spare: Vec<u8>,
+    disk: Disk,
+    /// The chapter whose log is begun.
+    next: Option<LogHead>,
     before: Before,
+}
+
+/// What the disk has done.
+#[derive(Clone, Copy, Debug, PartialEq, Eq)]
+pub enum Done {
+    Kept,
+    /// The next chapter has begun.
+    Turned,
 }
 
 /// What the chapters before have left.
@@ -48,49 +70,6 @@ struct Before {
     /// The values that the last one ended with.
     values: Vec<u64>,
     ended: Option<Ended>,
-}
-
-fn beside(path: &Path, end: &str) -> PathBuf {
-    let mut name = path.as_os_str().to_os_string();
-    name.push(end);
-    name.into()
-}
-
-/// The log of a chapter.
-fn log_of(path: &Path, chapter: u64) -> PathBuf {
-    if chapter == 0 { path.to_path_buf() } else { beside(path, &format!(".{chapter}")) }
-}
-
-/// The file that says that nothing more is called in the chapter of this log: how many operations were called up to its
-/// end.
-fn quiet_of(log: &Path) -> PathBuf {
-    beside(log, ".quiet")
-}
-
-/// How many operations its callers called up to the end of the chapter of this log.
-fn called_up_to(log: &Path) -> Result<u64, Fault> {
-    let path = quiet_of(log);
-    let text = fs::read_to_string(&path).map_err(|why| at_path(&path, why))?;
-    let count = text.strip_suffix('\n').and_then(|it| it.parse().ok());
-    count.ok_or_else(|| Fault::OtherLog(format!("{}: no number of calls", path.display())))
-}
-
-/// The last chapter that has a log at this path. Those before the last two may have been put aside.
-fn last_chapter(path: &Path) -> Result<u64, Fault> {
-    let begin = format!("{}.", path.file_name().unwrap_or_default().to_string_lossy());
-    let (folder, mut last) = (folder_of(path), 0);
-    for entry in fs::read_dir(folder).map_err(|why| at_path(folder, why))? {
-        let name = entry?.file_name().to_string_lossy().into_owned();
-        let number = name.strip_prefix(&begin).filter(|it| it.starts_with(|it: char| matches!(it, '1'..='9')));
-        last = number.and_then(|it| it.parse().ok()).map_or(last, |it| last.max(it));
-    }
-    Ok(last)
-}
-
-fn drawn() -> Result<u64, Fault> {
-    let mut bytes = [0; 8];
-    File::open("/dev/urandom")?.read_exact(&mut bytes)?;
-    Ok(u64::from_be_bytes(bytes))
 }
 
 impl Chapter {
@@ -106,27 +85,25 @@ impl Chapter {
             entries: node.logged(),
             written: node.logged(),
             handed: node.logged(),
+            durable: node.logged(),
+            owed: node.logged(),
             is_running: node.busy(),
             node,
             is_said_quiet: false,
         })
     }
-
-    /// Goes on in this room, with the log at this path, behind what the chapters before have left.
-    fn follow(&mut self, room: Room, path: &Path, before: &Before) -> Result<(), Refused> {
-        self.node.follow(room, &before.values)?;
-        if quiet_of(path).exists() {
-            self.node.end();
-        }
-        Ok(())
-    }
 }
 
 impl Story {
-    /// A story that begins, or with `resume` the one whose logs are there.
-    pub fn open(head: LogHead, path: &Path, room: Room, resume: bool, disk: Option<Disk>) -> Result<Self, Fault> {
-        let mut before = Before::default();
-        let (mut chapter, log) = if resume {
+    /// A story that begins, or with `resume` the one whose logs are there. The disk is started by this function.
+    pub fn open(
+        head: LogHead,
+        options: &Options,
+        (room, sync): (Room, bool),
+        start: impl FnOnce(LogFile) -> io::Result<Disk>,
+    ) -> Result<Self, Fault> {
+        let (path, mut before) = (options.log.as_path(), Before::default());
+        let (mut chapter, log) = if options.resume {
             let last = last_chapter(path)?;
             if last > 0 {
                 before = Before::of(&LogHead { chapter: last - 1, ..head.clone() }, &log_of(path, last - 1))?;
@@ -135,8 +112,12 @@ impl Story {
         } else {
             begun(head, path, LogFile::create(path)?)?
         };
-        chapter.follow(room, &log_of(path, chapter.head.chapter), &before)?;
-        Ok(Self { path: path.to_path_buf(), room, chapter, disk, log, before })
+        chapter.node.follow(room, &before.values)?;
+        if quiet_of(&log_of(path, chapter.head.chapter)).exists() {
+            chapter.node.end();
+        }
+        let (path, disk) = (path.to_path_buf(), start(log)?);
+        Ok(Self { path, room, chapter, sync, lines: Vec::new(), spare: Vec::new(), disk, next: None, before })
     }
 
     pub fn head(&self) -> &LogHead {
@@ -173,9 +154,13 @@ impl Story {
         self.chapter.handed == self.chapter.entries
     }
 
-    /// Whether all entries are written, and what went out of them is handed out.
+    /// Whether the disk has nothing to do, all entries are written, and what went out of them is handed out.
     pub fn is_done(&self) -> bool {
-        self.chapter.written == self.chapter.entries && self.is_handed_out()
+        !self.is_busy() && self.is_written() && self.is_handed_out()
+    }
+
+    pub fn is_written(&self) -> bool {
+        self.chapter.written == self.chapter.entries
     }
 
     /// Whether all entries are written whose frames and answers were handed out.
@@ -183,59 +168,78 @@ impl Story {
         self.chapter.handed <= self.chapter.written
     }
 
-    /// Whether the disk has begun to write. Until it ends no step is made.
-    pub fn is_writing(&self) -> bool {
-        self.disk.as_ref().is_some_and(Disk::is_busy)
+    /// Whether something has to be durable before anything else goes out.
+    pub fn is_owing(&self) -> bool {
+        self.chapter.durable < self.chapter.owed
     }
 
-    /// Calls an operation. As of each step, its entry is added to the log, but not written.
+    /// Whether the disk has something to do.
+    pub fn is_busy(&self) -> bool {
+        self.disk.is_busy()
+    }
+
+    /// Whether the disk has something to do that is waited for. Until it ends no step is made.
+    pub fn is_writing(&self) -> bool {
+        let unwritten = self.chapter.entries - self.chapter.written;
+        self.is_busy() && (self.is_owing() || unwritten >= MOST_UNWRITTEN || self.next.is_some())
+    }
+
+    /// Calls an operation. As of each step, its entry is to be written.
     pub fn call(&mut self, op: Op) -> Result<(), Refused> {
+        let (owed, is_owing) = (self.chapter.owed, self.is_owing());
         self.step(|node| node.call(op))?;
         self.chapter.is_running = true;
+        if matches!(op, Op::Read { .. }) && !self.node().busy() && !is_owing {
+            // (it is answered at once and puts no frame, and what it read of is durable: nobody can miss its entry)
+            self.chapter.owed = owed;
+        }
         Ok(())
     }
 
     /// Makes a step.
     pub fn step(&mut self, step: impl FnOnce(&mut LoggedNode) -> Result<&[u8], Refused>) -> Result<(), Refused> {
-        self.log.add(step(&mut self.chapter.node)?);
+        self.lines.extend_from_slice(step(&mut self.chapter.node)?);
         self.chapter.entries += 1;
+        self.chapter.owed = self.chapter.entries;
         Ok(())
     }
 
-    /// Hands the entries to the system.
-    pub fn write(&mut self) -> io::Result<()> {
-        self.log.write(false)?;
-        self.chapter.written = self.chapter.entries;
-        Ok(())
+    /// Has the disk, which has nothing to do, begin to write all entries, and with `force` have them on it.
+    pub fn begin_write(&mut self, force: bool) -> io::Result<()> {
+        let lines = std::mem::replace(&mut self.lines, std::mem::take(&mut self.spare));
+        self.disk.begin(Job::Write { lines, entries: self.chapter.entries, force })
     }
 
-    /// Has the disk begin to write, and tells whether there is one.
-    pub fn begin_force(&mut self) -> io::Result<bool> {
-        let Some(disk) = &mut self.disk else { return Ok(false) };
-        disk.begin(self.log.taken(true)).map(|()| true)
+    /// What the disk is done with, if it is within this time.
+    pub fn done(&mut self, wait: Wait) -> Result<Option<Done>, Fault> {
+        let Some(job) = self.disk.end(wait)? else { return Ok(None) };
+        match job {
+            Job::Write { lines, entries, force } => {
+                self.spare = lines;
+                self.chapter.written = entries;
+                if force || !self.sync {
+                    self.chapter.durable = entries;
+                }
+            }
+            Job::Quiet { .. } => self.chapter.is_said_quiet = true,
+            Job::Turn { path, text } => return self.turned(&path, &text).map(|()| Some(Done::Turned)),
+        }
+        Ok(Some(Done::Kept))
     }
 
-    /// Whether the disk has just ended, so that all entries are on it; with `must` one that writes is waited for.
-    pub fn has_forced(&mut self, must: bool) -> io::Result<bool> {
-        let busy = self.disk.as_mut().filter(|it| it.is_busy());
-        let Some(entries) = busy.map_or(Ok(None), |it| it.end(must))? else { return Ok(false) };
-        self.log.wrote(entries);
-        self.chapter.written = self.chapter.entries;
-        Ok(true)
-    }
-
-    /// What goes out of the steps so far may be handed out.
+    /// What goes out of the steps so far may be handed out, as far as they are durable.
     pub fn let_out(&mut self) -> Result<(), Refused> {
-        self.chapter.node.mark_durable(self.chapter.entries)
+        let count = if self.is_owing() { self.chapter.durable } else { self.chapter.entries };
+        self.chapter.node.mark_durable(count)
     }
 
-    /// What goes out of the next step, if there is one.
+    /// What goes out of the next step, if there is one and it may.
     pub fn hand_out(&mut self) -> Result<Option<Output<'_>>, Refused> {
         if self.is_handed_out() {
             return Ok(None);
         }
-        self.chapter.handed += 1;
         let output = self.chapter.node.hand_out()?;
+        self.chapter.handed += u64::from(output.is_some());
         self.chapter.is_running &= output.as_ref().is_none_or(|it| it.reply.is_none());
         Ok(output)
     }
@@ -306,19 +310,18 @@ impl Story {
     }
 
     /// Before it is told that this node calls nothing more in this chapter, that is kept for when it is resumed, behind
-    /// all entries. This waits for the disk.
-    pub fn say_quiet(&mut self) -> Result<(), Fault> {
-        if !self.chapter.is_said_quiet {
-            self.log.write(self.disk.is_some())?;
-            let path = quiet_of(&log_of(&self.path, self.head().chapter));
-            keep(&path, format!("{}\n", self.called()).as_bytes())?;
-            self.chapter.is_said_quiet = true;
+    /// all entries. Has the disk begin with that, and tells whether it has to.
+    pub fn begin_quiet(&mut self) -> io::Result<bool> {
+        if self.chapter.is_said_quiet {
+            return Ok(false);
         }
-        Ok(())
+        let path = quiet_of(&log_of(&self.path, self.head().chapter));
+        self.disk.begin(Job::Quiet { path, called: self.called() }).map(|()| true)
     }
 
-    /// Begins the next chapter where this one is over, and tells whether it was.
-    pub fn turn(&mut self) -> Result<bool, Fault> {
+    /// Where this chapter is over the disk begins with what is to be done before the next one begins. Tells whether it
+    /// has begun.
+    pub fn begin_turn(&mut self) -> Result<bool, Fault> {
         if !self.is_ending() {
             return Ok(false);
         }
@@ -326,22 +329,25 @@ impl Story {
         if !self.node().is_over() {
             return Ok(false);
         }
-        self.say_quiet()?;
-        self.before.end(&mut self.chapter)?;
-        let head = LogHead { chapter: self.head().chapter + 1, ..self.head().clone() };
-        let path = log_of(&self.path, head.chapter);
-        eprintln!("chapter {} begins, in {}", head.chapter, path.display());
-        (self.chapter, self.log) = begun(head, &path, LogFile::create(&path)?)?;
-        self.chapter.follow(self.room, &path, &self.before)?;
+        if self.begin_quiet()? {
+            return Ok(true);
+        }
+        let head = LogHead { chapter: self.head().chapter + 1, begun: drawn()?, ..self.head().clone() };
+        let (path, text) = (log_of(&self.path, head.chapter), LoggedNode::begin(&head)?);
+        self.next = Some(head);
+        self.disk.begin(Job::Turn { path, text })?;
         Ok(true)
     }
-}
 
-impl Drop for Story {
-    /// Waits for the disk: what it has begun to write is in the log then, and nobody else has that in hands. (There is
-    /// nobody whom one could tell that it can't be written.)
-    fn drop(&mut self) {
-        let _ = self.has_forced(true);
+    /// Goes on in the next chapter, whose log has begun.
+    fn turned(&mut self, path: &Path, text: &[u8]) -> Result<(), Fault> {
+        if let Some(head) = self.next.take() {
+            self.before.end(&mut self.chapter)?;
+            self.chapter = Chapter::of(&head, path, text)?;
+            self.chapter.node.follow(self.room, &self.before.values)?;
+            eprintln!("chapter {} begins, in {}", head.chapter, path.display());
+        }
+        Ok(())
     }
 }
 
@@ -377,7 +383,7 @@ fn begun(head: LogHead, path: &Path, mut log: LogFile) -> Result<(Chapter, LogFi
 fn resumed(head: &LogHead, path: &Path) -> Result<(Chapter, LogFile), Fault> {
     let (mut log, text) = LogFile::reopen(path)?;
     let text = log_text::without_room(text);
-    if log_text::is_headless(&text, head)? {
+    if LoggedNode::is_headless(&text, head)? {
         return begun(head.clone(), path, log);
     }
     let chapter = Chapter::of(head, path, &text)?;

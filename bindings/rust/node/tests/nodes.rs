@@ -7,7 +7,7 @@ use std::os::unix::net::UnixStream;
 use std::path::{Path, PathBuf};
 use std::sync::mpsc;
 use std::thread::{self, JoinHandle};
-use std::time::Duration;
+use std::time::{Duration, Instant};
 use tellwydar::{Answer, Front, Linear, LocalRead, LocalWrite, Op, check};
 use tellwydar_node::{Config, Fault, Node, Options, merge};
 
@@ -76,6 +76,11 @@ fn reads_are_gathered_until_they_are_kept() -> Ended {
     assert_eq!(entries(&log)?, 2);
     for _ in 0..64 {
         assert_eq!(node.perform(READ, TIME)?, Answer::Value(5));
+    }
+    // (another thread writes them)
+    let end = Instant::now() + Duration::from_secs(20);
+    while entries(&log)? < 64 && Instant::now() < end {
+        thread::sleep(Duration::from_millis(1));
     }
     assert!(entries(&log)? >= 64);
     drop(node);
@@ -274,7 +279,9 @@ fn a_chapter_that_never_began_is_begun_anew() -> Ended {
     for _ in 0..3 {
         assert_eq!(node.perform(WRITE, TIME)?, Answer::Done);
     }
-    node.serve(Some(std::time::Instant::now()))?;
+    while node.status().chapter == 0 {
+        node.serve(Some(Instant::now() + Duration::from_millis(5)))?;
+    }
     drop(node);
     // (its value is written first in the chapter)
     let (begun, head) = (fs::read(&next)?, 40);

@@ -1,164 +1,17 @@
 //! Nodes whose disk hangs.
 use super::*;
+use crate::disk::Act;
 use crate::port::Port;
 use crate::road::RoadFault;
+use cluster::*;
 use std::fs;
 use std::io::{BufRead, BufReader, Write};
-use std::net::TcpListener;
-use std::path::{Path, PathBuf};
-use std::sync::Arc;
-use std::sync::atomic::{AtomicBool, AtomicU8, Ordering};
-use std::sync::mpsc::{self, Sender};
-use std::thread::{self, JoinHandle};
-use tellwydar::{Linear, LocalRead, LocalWrite, check};
+use std::sync::atomic::{AtomicBool, Ordering};
+use std::thread;
+use tellwydar::{Linear, LocalRead, LocalWrite};
 
-const READ: Op = Op::Read { register: 0 };
-const TIME: Option<Duration> = Some(Duration::from_secs(20));
-const SHORT: Option<Duration> = Some(Duration::from_millis(200));
-/// After this time a disk goes on in any case, so that who waits for it is late, and not there for ever.
-const LONG: Duration = Duration::from_secs(6);
-const SOON: Duration = Duration::from_secs(3);
-const WRITES: u8 = 0;
-const HANGS: u8 = 1;
-const IS_FULL: u8 = 2;
-/// It takes 5 ms for all that it has to do.
-const IS_SLOW: u8 = 3;
-
-fn write(value: u64) -> Op {
-    Op::Write { register: 0, value }
-}
-
-/// A folder of one test, with a cluster of processes on loopback, and how the disk of process 0 is.
-struct Room {
-    path: PathBuf,
-    config: Config,
-    disk: Arc<AtomicU8>,
-}
-
-impl Room {
-    fn new(name: &str, front: &str, count: usize) -> Self {
-        let path = std::env::temp_dir().join(format!("tellwydar-disk-{name}-{}", std::process::id()));
-        let _ = fs::remove_dir_all(&path);
-        fs::create_dir_all(&path).expect("a folder");
-        let held: Vec<_> = (0..count).map(|_| TcpListener::bind("127.0.0.1:0").expect("an address")).collect();
-        let nodes: Vec<_> = held.iter().map(|it| it.local_addr().expect("an address")).collect();
-        let nodes: String = nodes.iter().map(|it| format!("[[node]]\naddress = \"tcp://{it}\"\n")).collect();
-        let text = format!("cluster = 7\nfront = \"{front}\"\nregisters = [\"x\"]\n{nodes}");
-        Self { path, config: text.parse().expect("a configuration"), disk: Arc::default() }
-    }
-
-    fn log(&self, process: u8) -> PathBuf {
-        self.path.join(format!("{process}.log"))
-    }
-
-    /// Process 0, with `sync`.
-    fn open<F: Front>(&self) -> Node<F> {
-        let options = Options { sync: true, ..Options::new(0, self.log(0)) };
-        let disk = Arc::clone(&self.disk);
-        let write = move |it: &Entries| {
-            let end = Instant::now() + LONG;
-            while disk.load(Ordering::Relaxed) == HANGS && Instant::now() < end {
-                thread::sleep(Duration::from_millis(1));
-            }
-            match disk.load(Ordering::Relaxed) {
-                IS_FULL => return Err(io::ErrorKind::StorageFull.into()),
-                IS_SLOW => thread::sleep(Duration::from_millis(5)),
-                _ => {}
-            }
-            it.write()
-        };
-        Node::open_with(&self.config, &options, write).expect("a node")
-    }
-
-    fn disk_is(&self, how: u8) {
-        self.disk.store(how, Ordering::Relaxed);
-    }
-
-    fn disk_will_write(&self, after: Duration) -> JoinHandle<()> {
-        let disk = Arc::clone(&self.disk);
-        thread::spawn(move || {
-            thread::sleep(after);
-            disk.store(WRITES, Ordering::Relaxed);
-        })
-    }
-
-    /// The calls in the log of process 0, without their answers.
-    fn calls(&self) -> Vec<String> {
-        let log = lines(&self.log(0));
-        let calls = log.iter().filter_map(|it| it.split_once(" 0 call ").map(|it| it.1));
-        calls.map(|it| it.split(" = ").next().unwrap_or(it).to_string()).collect()
-    }
-
-    fn is_in_order(&self) {
-        let logs: Vec<_> = (0..self.config.nodes.len() as u8).map(|it| self.log(it)).collect();
-        let report = crate::merge(&logs, false).expect("a report");
-        assert!(String::from_utf8_lossy(&check(&report).answer).starts_with("serial yes\n"));
-    }
-}
-
-impl Drop for Room {
-    fn drop(&mut self) {
-        let _ = fs::remove_dir_all(&self.path);
-    }
-}
-
-fn lines(log: &Path) -> Vec<String> {
-    fs::read_to_string(log).expect("a log").trim_end_matches('\0').lines().map(str::to_string).collect()
-}
-
-/// Process 1, without `sync`: it makes the calls that it is given, and answers process 0 until its bell rings.
-struct Other {
-    calls: Sender<Op>,
-    bell: UnixStream,
-    thread: JoinHandle<()>,
-}
-
-impl Other {
-    fn start<F: Front>(room: &Room) -> Self {
-        let (tell, told) = mpsc::channel();
-        let (config, options) = (room.config.clone(), Options::new(1, room.log(1)));
-        let (calls, called) = mpsc::channel();
-        let thread = thread::spawn(move || {
-            let mut node = Node::<F>::open(&config, &options).expect("a node");
-            tell.send(node.bell().expect("a bell")).expect("a test");
-            while !node.serve(Some(Instant::now() + Duration::from_millis(5))).expect("a node") {
-                match called.try_recv().map(|op| node.perform(op, None)) {
-                    Ok(Err(Fault::Rung)) => return,
-                    Ok(answer) => assert_eq!(answer.expect("an answer"), Answer::Done),
-                    Err(_) => {}
-                }
-            }
-        });
-        Self { calls, bell: told.recv().expect("a node"), thread }
-    }
-
-    fn end(mut self) {
-        self.bell.write_all(&[0]).expect("a node");
-        self.thread.join().expect("a node");
-    }
-}
-
-fn serve<F: Front>(node: &mut Node<F>) {
-    node.serve(Some(Instant::now() + Duration::from_millis(20))).expect("a node");
-}
-
-/// Serves until nothing is on its way, and the last counts are on the disk.
-fn rest<F: Front>(node: &mut Node<F>) {
-    let mut quiet = 0;
-    while quiet < 5 {
-        serve(node);
-        let is_quiet = node.story.is_done() && !node.story.is_writing() && node.story.node().pending() == 0;
-        quiet = if is_quiet { quiet + 1 } else { 0 };
-    }
-}
-
-/// What is done here doesn't wait for the disk.
-fn soon<T>(what: impl FnOnce() -> T) -> T {
-    let begin = Instant::now();
-    let done = what();
-    assert!(begin.elapsed() < SOON);
-    done
-}
+mod cluster;
+mod hangs;
 
 fn the_time_is_up<F: Front>(front: &str) {
     let room = Room::new(&format!("hangs-{front}"), front, 2);
@@ -332,12 +185,9 @@ fn the_bell_is_heard_though_the_disk_hangs() {
     assert_eq!(node.wait(None).expect("an answer"), Answer::Done);
 }
 
-#[test]
-fn programs_at_a_port_are_told_how_the_node_is() {
-    let room = Room::new("port", "linear", 1);
-    let mut node = room.open::<Linear>();
-    assert_eq!(node.perform(write(1), TIME).expect("an answer"), Answer::Done);
-    room.disk_is(HANGS);
+/// The disk of this node hangs while a program makes this call, which is answered so at last. Others are told this in
+/// the status meanwhile.
+fn are_told_how_it_is<F: Front>(room: &Room, node: &mut Node<F>, [call, answer, status]: [&str; 3]) {
     let (end, path) = (AtomicBool::new(false), room.path.join("0.socket"));
     let mut bell = node.bell().expect("a bell");
     let port = Port::open(&path, node.bell().expect("a bell")).expect("a port");
@@ -347,15 +197,18 @@ fn programs_at_a_port_are_told_how_the_node_is() {
         BufReader::new(program).lines().map(|it| it.expect("an answer"))
     };
     let programs = || {
-        let mut call = ask("write x 2");
+        let mut called = ask(call);
         soon(|| {
-            while !ask("status").next().expect("an answer").contains("\"running\": true") {
+            while !ask("status").next().expect("an answer").contains(status) {
                 thread::sleep(Duration::from_millis(10));
+            }
+            while room.hangs.load(Ordering::Relaxed) == 0 {
+                thread::sleep(Duration::from_millis(1));
             }
             assert_eq!(ask("health").next().as_deref(), Some("ok"));
         });
         room.disk_is(WRITES);
-        assert_eq!(call.next().as_deref(), Some("done"));
+        assert_eq!(called.next().as_deref(), Some(answer));
     };
     thread::scope(|it| {
         let programs = it.spawn(programs);
@@ -364,9 +217,18 @@ fn programs_at_a_port_are_told_how_the_node_is() {
             end.store(true, Ordering::Relaxed);
             bell.write_all(&[0]).and(told.map_err(|_| io::ErrorKind::Other.into()))
         });
-        port.serve(&mut node, &end).expect("a node");
+        port.serve(node, &end).expect("a node");
         ended.join().expect("a node").expect("answers");
     });
+}
+
+#[test]
+fn programs_at_a_port_are_told_how_the_node_is() {
+    let room = Room::new("port", "linear", 1);
+    let mut node = room.open::<Linear>();
+    assert_eq!(node.perform(write(1), TIME).expect("an answer"), Answer::Done);
+    room.disk_is(HANGS);
+    are_told_how_it_is(&room, &mut node, ["write x 2", "done", "\"running\": true"]);
 }
 
 /// A road on which messages of nobody come at all times.

@@ -1,5 +1,6 @@
 //! How a chapter ends, and the next one begins.
 use super::Node;
+use crate::disk::Wait;
 use crate::fault::Fault;
 use crate::message::{Brings, Meeting, begin};
 use tellwydar::{Front, Refused};
@@ -8,7 +9,12 @@ impl<F: Front> Node<F> {
     /// Tells the others at once that this chapter ends, and that this node is at rest: what it tells, it knows too when
     /// it is resumed.
     pub(super) fn tell_end(&mut self) -> Result<(), Fault> {
-        if !self.story.is_ending() || !self.story.is_handed_out() || self.story.is_writing() {
+        if !self.story.is_ending() || !self.story.is_handed_out() {
+            return Ok(());
+        }
+        self.commit()?;
+        // (the next chapter may have begun)
+        if !self.story.is_ending() || !self.story.is_done() {
             return Ok(());
         }
         let state = self.story.tell_state()?;
@@ -17,11 +23,10 @@ impl<F: Front> Node<F> {
         if is_new { self.tell_state(state) } else { Ok(()) }
     }
 
-    /// Tells all others how far this node has come.
+    /// Tells all others how far this node has come, once the disk has what is kept of that.
     fn tell_state(&mut self, state: Vec<u8>) -> Result<(), Fault> {
-        self.story.write()?;
-        if self.story.is_quiet() {
-            self.story.say_quiet()?;
+        if self.story.is_quiet() && self.story.begin_quiet()? && !self.settle(Wait::Briefly)? {
+            return Ok(());
         }
         for to in self.others() {
             self.road.send(to, &[&begin(&self.meeting.start(to), Brings::State)[..], &state].concat());
@@ -40,16 +45,9 @@ impl<F: Front> Node<F> {
 
     /// Where the chapter is over, the next one begins, and process 0 writes what this one ended with.
     pub(super) fn turn(&mut self) -> Result<(), Fault> {
+        while self.story.is_done() && self.story.begin_turn()? && self.settle(Wait::Briefly)? {}
         if self.story.is_writing() {
             return Ok(());
-        }
-        if self.story.is_done() && self.story.turn()? {
-            self.meeting = Meeting::new(self.story.head());
-            // (a count that was held is of the last chapter)
-            self.parcels.clear();
-            self.held_till = None;
-            self.told = None;
-            self.meet_all();
         }
         while let Some(op) = self.story.next_opening().filter(|_| !self.story.is_running()) {
             match self.call(op) {
@@ -58,5 +56,15 @@ impl<F: Front> Node<F> {
             }
         }
         Ok(())
+    }
+
+    /// The next chapter has begun.
+    pub(super) fn turned(&mut self) {
+        self.meeting = Meeting::new(self.story.head());
+        // (a count that was held is of the last chapter)
+        self.parcels.clear();
+        self.held_till = None;
+        self.told = None;
+        self.meet_all();
     }
 }

@@ -1,6 +1,8 @@
 //! How entries are written, and what waits for that goes out.
 use super::Node;
+use crate::disk::Wait;
 use crate::fault::Fault;
+use crate::story::{Done, Story};
 use std::time::{Duration, Instant};
 use tellwydar::{Front, Output};
 
@@ -8,36 +10,46 @@ use tellwydar::{Front, Output};
 const HOLD: Duration = Duration::from_millis(2);
 
 impl<F: Front> Node<F> {
-    /// Writes the entries down; once they are durable, what they put goes out, and an answer is told. With `sync` that
-    /// is on the disk. Counts alone are no reason to wait for it: they are held until there is one, or for a short
+    /// Has the entries written down; once they are durable, what they put goes out, and an answer is told. With `sync`
+    /// that is on the disk. Counts alone are no reason to wait for it: they are held until there is one, or for a short
     /// time.
     pub(super) fn commit(&mut self) -> Result<(), Fault> {
-        if self.story.is_writing() || self.story.is_done() && !self.data_due {
+        self.settle(self.brief())?;
+        if self.story.is_busy() || self.story.is_done() && !self.data_due {
             return Ok(());
         }
-        let is_urgent = self.data_due || self.story.is_answered();
-        if self.sync && !is_urgent {
-            self.story.write()?;
-            if !self.story.is_handed_out() {
-                self.held_till.get_or_insert_with(|| Instant::now() + HOLD);
-            }
+        let is_held = self.sync && !self.data_due && !self.story.is_answered();
+        if is_held && !self.story.is_handed_out() {
+            self.held_till.get_or_insert_with(|| Instant::now() + HOLD);
+        }
+        if is_held && self.story.is_written() {
             return Ok(());
         }
-        self.data_due = false;
-        self.held_till = None;
-        if self.story.begin_force()? {
-            return Ok(());
+        if !is_held {
+            self.data_due = false;
+            self.held_till = None;
         }
-        self.story.write()?;
-        self.let_go()
+        self.story.begin_write(self.sync && !is_held)?;
+        self.settle(self.brief()).map(|_| ())
     }
 
-    /// Has go out what waited for the disk, where that is done now.
-    pub(super) fn settle(&mut self, must: bool) -> Result<(), Fault> {
-        if self.story.has_forced(must)? { self.let_go() } else { Ok(()) }
+    /// Nothing waits for the disk where only reads are written that were answered at once.
+    fn brief(&self) -> Wait {
+        if self.story.is_owing() || self.story.is_ending() { Wait::Briefly } else { Wait::Not }
     }
 
-    /// All entries are durable: what they put goes out, and an answer is told.
+    /// Goes on with what waited for the disk, if it is done within this time, and tells whether it is.
+    pub(super) fn settle(&mut self, wait: Wait) -> Result<bool, Fault> {
+        match self.story.done(wait)? {
+            None => return Ok(false),
+            Some(Done::Kept) => self.let_go()?,
+            Some(Done::Turned) => self.turned(),
+        }
+        self.is_settled = true;
+        Ok(true)
+    }
+
+    /// What the entries put that are durable goes out, and an answer is told.
     fn let_go(&mut self) -> Result<(), Fault> {
         self.hand_out()?;
         if !self.parcels.is_empty() {
@@ -60,11 +72,12 @@ impl<F: Front> Node<F> {
         Ok(())
     }
 
-    /// Has written what was told.
-    pub(super) fn written(&mut self) -> Result<(), Fault> {
-        if !self.story.is_kept() {
-            self.settle(true)?;
+    /// Has entries written until this is so, however long that takes.
+    pub(super) fn write_until(&mut self, is_so: impl Fn(&Story) -> bool) -> Result<(), Fault> {
+        while !is_so(&self.story) {
+            self.commit()?;
+            self.settle(Wait::Long)?;
         }
-        self.commit()
+        Ok(())
     }
 }
