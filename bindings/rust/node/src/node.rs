@@ -103,7 +103,7 @@ impl<F: Front> Node<F> {
             names: config.registers.clone(),
         };
         let sync = config.sync || options.sync;
-        let story = Story::open(head, options, (room, sync), |log| Disk::start(log, ringer, gate))?;
+        let story = Story::open(head, options, room, sync, |log| Disk::start(log, ringer, gate))?;
         let mut node = Self {
             front: PhantomData,
             meeting: Meeting::new(story.head()),

@@ -99,7 +99,8 @@ impl Story {
     pub fn open(
         head: LogHead,
         options: &Options,
-        (room, sync): (Room, bool),
+        room: Room,
+        sync: bool,
         start: impl FnOnce(LogFile) -> io::Result<Disk>,
     ) -> Result<Self, Fault> {
         let (path, mut before) = (options.log.as_path(), Before::default());
