@@ -312,9 +312,10 @@ struct tellwydar_log {
 uint32_t tellwydar_node_begin(const struct tellwydar_log *log, const uint8_t *names, size_t names_length, uint8_t *room,
                               size_t room_length, size_t *length);
 
-/* Puts into `headless` 1 where the text is what a crash can leave of this log before its head is whole, else 0. So no
- * step stands in it, and the log can be begun anew. Of `log` the cluster, the chapter and the process are looked at,
- * and not what was drawn. The result is 0, or TELLWYDAR_NO_MEMORY, and then nothing has changed. */
+/* Puts into `headless` 1 where the text has a part of this log's first four lines and zeros, or these lines and fewer than
+ * five line feeds behind them, else 0. All that a crash can leave before the head is whole is so. No log is, so no step
+ * is lost where the log is begun anew. Of `log` the cluster, the chapter and the process are looked at, and not what was
+ * drawn. The result is 0, or TELLWYDAR_NO_MEMORY, and then nothing has changed. */
 uint32_t tellwydar_node_is_headless(const struct tellwydar_log *log, const uint8_t *text, size_t text_length,
                                     uint32_t *headless);
 

@@ -138,8 +138,9 @@ class Node(_Progress):
 
     @staticmethod
     def is_headless(log: bytes, *, cluster: int, process: int, chapter: int) -> bool:
-        """Whether this is what a crash can leave of such a log before its head is whole: then no step stands in it, and
-        it can be begun anew."""
+        """Whether this has a part of such a log's first four lines and zeros, or these lines and fewer than five line
+        feeds behind them. All that a crash can leave before the head is whole is so, and no log is: it can be begun
+        anew."""
         row = _Log(_ranged(cluster, 64), _ranged(chapter, 64), process=_ranged(process, 8))
         headless = ctypes.c_uint32()
         code = _library.tellwydar_node_is_headless(ctypes.byref(row), log, len(log), ctypes.byref(headless))

@@ -144,8 +144,9 @@ impl LoggedNode {
         if code == 0 { Ok(room) } else { Err(refused(code)) }
     }
 
-    /// Whether the text is what a crash can leave of this log before its head is whole: then no step stands in it, and
-    /// the log can be begun anew. The cluster, the chapter and the process are looked at.
+    /// Whether the text has a part of this log's first four lines and zeros, or these lines and fewer than five line
+    /// feeds behind them. All that a crash can leave before the head is whole is so, and no log is: it can be begun
+    /// anew. The cluster, the chapter and the process are looked at.
     ///
     /// # Errors
     ///
