@@ -21,7 +21,7 @@ in_dropped zero xs x h = h
 in_dropped (suc k) [] x h = absurd h
 in_dropped (suc k) (y ∷ ys) x h = inr (in_dropped k ys x h)
 
-got_left : {X : Type 0} (xs ys : List X) (k : ℕ) (x : X) → slice_get xs k ≡ Some x → slice_get (xs ++ ys) k ≡ Some x
+pub got_left : {X : Type 0} (xs ys : List X) (k : ℕ) (x : X) → slice_get xs k ≡ Some x → slice_get (xs ++ ys) k ≡ Some x
 got_left [] ys k x h = absurd (let bad : ⊥ = cc in bad)
 got_left (z ∷ xs) ys zero x h = h
 got_left (z ∷ xs) ys (suc k) x h = got_left xs ys k x h

@@ -15,6 +15,7 @@ use Rattle.reg_node.specs.LogFaults.{IsNoLog}
 use Rattle.reg_node.specs.LogTexts.{IsJournal, begun_with, log_lines, log_text}
 use Rattle.reg_node.specs.Seals.{AreLines, crc_after, crc_behind, first_crc, sealed, sealed_line}
 use Rattle.reg_node.proofs.Journals.{are_first, are_lines}
+use Rattle.reg_node.proofs.Leading.{sealed_both}
 use Rattle.reg_node.proofs.Parted.{no_feeds}
 use Rattle.reg_node.proofs.Sealed.{front_is, front_lacks, front_of, sealed_more}
 
@@ -50,11 +51,6 @@ sealed_feeds c (line ∷ lines) are =
     let rest = sealed_feeds (crc_behind c line) lines are.1 in
     let all = both_feeds (sealed_line c line) (sealed (crc_behind c line) lines) in
     omega (arith, own, rest, all)
-
-sealed_both : (c : ℕ) (xs ys : List (List ℕ)) → sealed c (xs ++ ys) ≡ sealed c xs ++ sealed (crc_after c xs) ys
-sealed_both c [] ys = refl
-sealed_both c (x ∷ xs) ys =
-    ap (λ t. sealed_line c x ++ t) (sealed_both (crc_behind c x) xs ys) ∙ sym (append_assoc (sealed_line c x) (sealed (crc_behind c x) xs) (sealed (crc_after (crc_behind c x) xs) ys))
 
 module _ (id : LogId) (cluster : id.cluster < 2 ^ 64) (process : id.process < 2 ^ 64) (chapter : id.chapter < 2 ^ 64) where
   first_feeds : feeds (first_text id) ≡ 4

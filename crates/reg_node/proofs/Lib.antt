@@ -11,6 +11,8 @@ pub mod Entries
 pub mod Hexes
 pub mod Written
 pub mod Sealed
+pub mod Leading
+pub mod Begins
 pub mod Journals
 pub mod Owned
 pub mod Fours
@@ -19,3 +21,10 @@ pub mod Ended
 pub mod Restoring
 pub mod Parted
 pub mod Headed
+pub mod Supported
+pub mod Totals
+pub mod Begun
+pub mod Running
+pub mod Changes
+pub mod Clustered
+pub mod Starts

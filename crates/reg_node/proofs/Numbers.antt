@@ -32,7 +32,7 @@ in_mapped m x [] h = absurd h
 in_mapped m x (f ∷ fs) (inl e) = (inl (ap (λ (p : Put). p.frame) e), ap (λ (p : Put). p.to) e)
 in_mapped m x (f ∷ fs) (inr h) = let r = in_mapped m x fs h in (inr r.0, r.1)
 
-in_puts : (frames : ℕ → List Frame) (n : ℕ) (x : Put) → In x (puts frames n) → (x.to < n) × In x.frame (frames x.to)
+pub in_puts : (frames : ℕ → List Frame) (n : ℕ) (x : Put) → In x (puts frames n) → (x.to < n) × In x.frame (frames x.to)
 in_puts frames zero x h = absurd h
 in_puts frames (suc m) x h = elim (in_cases x (puts frames m) (map (put_to m) (frames m)) h) [
   | inl a ↦ let r = in_puts frames m x a in (omega arith, r.1)
@@ -63,7 +63,7 @@ set_next (x ∷ xs) zero p (suc r) e = refl
 set_next (x ∷ xs) (suc from) p zero e = refl
 set_next (x ∷ xs) (suc from) p (suc r) e = set_next xs from p r e
 
-none_if : (b : Bool) (x : ProcessFault) (o : Option ProcessFault) → cond b (Some x) o ≡ None → (b ≡ false) × (o ≡ None)
+pub none_if : (b : Bool) (x : ProcessFault) (o : Option ProcessFault) → cond b (Some x) o ≡ None → (b ≡ false) × (o ≡ None)
 none_if true x o h = absurd (let bad : ⊥ = cc in bad)
 none_if false x o h = (refl, h)
 

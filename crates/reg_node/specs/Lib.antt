@@ -2,6 +2,7 @@ pub mod Logs
 pub mod Nodes
 pub mod Opening
 pub mod Crashes
+pub mod Clusters
 pub mod Replaying
 pub mod Meetings
 pub mod Logged
@@ -12,6 +13,7 @@ pub mod Seals
 pub mod Unsealing
 pub mod LogTexts
 pub mod Headless
+pub mod LogHeads
 pub mod LogFaults
 pub mod LineFaults
 pub mod Fours
@@ -21,3 +23,4 @@ pub mod Openings
 pub mod Courses
 pub mod ChapterLaws
 pub mod Peers
+pub mod Messages

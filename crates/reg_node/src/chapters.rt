@@ -52,7 +52,7 @@ impl<A: Allocator + Copy> Model for Told<A> {
     ghost invariant = { λ t. length t.accepted.items ≤ 255 };
 }
 
-fn bit(is: bool, value: u8) -> u8
+pub(crate) fn bit(is: bool, value: u8) -> u8
     ensures value { result ≡ bit_of is value }
     ensures within { result ≤ value }
 {
@@ -60,7 +60,7 @@ fn bit(is: bool, value: u8) -> u8
 }
 
 /// The number that these eight bytes spell, the highest first.
-fn number_at(bytes: &[u8], at: usize) -> u64
+pub(crate) fn number_at(bytes: &[u8], at: usize) -> u64
     requires { at + 8 ≤ length bytes.now }
     ensures { to_be_bytes w64 result ≡ take 8 (drop at bytes.now) }
 {

@@ -1,10 +1,13 @@
-//! Laws of nodes, of their logs, of chapters, and of records as text. Each is a function that does nothing: its
-//! contract is the law.
+//! Laws of nodes, of their logs, of chapters, of messages, and of records as text. Each is a function that does
+//! nothing: its contract is the law.
 ghost use Rattle.std.specs.Prelude.{ℕ, ◌≡◌, ◌≢◌, ◌==◌, ◌+◌, ◌<◌, ◌≤◌, ◌^◌, List, [], Some, length, slice_get, take, true, ◌++◌};
-ghost use Rattle.std.specs.List.{list_all};
+ghost use Rattle.std.specs.List.{list_all, sum_by};
+ghost use Rattle.reg_base.specs.declared.limits.TheConstants.{MOST_EVENTS};
+ghost use Rattle.reg_base.specs.Order.{In};
 ghost use Rattle.reg_base.specs.Memory.{memory};
 ghost use Rattle.reg_base.specs.Shape.{Extent};
 ghost use Rattle.reg_base.specs.declared.memory.Op.{Op};
+ghost use Rattle.reg_frames.specs.declared.puts.Put.{Put};
 ghost use Rattle.reg_front.specs.Fronts.{KeepsLaws};
 ghost use Rattle.reg_front.specs.declared.named.Front.{Front};
 ghost use Rattle.reg_front.specs.declared.starts.Start.{Start};
@@ -20,13 +23,17 @@ ghost use Rattle.reg_node.specs.LogFaults.{IsNoLog};
 ghost use Rattle.reg_node.specs.LogTexts.{IsJournal, Journal, SpellsLog, begun_with, entry_line, grown_by, log_text};
 ghost use Rattle.reg_node.specs.declared.transcripts.logs.LogId.{LogId};
 ghost use Rattle.reg_records.specs.declared.entries.LogEntry.{LogEntry};
+ghost use Rattle.reg_records.specs.Merges.{HasOrder};
+ghost use Rattle.reg_node.specs.Clusters.{Happened, Member, logs_of};
 ghost use Rattle.reg_node.specs.Crashes.{AreOfSteps, IsGiven};
-ghost use Rattle.reg_node.specs.Logs.{AreSteps, Outgoing, outputs_of, state_after};
+ghost use Rattle.reg_node.specs.Logs.{AreSteps, Outgoing, first_state, outputs_of, state_after};
 ghost use Rattle.reg_node.specs.Opening.{IsFirstNoStep};
 ghost use Rattle.reg_node.specs.Openings.{opening_of};
 ghost use Rattle.reg_node.specs.declared.faults.LoggedFault.{LoggedFault};
 ghost use Rattle.reg_node.specs.declared.faults.LoggedFault.TheVariants.{Unspelled};
 ghost use Rattle.reg_node.specs.Logged.{IsSpelled, IsSpelledOn, LoggedHandsOut, LoggedState, Writes, WritesNothing};
+ghost use Rattle.reg_node.specs.Messages.{SpellsMessage};
+ghost use Rattle.reg_node.specs.declared.messages.Message.{Message};
 ghost use Rattle.reg_node.specs.Nodes.{Lives, NodeState, Past, past_given};
 ghost use Rattle.reg_text.specs.Parts.{Lacks};
 ghost use Rattle.reg_node.specs.RecordLines.{Account, IsAccount, SpellsAccount, account_text};
@@ -45,6 +52,17 @@ pub fn crash_keeps()
     ensures steps { (start : Op → ℕ → Start) (first : State) (past : Past) (n : NodeState) (kept : ℕ) → Lives start first past n → AreSteps start first (take kept past.log) }
     ensures given { (start : Op → ℕ → Start) (first : State) (past : Past) (n : NodeState) (kept : ℕ) → Lives start first past n → n.durable ≤ kept → AreOfSteps start first (take kept past.log) past.opened past.given }
     ensures bodies { (start : Op → ℕ → Start) (first : State) (past : Past) (n : NodeState) (kept to number : ℕ) → Lives start first past n → n.durable ≤ kept → IsGiven past.given to number → number < next_of (peer_at (state_after start first (take kept past.log)) to) }
+{}
+
+/// The nodes of a cluster make one run, however they crash. Let a network hand on only what the nodes handed out, which
+/// it may lose, repeat and reorder, and let each node crash at any time and be opened again with the first entries of
+/// its log. Of those that it was told are durable it may lose some that put no frame: a read that is answered at once
+/// puts none. Then the logs have an order of all their entries that is a run, while they have no more entries together
+/// than a run can have. So `merge` leaves nothing of them out. And each frame that was ever handed out, before crashes
+/// too, goes out of an entry that the log of its node still has.
+pub fn crashes_leave_one_run()
+    ensures one_run { (start : Op → ℕ → Start) (shape : Extent) (k : ℕ) (cluster : List Member) → Happened start shape k cluster → sum_by length (logs_of cluster) ≤ MOST_EVENTS → HasOrder start shape (logs_of cluster) }
+    ensures handed { (start : Op → ℕ → Start) (shape : Extent) (k : ℕ) (cluster : List Member) → Happened start shape k cluster → (p : ℕ) (m : Member) (output : Outgoing) (frame : Put) → slice_get cluster p ≡ Some m → In output m.handed → In frame output.frames → In output (outputs_of start (first_state shape p) m.past.log) }
 {}
 
 /// Where an entry is told with which no node is opened, the entries are no steps of its process. So, memory and the
@@ -97,4 +115,9 @@ pub fn over_stays_over()
 /// before it ended.
 pub fn an_opening_restores()
     ensures { (values : List ℕ) → memory (length values) (opening_of values) ≡ values }
+{}
+
+/// Bytes are one message at most.
+pub fn a_message_is_read_in_one_way()
+    ensures { (bytes : List ℕ) (m n : Message) → SpellsMessage bytes m → SpellsMessage bytes n → m ≡ n }
 {}

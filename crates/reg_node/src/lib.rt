@@ -10,6 +10,7 @@ mod faults;
 pub mod laws;
 mod logged;
 mod meetings;
+mod messages;
 mod nodes;
 mod openings;
 mod outputs;
@@ -23,6 +24,7 @@ pub use courses::{Course, Progress};
 pub use faults::{HelloFault, LoggedFault, MeetingFault, NodeFault, NotLogged, OpenFault};
 pub use logged::LoggedNode;
 pub use meetings::MeetingNode;
+pub use messages::{Brings, Greeting, Message, MessageStart, Met, meet, names_crc};
 pub use nodes::Node;
 pub use openings::opening_of;
 pub use outputs::Output;
@@ -31,6 +33,7 @@ pub use reg_process::{ProcessFault, Put, Reply, Step};
 pub use reg_records::LogEntry;
 pub use rooms::{NoRoom, Room, room_in};
 pub use transcripts::{
-    LineFault, Log, LogFault, LogId, ReadLog, Record, RecordFault, Recorded, begin_log,
-    is_headless, parse_record, read_log, recorded_line, sealed_entry, text_of_record,
+    Head, LineFault, Log, LogFault, LogId, ReadLog, Record, RecordFault, Recorded, begin_log,
+    first_part, is_headless, names_line, parse_record, read_head, read_log, recorded_line,
+    sealed_entry, text_of_record,
 };

@@ -13,11 +13,8 @@ use reg_front::Front;
 use reg_text::name_at;
 use std::alloc::{AllocError, Allocator};
 
-/// The line of the names.
-pub(crate) fn names_line<A: Allocator + Copy>(
-    alloc: A,
-    names: &Names<A>,
-) -> Result<String<A>, AllocError>
+/// The line of the names in a head.
+pub fn names_line<A: Allocator + Copy>(alloc: A, names: &Names<A>) -> Result<String<A>, AllocError>
     ensures { IfOk result (λ s. string_bytes s ≡ codes "registers" ++ names_text names.now) }
 {
     let mut line = String::from_str(alloc, "registers")?;
