@@ -1,5 +1,5 @@
 -- The bytes that begin a log, by the numbers and the names that a caller gives. Promises cite it.
-use Rattle.std.specs.Prelude.{ℕ, ◌≡◌, ◌==◌, ◌<◌, ◌≤◌, ◌⊎◌, ◌++◌, codes, is_err, true, List, [], ◌∷◌, length, Option, Some, None, if◌then◌else◌}
+use Rattle.std.specs.Prelude.{ℕ, ◌≡◌, ◌<◌, ◌≤◌, ◌⊎◌, ◌++◌, codes, is_err, true, List, [], ◌∷◌, length, Some, None}
 use Rattle.reg_base.specs.Names.{names_fault}
 use Rattle.reg_base.specs.Shape.{shape_of}
 use Rattle.reg_front.specs.declared.named.Front.{Front}

@@ -13,3 +13,5 @@ pub mod RoomRows
 pub mod NodePeers
 pub mod NodeCourses
 pub mod LogMerges
+pub mod Messages
+pub mod LogHeads

@@ -84,3 +84,11 @@ open_place OutOfMemory = 0
 -- words that are no names of registers
 abbrev pub bad_names : ℕ
 bad_names = 76
+
+-- the number of the chapter is too great for a message
+abbrev pub no_chapter : ℕ
+no_chapter = 84
+
+-- bytes that are no greeting
+abbrev pub no_greeting : ℕ
+no_greeting = 85

@@ -79,7 +79,7 @@ fn names_of(alloc: Global, line: &[u8]) -> Result<Names, TextFault>
 }
 
 /// The names that the text has, one space between them.
-fn names_in(alloc: Global, text: &[u8]) -> Result<Names, u32>
+pub(crate) fn names_in(alloc: Global, text: &[u8]) -> Result<Names, u32>
     ensures read { IfOk result (λ n. SaysNames text.now n × (names_fault n ≡ None)) }
     ensures why { IfErr result (λ code. ((code ≡ bad_names) × ((names : List (List ℕ)) → names_fault names ≡ None → ¬ SaysNames text.now names)) ⊎ (code ≡ refusal_code ProcessFault.OutOfMemory)) }
 {
@@ -94,7 +94,7 @@ fn names_in(alloc: Global, text: &[u8]) -> Result<Names, u32>
 }
 
 /// A shape of so many processes, which has this one, with a register for each name.
-fn shape_of_names(processes: u32, process: u8, names: &Names) -> Result<Shape, u32>
+pub(crate) fn shape_of_names(processes: u32, process: u8, names: &Names) -> Result<Shape, u32>
     ensures made { IfOk result (λ s. (s ≡ record { processes = processes; registers = length names.now }) × (0 < processes) × (processes ≤ MOST_PROCESSES) × (process < processes)) }
     ensures why { IfErr result (IsMisplaced processes process (length names.now)) }
 {

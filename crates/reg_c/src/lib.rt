@@ -11,8 +11,10 @@ mod course_handles;
 mod events;
 pub mod holding;
 mod judging;
+mod log_heads;
 mod log_merges;
 mod looking;
+mod messages;
 pub mod node_chapters;
 mod node_codes;
 pub mod node_courses;
@@ -43,7 +45,12 @@ pub use judging::{
     tellwydar_check_points, tellwydar_check_points_expecting, tellwydar_check_serial,
     tellwydar_check_serial_expecting,
 };
+pub use log_heads::{tellwydar_log_head, tellwydar_log_part};
 pub use log_merges::{MergedRow, tellwydar_merge_logs};
+pub use messages::{
+    GreetingRow, HeardRow, MetRow, tellwydar_message_greet, tellwydar_message_greeting,
+    tellwydar_message_met, tellwydar_message_start,
+};
 pub use node_handles::{
     tellwydar_node_bytes, tellwydar_node_call, tellwydar_node_came, tellwydar_node_close,
     tellwydar_node_compare_and_swap, tellwydar_node_frames, tellwydar_node_hand_out,

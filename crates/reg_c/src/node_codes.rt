@@ -16,6 +16,10 @@ pub(crate) const NOT_LOGGED: u32 = 70;
 pub(crate) const NOTHING_DUE: u32 = 71;
 /// These words are no names of registers.
 pub(crate) const BAD_NAMES: u32 = 76;
+/// The number of the chapter is too great for a message.
+pub(crate) const NO_CHAPTER: u32 = 84;
+/// These bytes are no greeting.
+pub(crate) const NO_GREETING: u32 = 85;
 
 /// Why a log is refused: a number, and the line or the entry that the fault names, else 0.
 #[derive(Clone, Copy)]
