@@ -19,8 +19,8 @@
 #define TELLWYDAR_VERSION "0.1.0"
 
 /* Which functions and numbers there are. 2 adds compare-and-swaps, 3 nodes, 4 the judge of histories, 6 chapters and looks
- * at the peers of a node, 7 how one chapter follows another, and 8 the merge of logs, and whether one never began: all
- * functions and numbers of those before are there, and mean what they did. */
+ * at the peers of a node, 7 how one chapter follows another, and 8 the merge of logs, what the head of one says, whether one
+ * never began, and who a message is from: all functions and numbers of those before are there, and mean what they did. */
 #define TELLWYDAR_ABI 8
 
 #ifdef __cplusplus
@@ -319,6 +319,17 @@ uint32_t tellwydar_node_begin(const struct tellwydar_log *log, const uint8_t *na
 uint32_t tellwydar_node_is_headless(const struct tellwydar_log *log, const uint8_t *text, size_t text_length,
                                     uint32_t *headless);
 
+/* Puts what the head of the log says that the text begins with into `log`, and as many bytes of its names into the room as
+ * it takes, one space between them, and into `length` how many they are. What stands behind the head isn't looked at. The
+ * result is 0; or TELLWYDAR_NOT_A_LOG or TELLWYDAR_NO_PROCESS, and then the text begins with no head; or
+ * TELLWYDAR_NO_MEMORY. If it isn't 0, nothing has changed. */
+uint32_t tellwydar_log_head(const uint8_t *text, size_t text_length, struct tellwydar_log *log, uint8_t *room,
+                            size_t room_length, size_t *length);
+
+/* How many bytes the head and the first entries, so many, of the log take that the text begins with, where it has as many.
+ * The result is at most the length of the text. */
+size_t tellwydar_log_part(const uint8_t *text, size_t text_length, uint64_t entries);
+
 /* Makes a handle with no node behind it: until one is opened, all but looks tell TELLWYDAR_CLOSED. The result is 0, and
  * the handle is set; or TELLWYDAR_NO_MEMORY, and it isn't. */
 uint32_t tellwydar_node_new(struct tellwydar_node **handle);
@@ -468,6 +479,73 @@ static inline void tellwydar_node_free(struct tellwydar_node *handle) {
     tellwydar_node_close(handle);
     free(handle);
 }
+
+/* --- Messages: how those between nodes begin, and who they are from (docs/FORMATS.md) ------------------------------- */
+
+enum {
+    TELLWYDAR_MESSAGE_START = 33, /* the bytes of the start of a message: the next one says what it brings */
+    TELLWYDAR_NO_CHAPTER = 84,    /* the chapter is above 4,294,967,295 */
+    TELLWYDAR_NO_GREETING = 85    /* the bytes are no greeting */
+};
+/* What a message brings. */
+enum { TELLWYDAR_BRINGS_FRAMES = 0, TELLWYDAR_BRINGS_STATE = 1, TELLWYDAR_BRINGS_GREETING = 2 };
+/* What a message is to the process that it came to: the first of these that applies, where they are looked at in the
+ * order 11, 3 to 8, 1, 2, 9, 10, 0. */
+enum {
+    TELLWYDAR_MET_PEER = 0,      /* from the process that it says, with what it brings */
+    TELLWYDAR_MET_LATE = 1,      /* from a process that doesn't know yet that its chapter, the one before, is over */
+    TELLWYDAR_MET_ELSEWHERE = 2, /* from a process in some other chapter */
+    TELLWYDAR_MET_OTHER_FRONT = 3,
+    TELLWYDAR_MET_OTHER_PROCESSES = 4, /* another number of them */
+    TELLWYDAR_MET_OTHER_REGISTERS = 5,
+    TELLWYDAR_MET_OTHER_CLUSTER = 6,
+    TELLWYDAR_MET_OTHER_RECEIVER = 7,
+    TELLWYDAR_MET_OTHER_SENDER = 8, /* from no other process of the cluster, or not from the one by whose key it came */
+    TELLWYDAR_MET_BEGUN_ANEW = 9,   /* from a log that was begun anew: another one of its process was heard first */
+    TELLWYDAR_MET_UNKNOWN = 10,     /* from the process that it says, but nothing is known that it could bring */
+    TELLWYDAR_MET_NO_MESSAGE = 11   /* the bytes are none of a message */
+};
+/* What a message is, and what it says: zeros where it is none. */
+struct tellwydar_met {
+    uint64_t cluster;
+    uint64_t begun; /* of the sender's log */
+    uint32_t names; /* the CRC-32 of the registers' names with a space between two */
+    uint32_t chapter;
+    uint32_t met;
+    uint16_t registers; /* how many there are */
+    uint8_t front;
+    uint8_t processes;
+    uint8_t sender;
+    uint8_t receiver;
+    uint8_t brings;
+};
+/* The log of a process that was heard first in a chapter. */
+struct tellwydar_heard {
+    uint64_t begun;
+    uint32_t is_heard; /* 0 where none was, and `begun` isn't looked at */
+};
+struct tellwydar_greeting {
+    uint64_t accepted;   /* how many bodies its sender accepted from the receiver */
+    uint32_t is_wanting; /* 1 where its sender wants one back, else 0 */
+};
+
+/* Puts as many of the 33 bytes into the room as it takes with which a message of the process of this log to the process
+ * `to` begins. The names are those of `tellwydar_node_begin`. The result is 0; or one of those of that function, or
+ * TELLWYDAR_NO_CHAPTER, and then nothing has changed. */
+uint32_t tellwydar_message_start(const struct tellwydar_log *log, const uint8_t *names, size_t names_length, uint8_t to,
+                                 uint8_t *room, size_t room_length);
+/* Tells what a message is to the process whose own messages begin with these 33 bytes, whomever they are for. A key
+ * below 256 is the process by whose key the message came; else there are no keys. `heard` has a row for each process of
+ * the cluster, by its number: that of the sender is set where the message is TELLWYDAR_MET_PEER or TELLWYDAR_MET_UNKNOWN. The
+ * result is 0; or TELLWYDAR_NO_SHAPE where `own` is no such start, or the rows are more or fewer, and then nothing has
+ * changed. */
+uint32_t tellwydar_message_met(const uint8_t *own, size_t own_length, uint32_t key, const uint8_t *message,
+                               size_t message_length, struct tellwydar_heard *heard, size_t heard_length,
+                               struct tellwydar_met *met);
+/* Puts as many of the 9 bytes of a greeting into the room as it takes. Its sender wants one back unless `is_wanting` is 0. */
+void tellwydar_message_greet(uint32_t is_wanting, uint64_t accepted, uint8_t *room, size_t room_length);
+/* Tells the greeting of these bytes. The result is 0; or TELLWYDAR_NO_GREETING, and then nothing has changed. */
+uint32_t tellwydar_message_greeting(const uint8_t *bytes, size_t bytes_length, struct tellwydar_greeting *greeting);
 
 /* --- Logs: those of all processes of a chapter, merged ------------------------------------------------------------------------- */
 

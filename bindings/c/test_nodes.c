@@ -91,6 +91,30 @@ static void headless(struct written *it) {
     expect("the whole head", tellwydar_node_is_headless(&log, it->text, it->length, &told) == 0 && told == 0);
 }
 
+/* What the head of a log says, whatever stands behind it, and how long the log is up to an entry. */
+static void heads(struct written *it) {
+    struct tellwydar_log log = {.cluster = 1};
+    uint8_t room[4] = {9, 9, 9, 9};
+    size_t length = 5;
+    expect("no head", tellwydar_log_head(it->text, 191, &log, room, 3, &length) == TELLWYDAR_NOT_A_LOG);
+    expect("nothing has changed", log.cluster == 1 && room[0] == 9 && length == 5);
+    expect("a head", tellwydar_log_head(it->text, 200, &log, room, 3, &length) == 0 && length == 1);
+    expect("its names", room[0] == 'x' && room[1] == 9);
+    expect("its log", log.cluster == 7 && log.process == 0 && log.chapter == 0 && log.begun == 12);
+    expect("its cluster", log.front == TELLWYDAR_LINEAR && log.processes == 2);
+    struct tellwydar_log other = {UINT64_MAX, 5, 0, TELLWYDAR_LOCAL_WRITE, 64, 63};
+    struct written long_one = {.length = 0};
+    expect("another head", begun(&other, "abc de f", &long_one) == 0);
+    expect("names cut off", tellwydar_log_head(long_one.text, long_one.length, &log, room, 3, &length) == 0 && length == 8);
+    expect("the room has the front", memcmp(room, "abc", 3) == 0 && room[3] == 9);
+    expect("its numbers", log.cluster == UINT64_MAX && log.chapter == 5 && log.begun == 0 && log.process == 63);
+    expect("its shape", log.front == TELLWYDAR_LOCAL_WRITE && log.processes == 64);
+    expect("the head alone", tellwydar_log_part(it->text, it->length, 0) == strlen(written_head));
+    size_t first = strlen(written_head) + strlen(called_line);
+    expect("one entry", tellwydar_log_part(it->text, it->length, 1) == first);
+    expect("two entries", tellwydar_log_part(it->text, it->length, 2) == first + strlen(got_line));
+}
+
 /* Texts with which no node is opened. What was open stays so. */
 static void unopened(struct written *it) {
     char text[512];
@@ -369,6 +393,7 @@ int main(void) {
     expect("opened", reopened(&writer, writer.length, 0) == 0 && seen(&writer, TELLWYDAR_NODE_WHOLE) == writer.length);
     unopened(&writer);
     write_ahead(&writer);
+    heads(&writer);
     torn(&writer);
     tellwydar_node_free(writer.node);
     looks(&other);
