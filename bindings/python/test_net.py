@@ -325,7 +325,6 @@ class Messages(unittest.TestCase):
             ({"registers": ("x", "z")}, "has 2 registers, or other names for them"),
             ({"cluster": 6}, "is of cluster 6, not of 5"),
             ({"me": 2}, "says that it is process 2"),
-            ({"me": 9}, "says that it is process 9"),
             ({"brings": b"\3"}, "no message of a node"),
             ({"key": 0}, "says that it is process 1"),
         ):
@@ -334,6 +333,11 @@ class Messages(unittest.TestCase):
             self.assertIsNone(self.opened(**other))
             who = "process 0" if "key" in other else "somebody"
             self.assertEqual(self.said, [f"{who}: {why}; dropped"])
+        # (there is no process 9)
+        self.setUp()
+        mine = start_of(self.head, 2)
+        self.assertIsNone(self.post.opened(None, mine[:19] + b"\x09" + mine[20:] + b"\0"))
+        self.assertEqual(self.said[-1], "somebody: says that it is process 9; dropped")
         start = start_of(self.head, 0) + b"\0"
         for message in (b"", start[:-2], b"TW\2" + start[3:], start):
             self.assertIsNone(self.post.opened(None, message))

@@ -4,11 +4,14 @@ import copy
 import os
 import pickle
 import random
+import string
 import threading
 import unittest
 
 import tellwydar
-from tellwydar import UNEQUAL, CompareAndSwap, Front, Look, Node, Process, Read, Refused, Swap, Write
+from tellwydar import (
+    UNEQUAL, CompareAndSwap, Front, LogHead, Look, Node, Process, Read, Refused, Swap, Write, first_entries,
+)
 
 SEEDS = int(os.environ.get("TELLWYDAR_SEEDS", "200"))
 NAMES = ["x", "y"]
@@ -43,6 +46,22 @@ def looked(node, looks=500):
 
 
 class OneNode(unittest.TestCase):
+    def test_the_head(self):
+        for behind in (b"", CALLED, b"fb", b"\0\0"):
+            self.assertEqual(Node.head(HEAD + behind), LogHead(7, 0, Front.LINEAR, 2, ("x",), 12, 0))
+        for length in range(len(HEAD)):
+            self.assertIsNone(Node.head(HEAD[:length]))
+        # (more names than a short head has bytes)
+        names = tuple(letter * 15 + end for letter in string.ascii_lowercase for end in "xy")
+        other = LogHead((1 << 64) - 1, 63, Front.LOCAL_WRITE, 64, names, 0, 5)
+        self.assertEqual(Node.head(Node.begin(**other._asdict())), other)
+
+    def test_the_first_entries(self):
+        log = HEAD + CALLED + COUNTED
+        self.assertEqual([first_entries(log + DONE[:9], it) for it in range(3)], [HEAD, HEAD + CALLED, log])
+        with self.assertRaises(ValueError):
+            first_entries(log, -1)
+
     def test_the_beginning(self):
         self.assertEqual(Node.begin(**OF_WRITER), HEAD)
         for names, error in (

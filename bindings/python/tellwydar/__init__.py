@@ -18,9 +18,9 @@ from typing import Any, Callable, Dict, List, NoReturn, Optional, Sequence, Tupl
 
 __all__ = [
     "UNEQUAL", "Answered", "Called", "CompareAndSwap", "Fault", "Front", "HistoryRefused", "Judgement", "Known",
-    "LogsFault", "LogsRefused", "Look", "Node", "Output", "Process", "Read", "Refused", "Reply", "Row", "Swap", "Told",
-    "Unequal", "World", "Write", "check", "check_points", "check_serial", "judge", "merge", "merge_logs", "play",
-    "play_fair", "replay", "verify",
+    "LogHead", "LogsFault", "LogsRefused", "Look", "Node", "Output", "Process", "Read", "Refused", "Reply", "Row",
+    "Swap", "Told", "Unequal", "World", "Write", "check", "check_points", "check_serial", "first_entries", "judge",
+    "merge", "merge_logs", "play", "play_fair", "replay", "verify",
 ]
 
 
@@ -555,5 +555,5 @@ class Process(_Progress):
 
 
 from .histories import HistoryRefused, Judgement, Row, judge  # noqa: E402 (they stand on what is above)
-from .node import Look, Node, Output  # noqa: E402
-from .logs import LogsFault, LogsRefused, merge_logs  # noqa: E402
+from .node import LogHead, Look, Node, Output  # noqa: E402
+from .logs import LogsFault, LogsRefused, first_entries, merge_logs  # noqa: E402

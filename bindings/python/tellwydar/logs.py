@@ -3,7 +3,7 @@ import ctypes
 import enum
 from typing import Dict, Sequence
 
-from . import _REFUSALS, _library
+from . import _REFUSALS, _library, _ranged
 from .node import _BAD_LOGS
 
 
@@ -16,6 +16,8 @@ def _declare() -> None:
     function = _library.tellwydar_merge_logs
     function.restype = ctypes.c_uint32
     function.argtypes = [room, size, ctypes.POINTER(u64), size, room, size, ctypes.POINTER(_Merged)]
+    _library.tellwydar_log_part.restype = size
+    _library.tellwydar_log_part.argtypes = [room, size, u64]
 
 
 _declare()
@@ -54,6 +56,11 @@ def _refused(code: int, log: int, place: int) -> LogsRefused:
     why = _FAULTS.get(code, LogsFault.UNREAD)
     told = _BAD_LOGS[code].format(place) if code in _BAD_LOGS else _REFUSALS.get(code, why.value)
     return LogsRefused(why, log, place, told)
+
+
+def first_entries(log: bytes, count: int) -> bytes:
+    """The head of the log that this begins with, and its first entries, so many, where it has as many."""
+    return log[: _library.tellwydar_log_part(log, len(log), _ranged(count, 64))]
 
 
 def merge_logs(logs: Sequence[bytes]) -> bytes:

@@ -23,6 +23,7 @@ from . import (
 )
 
 _NOTHING_DUE = 71
+_NO_HEAD = 18, 72
 _REFUSALS.update({
     64: "stopped", 65: "unspelled", 66: "log lost", 67: "unheard", 68: "log full", 69: "no room", 70: "not logged",
     76: "bad names", 80: "no state",
@@ -71,6 +72,8 @@ def _declare() -> None:
     ):
         function = getattr(_library, f"tellwydar_node_{word}")
         function.restype, function.argtypes = result, given
+    function = _library.tellwydar_log_head
+    function.restype, function.argtypes = u32, [room, size, ctypes.POINTER(_Log), room, size, ctypes.POINTER(size)]
 
 
 _declare()
@@ -97,6 +100,18 @@ class Output:
 
     frames: List[Tuple[int, bytes]]
     reply: Optional[Reply]
+
+
+class LogHead(NamedTuple):
+    """What the head of a log says, in the words of `Node.begin`."""
+
+    cluster: int
+    process: int
+    front: Front
+    processes: int
+    names: Tuple[str, ...]
+    begun: int
+    chapter: int
 
 
 class Look(NamedTuple):
@@ -147,6 +162,23 @@ class Node(_Progress):
         if code:
             raise Refused(_REFUSALS[code])
         return headless.value == 1
+
+    @staticmethod
+    def head(log: bytes) -> Optional[LogHead]:
+        """What the head of the log says that this begins with, whatever stands behind it. None where it begins with no
+        head."""
+        row, length, size = _Log(), ctypes.c_size_t(), 512
+        while True:
+            room = ctypes.create_string_buffer(size)
+            code = _library.tellwydar_log_head(log, len(log), ctypes.byref(row), room, size, ctypes.byref(length))
+            if code in _NO_HEAD:
+                return None
+            if code:
+                raise Refused(_REFUSALS[code])
+            if length.value <= size:
+                names = tuple(room.raw[: length.value].decode().split(" "))
+                return LogHead(row.cluster, row.process, Front(row.front), row.processes, names, row.begun, row.chapter)
+            size = length.value
 
     @classmethod
     def open(cls, log: bytes, durable: int, *, guarded: bool = False) -> "Node":

@@ -32,6 +32,7 @@ pub struct PointRow {
     process: u8,
 }
 
+#[derive(Default)]
 #[repr(C)]
 pub struct LogRow {
     pub cluster: u64,
@@ -59,6 +60,36 @@ pub struct MergedRow {
     pub length: usize,
     pub log: u64,
     pub place: u64,
+}
+
+#[derive(Default)]
+#[repr(C)]
+pub struct MetRow {
+    pub cluster: u64,
+    pub begun: u64,
+    pub names: u32,
+    pub chapter: u32,
+    pub met: u32,
+    pub registers: u16,
+    pub front: u8,
+    pub processes: u8,
+    pub sender: u8,
+    pub receiver: u8,
+    pub brings: u8,
+}
+
+#[derive(Clone, Debug, Default)]
+#[repr(C)]
+pub struct HeardRow {
+    pub begun: u64,
+    pub is_heard: u32,
+}
+
+#[derive(Default)]
+#[repr(C)]
+pub struct GreetingRow {
+    pub accepted: u64,
+    pub is_wanting: u32,
 }
 
 /// What a handle points to.
@@ -141,6 +172,28 @@ unsafe extern "C" {
         length: *mut usize,
     ) -> u32;
     pub fn tellwydar_node_is_headless(log: *const LogRow, text: *const u8, text_length: usize, headless: *mut u32) -> u32;
+    pub fn tellwydar_log_head(
+        text: *const u8,
+        text_length: usize,
+        log: *mut LogRow,
+        room: *mut u8,
+        room_length: usize,
+        length: *mut usize,
+    ) -> u32;
+    pub fn tellwydar_log_part(text: *const u8, text_length: usize, entries: u64) -> usize;
+    pub fn tellwydar_message_start(log: *const LogRow, names: *const u8, names_length: usize, to: u8, room: *mut u8, room_length: usize) -> u32;
+    pub fn tellwydar_message_met(
+        own: *const u8,
+        own_length: usize,
+        key: u32,
+        message: *const u8,
+        message_length: usize,
+        heard: *mut HeardRow,
+        heard_length: usize,
+        row: *mut MetRow,
+    ) -> u32;
+    pub fn tellwydar_message_greet(is_wanting: u32, accepted: u64, room: *mut u8, room_length: usize);
+    pub fn tellwydar_message_greeting(bytes: *const u8, bytes_length: usize, row: *mut GreetingRow) -> u32;
     pub fn tellwydar_node_new(handle: *mut *mut Opaque) -> u32;
     pub fn tellwydar_node_open(handle: *mut Opaque, text: *const u8, text_length: usize, durable: u64) -> u32;
     pub fn tellwydar_node_call(handle: *mut Opaque, kind: u32, register: u32, value: u64) -> u32;

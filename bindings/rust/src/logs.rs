@@ -71,6 +71,13 @@ fn fault_of(code: u32, log: usize, place: u64) -> LogsFault {
     }
 }
 
+/// The head of the log that the text begins with, and its first entries, so many, where it has as many.
+pub fn first_entries(log: &[u8], count: u64) -> &[u8] {
+    // SAFETY: the pointer and the length are those of one slice.
+    let length = unsafe { foreign::tellwydar_log_part(log.as_ptr(), log.len(), count) };
+    &log[..length]
+}
+
 /// The text of the record that has the steps of these logs in an order that is a run: [`verify`](crate::verify) takes
 /// it. They are the logs of all processes of one chapter, in any order.
 ///

@@ -10,7 +10,9 @@ use std::ptr::NonNull;
 const LINE: usize = 160;
 /// The lines of a log's head have less than that beside the names.
 const HEAD: usize = 512;
+const NO_PROCESS: u32 = 18;
 const NOTHING_DUE: u32 = 71;
+const NOT_A_LOG: u32 = 72;
 
 /// Which log it is, and what its cluster is like.
 #[derive(Clone, Debug, PartialEq, Eq)]
@@ -70,10 +72,26 @@ impl From<&LogHead> for LogRow {
     }
 }
 
+impl LogHead {
+    /// The head that these numbers and names say.
+    fn of(row: &LogRow, names: &[u8]) -> Option<Self> {
+        let names = String::from_utf8_lossy(names);
+        Some(Self {
+            cluster: row.cluster,
+            chapter: row.chapter,
+            begun: row.begun,
+            front: FrontEnd::of_number(row.front.try_into().ok()?)?,
+            processes: row.processes.try_into().ok()?,
+            process: row.process,
+            names: names.split(' ').map(str::to_string).collect(),
+        })
+    }
+}
+
 /// The fault that these numbers tell.
 pub(crate) fn log_fault(code: u32, place: u64) -> LogFault {
     match code {
-        72 => LogFault::NotALog { line: place },
+        NOT_A_LOG => LogFault::NotALog { line: place },
         73 => LogFault::Damaged { entry: place },
         74 => LogFault::NotAStep { entry: place },
         75 => LogFault::Foreign { entry: place },
@@ -156,6 +174,29 @@ impl LoggedNode {
         // SAFETY: each pointer and length are those of one value, which are apart.
         let code = unsafe { foreign::tellwydar_node_is_headless(&row, text.as_ptr(), text.len(), &mut headless) };
         if code == 0 { Ok(headless == 1) } else { Err(refused(code)) }
+    }
+
+    /// What the head of the log says that the text begins with, whatever stands behind it. None where it begins with no
+    /// head.
+    ///
+    /// # Errors
+    ///
+    /// `OutOfMemory`.
+    pub fn head(text: &[u8]) -> Result<Option<LogHead>, Refused> {
+        let (mut row, mut room, mut length) = (LogRow::default(), vec![0; HEAD], 0);
+        loop {
+            // SAFETY: each pointer and length are those of one value, which are apart.
+            let code = unsafe {
+                let (output, size) = (room.as_mut_ptr(), room.len());
+                foreign::tellwydar_log_head(text.as_ptr(), text.len(), &mut row, output, size, &mut length)
+            };
+            match code {
+                0 if length <= room.len() => return Ok(LogHead::of(&row, &room[..length])),
+                0 => room.resize(length, 0),
+                NOT_A_LOG | NO_PROCESS => return Ok(None),
+                code => return Err(refused(code)),
+            }
+        }
     }
 
     /// A node that goes on after its log, and hasn't heard from any other process. All entries count as durable, so see

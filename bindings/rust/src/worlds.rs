@@ -108,6 +108,8 @@ pub enum Refused {
     BadNames,
     /// Of a node: these bytes are no state of a process of its cluster.
     NoState,
+    /// The number of the chapter is too great for a message.
+    NoChapter,
 }
 
 impl fmt::Display for Refused {
@@ -135,6 +137,7 @@ impl fmt::Display for Refused {
             Self::NotLogged => "not logged",
             Self::BadNames => "bad names",
             Self::NoState => "no state",
+            Self::NoChapter => "no chapter",
         })
     }
 }
@@ -164,6 +167,7 @@ pub(crate) fn refused(code: u32) -> Refused {
         70 => Refused::NotLogged,
         76 => Refused::BadNames,
         80 => Refused::NoState,
+        84 => Refused::NoChapter,
         _ => Refused::OutOfMemory,
     }
 }

@@ -45,6 +45,31 @@ fn written() -> Result<(LoggedNode, String), Refused> {
 }
 
 #[test]
+fn a_head_is_told_whatever_stands_behind_it() {
+    for behind in ["", CALLED, "e7", "\0\0"] {
+        assert_eq!(LoggedNode::head(&[HEAD, behind].concat().into_bytes()), Ok(Some(head(0))), "{behind}");
+    }
+    // (more names than a short head has bytes)
+    let names = (b'a'..=b'z').flat_map(|it| ["x", "y"].map(|end| format!("{}{end}", (it as char).to_string().repeat(15))));
+    let names = names.collect();
+    let long_one = LogHead { chapter: 5, front: FrontEnd::LocalWrite, processes: 64, process: 63, names, ..head(0) };
+    let log = LoggedNode::begin(&long_one).expect("a log");
+    assert_eq!(LoggedNode::head(&log), Ok(Some(long_one)));
+    for length in 0..HEAD.len() {
+        assert_eq!(LoggedNode::head(&HEAD.as_bytes()[..length]), Ok(None), "{length}");
+    }
+}
+
+#[test]
+fn the_first_entries_stand_behind_the_head() -> Result<(), Refused> {
+    let (_, log) = written()?;
+    assert_eq!(text(first_entries(log.as_bytes(), 0)), HEAD);
+    assert_eq!(text(first_entries(log.as_bytes(), 1)), [HEAD, CALLED].concat());
+    assert_eq!(text(first_entries(log.as_bytes(), 3)), log);
+    Ok(())
+}
+
+#[test]
 fn a_log_whose_head_is_not_whole_never_began() {
     let told = |text: &[u8], process| LoggedNode::is_headless(text, &head(process));
     for length in 0..HEAD.len() {

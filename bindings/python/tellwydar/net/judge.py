@@ -5,21 +5,19 @@ The library finds an order of the steps of all logs that is a run (`tellwydar.me
 """
 from typing import Callable, List, NamedTuple, Sequence
 
-from .. import LogsFault, LogsRefused, merge_logs, verify
-from .logfile import HEAD_LINES, LogFault, lines_of, open_log, say_cut
+from .. import LogsFault, LogsRefused, first_entries, merge_logs, verify
+from .logfile import HEAD_LINES, Head, LogFault, open_log, say_cut
 
-_OF_ALL = (1, 3, 6, 7, 8)  # the lines of a head that the logs of a chapter have in common: cluster, chapter, shape
+_OF_ALL = (0, 2, 3, 4, 5)  # of the words of a head, those that all logs of a chapter have: cluster, chapter, shape
+_PROCESS = 1
 
 
 class Log(NamedTuple):
     path: str
     text: bytes
 
-    def line(self, at: int) -> str:
-        return lines_of(self.text, at + 1)[at].decode()
-
-    def first_entries(self, count: int) -> "Log":
-        return self._replace(text=b"".join(self.text.splitlines(True)[: HEAD_LINES + count]))
+    def word(self, at: int) -> str:
+        return Head.of(self.path, self.text).words()[at]
 
 
 def read(path: str, say: Callable[[str], None]) -> Log:
@@ -40,9 +38,9 @@ def _why(logs: Sequence[Log], refused: LogsRefused) -> str:
     log = logs[refused.log]
     if refused.why is LogsFault.OTHER:
         at = _OF_ALL[refused.place]
-        return f"{log.path} is of {log.line(at)}, and {logs[0].path} of {logs[0].line(at)}"
+        return f"{log.path} is of {log.word(at)}, and {logs[0].path} of {logs[0].word(at)}"
     if refused.why is LogsFault.TWICE:
-        return f"{log.path} and {logs[refused.place].path} are both of {log.line(2)}"
+        return f"{log.path} and {logs[refused.place].path} are both of {log.word(_PROCESS)}"
     if refused.why is LogsFault.UNFAITHFUL:
         return f"{log.path}: line {HEAD_LINES + refused.place + 1}: {refused.told}"
     return f"{log.path}: {refused.told}"
@@ -61,7 +59,8 @@ def judge(paths: Sequence[str], say: Callable[[str], None], cut: bool = False) -
             if not cut or refused.why is not LogsFault.UNFAITHFUL:
                 raise LogFault(why) from None
             say(f"cut: {why}")
-            logs[refused.log] = logs[refused.log].first_entries(refused.place)
+            log = logs[refused.log]
+            logs[refused.log] = log._replace(text=first_entries(log.text, refused.place))
     report = verify(record)
     if report.status:
         raise LogFault(report.line.decode().strip())

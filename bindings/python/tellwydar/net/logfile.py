@@ -5,12 +5,12 @@ A log is the text of docs/FORMATS.md, "Log". The library begins it, spells each 
 """
 import fcntl
 import os
-from typing import Callable, List, NamedTuple, Tuple
+from typing import Callable, NamedTuple, Optional, Tuple
 
 from .. import Front, Node, Refused
+from .core import FRONTS
 
-HEAD_LINES = 9
-_SEAL = 9  # the seal of a line, and the space behind it
+HEAD_LINES = 9  # an entry stands on a line behind them
 _WHY = {
     "damaged": "changed, or a line before it is missing", "no step": "no step of its process",
     "not a log": "no line of a log",
@@ -32,6 +32,24 @@ class Head(NamedTuple):
     chapter: int
     begun: int  # drawn anew for each log
 
+    @classmethod
+    def of(cls, path: str, text: bytes) -> "Head":
+        """What the head of this log says."""
+        head = Node.head(text)
+        if head is None:
+            raise LogFault(f"{path}: no head of a log")
+        return cls(head.cluster, head.front, head.names, head.processes, head.process, head.chapter, head.begun)
+
+    def words(self) -> Tuple[str, ...]:
+        """What it says, but for what was drawn, in the words and the order of its lines."""
+        front, names = FRONTS[self.front], " ".join(self.registers)
+        return (f"cluster {self.cluster}", f"process {self.me}", f"chapter {self.chapter}", f"front {front}",
+                f"processes {self.processes}", f"registers {names}")
+
+    def differs(self, other: "Head") -> Optional[Tuple[str, str]]:
+        """The first of what they say that differs, but for what was drawn."""
+        return next((both for both in zip(self.words(), other.words()) if both[0] != both[1]), None)
+
     def text(self) -> bytes:
         """The log of a process that did nothing yet."""
         return Node.begin(cluster=self.cluster, process=self.me, front=self.front, processes=self.processes,
@@ -40,11 +58,6 @@ class Head(NamedTuple):
     def never_began(self, text: bytes) -> bool:
         """Whether this is what a crash can leave of such a log before its head is whole."""
         return Node.is_headless(text, cluster=self.cluster, process=self.me, chapter=self.chapter)
-
-
-def lines_of(text: bytes, most: int = -1) -> List[bytes]:
-    """The whole lines, or the first ones, without their seals."""
-    return [line[_SEAL:] for line in text.split(b"\n", most)[:-1]]
 
 
 def open_log(path: str, text: bytes, is_over: bool) -> Node:

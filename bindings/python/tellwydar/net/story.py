@@ -7,7 +7,7 @@ from typing import Callable, Iterator, List, Optional, Tuple
 
 from .. import Node, Op, Output, Read, Write
 from .core import NodeFailed
-from .logfile import HEAD_LINES, Head, LogFault, LogFile, keep, lines_of, open_log, say_cut
+from .logfile import Head, LogFault, LogFile, keep, open_log, say_cut
 from .room import Room
 
 
@@ -87,12 +87,10 @@ class Story:
         """Goes on with the chapter of this log. In `head` all is known but what was drawn for the log."""
         path = self.log_of(head.chapter)
         node = open_log(path, text, is_over)
-        lines = lines_of(text, HEAD_LINES)
-        self.head = head._replace(begun=int(lines[4].split(b" ")[1]))
-        for found, wanted in zip(lines, lines_of(self.head.text())):
-            if found != wanted:
-                node.close()
-                raise LogFault(f"{path} is of {found.decode()}, and this node of {wanted.decode()}")
+        self.head = Head.of(path, text)
+        if differs := self.head.differs(head):
+            node.close()
+            raise LogFault(f"{path} is of {differs[0]}, and this node of {differs[1]}")
         node.follow(self._ended_with, **self._room._asdict())
         self.node, self.running = node, node.busy
         self.lines: List[bytes] = []

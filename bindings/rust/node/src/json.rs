@@ -234,7 +234,9 @@ mod tests {
 
     #[test]
     fn what_is_no_object_is_refused() {
-        for text in ["", "[]", "1", "{} {}", "{}x", "{", "\u{feff}{}", "{1: 2}", "{\"a\": 01}", "{\"a\": 1,}", "{'a': 1}"] {
+        for text in
+            ["", "[]", "1", "{} {}", "{}x", "{", "\u{feff}{}", "{1: 2}", "{\"a\": 01}", "{\"a\": 1,}", "{'a': 1}"]
+        {
             assert!(object(text).is_none(), "{text}");
         }
     }

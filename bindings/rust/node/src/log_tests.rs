@@ -41,15 +41,22 @@ pub fn sealed(lines: &str) -> Vec<u8> {
     log.into_bytes()
 }
 
+/// The lines of a log without their seals, which are eight digits and a space.
+pub fn unsealed(log: &[u8]) -> Vec<&[u8]> {
+    log.split_inclusive(|&it| it == b'\n').map(|it| &it[9..]).collect()
+}
+
 fn entries(log: &[u8]) -> String {
-    let lines: Vec<&[u8]> = lines(log).skip(HEAD).collect();
-    String::from_utf8(lines.concat()).expect("a text")
+    String::from_utf8(unsealed(log)[HEAD..].concat()).expect("a text")
+}
+
+fn worked_head() -> LogHead {
+    let (names, front) = (vec!["x".to_string()], FrontEnd::Linear);
+    LogHead { cluster: 7, chapter: 0, begun: 12, front, processes: 1, process: 0, names }
 }
 
 fn written() -> Vec<u8> {
-    let (names, front) = (vec!["x".to_string()], FrontEnd::Linear);
-    let head = LogHead { cluster: 7, chapter: 0, begun: 12, front, processes: 1, process: 0, names };
-    let mut log = LoggedNode::begin(&head).expect("a log");
+    let mut log = LoggedNode::begin(&worked_head()).expect("a log");
     let mut node = LoggedNode::open(&log, 0).expect("a node");
     for op in [
         Op::Write { register: 0, value: 5 },
@@ -73,7 +80,8 @@ fn a_log_is_read_as_it_was_written() {
     drop(file);
     let text = read(&room.log()).expect("a log");
     let node = open(&room.log(), &text).expect("a node");
-    assert_eq!((node.whole(), node.logged(), begun(&text), node.calls()), (log.len(), 5, 12, 4));
+    assert_eq!((node.whole(), node.logged(), node.calls()), (log.len(), 5, 4));
+    assert_eq!(head(&room.log(), &text).expect("a head"), worked_head());
     assert_eq!(entries(&text), ENTRIES);
 }
 
@@ -93,6 +101,24 @@ fn a_cut_entry_is_dropped_and_the_log_goes_on_before_it() {
     assert_eq!(read(&room.log()).expect("a log"), log);
     drop(file);
     assert_eq!(fs::read(room.log()).expect("a log"), log);
+}
+
+#[test]
+fn a_log_of_another_head_is_told_by_what_differs_first() {
+    let mine = worked_head();
+    let names = ["x", "y"].map(str::to_string).to_vec();
+    let others = [
+        (LogHead { cluster: 5, processes: 3, ..mine.clone() }, "cluster 5, and this node of cluster 7"),
+        (LogHead { process: 1, chapter: 2, ..mine.clone() }, "process 1, and this node of process 0"),
+        (LogHead { chapter: 2, ..mine.clone() }, "chapter 2, and this node of chapter 0"),
+        (LogHead { front: FrontEnd::LocalRead, ..mine.clone() }, "front local-read, and this node of front linear"),
+        (LogHead { processes: 3, ..mine.clone() }, "processes 3, and this node of processes 1"),
+        (LogHead { names, ..mine.clone() }, "registers x y, and this node of registers x"),
+    ];
+    for (other, told) in others {
+        assert_eq!(differs(&other, &mine).as_deref(), Some(told));
+    }
+    assert_eq!(differs(&LogHead { begun: 13, ..mine.clone() }, &mine), None);
 }
 
 #[test]

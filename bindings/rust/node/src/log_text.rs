@@ -1,35 +1,28 @@
-//! What a node and a merge need to know of a log's text beside what the library tells: which line says what.
+//! The text of a log, and whose it is, as the library tells it.
 use crate::fault::Fault;
 use crate::log_file::at_path;
 use std::fs;
 use std::path::Path;
 use tellwydar::{LogFault, LogHead, LoggedNode};
 
-/// The lines of a log's head: five of its own, and four of a record.
+/// The lines of a log's head: an entry stands on a line behind them.
 pub const HEAD: usize = 9;
-/// The line that says what was drawn, from 0.
-const BEGUN: usize = 4;
-/// Eight digits and a space stand before each line.
-const SEAL: usize = 9;
 
-/// The lines without their seals, with their line feeds.
-pub fn lines(log: &[u8]) -> impl Iterator<Item = &[u8]> {
-    log.split_inclusive(|&it| it == b'\n').map(|it| it.get(SEAL..).unwrap_or_default())
+/// What the head of the log at a path says.
+pub fn head(path: &Path, text: &[u8]) -> Result<LogHead, Fault> {
+    LoggedNode::head(text)?.ok_or_else(|| Fault::OtherLog(format!("{}: no head of a log", path.display())))
 }
 
-/// The word of a line at this place, from 0.
-fn word(line: &[u8], at: usize) -> &[u8] {
-    line.trim_ascii_end().split(|&it| it == b' ').nth(at).unwrap_or_default()
-}
-
-/// The number that the line of a head says.
-fn number(line: &[u8]) -> Option<u64> {
-    std::str::from_utf8(word(line, 1)).ok()?.parse().ok()
-}
-
-/// What was drawn when a log was begun.
-pub fn begun(log: &[u8]) -> u64 {
-    lines(log).nth(BEGUN).and_then(number).unwrap_or_default()
+/// What a head says, but for what was drawn, in the words and the order of its lines.
+pub fn words(head: &LogHead) -> [String; 6] {
+    [
+        format!("cluster {}", head.cluster),
+        format!("process {}", head.process),
+        format!("chapter {}", head.chapter),
+        format!("front {}", head.front),
+        format!("processes {}", head.processes),
+        format!("registers {}", head.names.join(" ")),
+    ]
 }
 
 /// The text of a file, without the zeros at its end: those are room that was made.
@@ -61,16 +54,11 @@ pub fn open(path: &Path, text: &[u8]) -> Result<LoggedNode, Fault> {
     })
 }
 
-/// A line as it is told.
-pub fn shown(line: &[u8]) -> String {
-    String::from_utf8_lossy(line).trim_end().to_string()
-}
-
-/// Of which other cluster, chapter, process or shape a log is, if it isn't the one with this head. The text is whole.
-pub fn differs(text: &[u8], head: &LogHead) -> Result<Option<String>, Fault> {
-    let mine = LoggedNode::begin(&LogHead { begun: begun(text), ..head.clone() })?;
-    let other = lines(text).zip(lines(&mine)).find(|(it, mine)| it != mine);
-    Ok(other.map(|(it, mine)| format!("{}, and this node of {}", shown(it), shown(mine))))
+/// Of which other cluster, chapter, process or shape the first head is than the second one, if it is.
+pub fn differs(found: &LogHead, wanted: &LogHead) -> Option<String> {
+    let (found, wanted) = (words(found), words(wanted));
+    let other = found.iter().zip(&wanted).find(|(found, wanted)| found != wanted);
+    other.map(|(found, wanted)| format!("{found}, and this node of {wanted}"))
 }
 
 #[cfg(test)]

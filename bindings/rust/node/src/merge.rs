@@ -1,13 +1,13 @@
 //! The run that logs are. That the library finds: it puts all entries into one order, and judges that.
 use crate::fault::Fault;
-use crate::log_text::{self, HEAD, shown};
+use crate::log_text::{self, HEAD};
 use std::fmt;
 use std::path::{Path, PathBuf};
-use tellwydar::{LogFault, LogsFault, merge_logs, verify};
+use tellwydar::{LogFault, LogsFault, first_entries, merge_logs, verify};
 
-/// The lines that all logs of a chapter have in common, from 0: cluster, chapter, front end, processes, registers.
-const COMMON: [usize; 5] = [1, 3, 6, 7, 8];
-const PROCESS: usize = 2;
+/// Of the words of a head, those that all logs of a chapter have: cluster, chapter, front end, processes, registers.
+const COMMON: [usize; 5] = [0, 2, 3, 4, 5];
+const PROCESS: usize = 1;
 
 /// Why logs have no report: one can't be read, they aren't those of one cluster, or no run has what a line says.
 #[derive(Clone, Debug, PartialEq, Eq)]
@@ -48,17 +48,21 @@ impl<'a> Log<'a> {
         Ok(Self { path, text, whole })
     }
 
-    /// A line of its head, without its seal.
-    fn line(&self, at: usize) -> String {
-        shown(log_text::lines(&self.text).nth(at).unwrap_or_default())
+    /// What its head says, by its place among the words of a head.
+    fn word(&self, at: usize) -> String {
+        log_text::head(self.path, &self.text).map_or_else(|why| why.to_string(), |it| log_text::words(&it)[at].clone())
     }
 
     /// Leaves so many entries.
     fn cut(&mut self, entries: u64) {
-        let lines = self.text.split_inclusive(|&it| it == b'\n').take(HEAD + entries as usize);
-        self.whole = lines.map(<[u8]>::len).sum();
+        self.whole = first_entries(&self.text, entries).len();
         self.text.truncate(self.whole);
     }
+}
+
+/// A line as it is told.
+fn shown(line: &[u8]) -> String {
+    String::from_utf8_lossy(line).trim_end().to_string()
 }
 
 /// Why there is no record of these logs, by their paths and lines.
@@ -72,11 +76,11 @@ fn told(logs: &[Log<'_>], fault: LogsFault) -> MergeFault {
         LogsFault::Other { log, part } => {
             let (log, first, at) = (&logs[log], &logs[0], COMMON[part as usize]);
             let (path, other) = (log.path.display(), first.path.display());
-            MergeFault(format!("{path} is of {}, and {other} of {}", log.line(at), first.line(at)))
+            MergeFault(format!("{path} is of {}, and {other} of {}", log.word(at), first.word(at)))
         }
         LogsFault::Twice { log, before } => {
             let (path, other) = (logs[log].path.display(), logs[before].path.display());
-            MergeFault(format!("{path} and {other} are both of {}", logs[log].line(PROCESS)))
+            MergeFault(format!("{path} and {other} are both of {}", logs[log].word(PROCESS)))
         }
         LogsFault::Unfaithful { log, entry } => at_entry(log, entry, "unfaithful"),
         fault => MergeFault(fault.to_string()),

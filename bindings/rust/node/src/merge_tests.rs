@@ -1,5 +1,5 @@
 use super::*;
-use crate::log_text::tests::sealed;
+use crate::log_text::tests::{sealed, unsealed};
 use std::fs;
 use tellwydar::check;
 
@@ -28,8 +28,7 @@ fn ordered(test: &str, logs: &[Vec<u8>]) -> Result<String, String> {
 
 /// A log whose lines have another text in place of this one.
 fn relined(log: &[u8], from: &str, to: &str) -> Vec<u8> {
-    let lines: Vec<&[u8]> = log_text::lines(log).collect();
-    sealed(&String::from_utf8_lossy(&lines.concat()).replace(from, to))
+    sealed(&String::from_utf8_lossy(&unsealed(log).concat()).replace(from, to))
 }
 
 /// A log of two processes, with this head of its own.

@@ -106,7 +106,7 @@ impl<F: Front> Node<F> {
         let story = Story::open(head, options, room, sync, |log| Disk::start(log, ringer, gate))?;
         let mut node = Self {
             front: PhantomData,
-            meeting: Meeting::new(story.head()),
+            meeting: Meeting::new(story.head())?,
             parcels: Parcels::new(processes, road.most_bytes()),
             story,
             road,
@@ -348,7 +348,7 @@ impl<F: Front> Node<F> {
                 heard => heard?,
             },
             Met::Peer { sender, brings: Brings::Greeting, rest } => self.greeted(sender, rest)?,
-            Met::Late(sender) => self.tell_last(sender),
+            Met::Late(sender) => self.tell_last(sender)?,
             Met::Elsewhere => {}
             Met::Odd(odd) => self.complaints.say(&odd),
         }

@@ -112,13 +112,13 @@ mod tests {
         for (to, frame) in [(1, body(0)), (1, count(2).to_vec()), (2, count(5).to_vec()), (1, body(1)), (1, body(2))] {
             parcels.add(to, &frame);
         }
-        parcels.send(&Meeting::new(&head), &mut road);
+        parcels.send(&Meeting::new(&head).unwrap(), &mut road);
         let first = [body(0)].concat();
         // (with a start of 34 bytes two bodies of 32 and a count of 12 are more than 108)
         let wanted = [(1, first), (1, body(1)), (1, [body(2), count(2).to_vec()].concat()), (2, count(5).to_vec())];
         assert_eq!(road.0, wanted);
         assert!(parcels.is_empty());
-        parcels.send(&Meeting::new(&head), &mut road);
+        parcels.send(&Meeting::new(&head).unwrap(), &mut road);
         assert_eq!(road.0.len(), wanted.len());
     }
 }

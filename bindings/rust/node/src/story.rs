@@ -76,12 +76,12 @@ impl Chapter {
     /// The chapter of the log at this path, whose text this is. Its head is as this one, but for what was drawn.
     fn of(head: &LogHead, path: &Path, text: &[u8]) -> Result<Self, Fault> {
         let node = log_text::open(path, text)?;
-        let log = &text[..node.whole()];
-        if let Some(what) = log_text::differs(log, head)? {
+        let found = log_text::head(path, text)?;
+        if let Some(what) = log_text::differs(&found, head) {
             return Err(Fault::OtherLog(format!("{} is of {what}", path.display())));
         }
         Ok(Self {
-            head: LogHead { begun: log_text::begun(log), ..head.clone() },
+            head: found,
             entries: node.logged(),
             written: node.logged(),
             handed: node.logged(),

@@ -36,11 +36,12 @@ impl<F: Front> Node<F> {
     }
 
     /// Tells one that is still in the last chapter how far this node came there.
-    pub(super) fn tell_last(&mut self, to: u8) {
+    pub(super) fn tell_last(&mut self, to: u8) -> Result<(), Fault> {
         if let Some(ended) = self.story.ended() {
-            let start = self.meeting.start_of(to, ended.begun, self.story.head().chapter as u32 - 1);
+            let start = self.meeting.start_of(to, ended.begun, self.story.head().chapter - 1)?;
             self.road.send(to, &[&begin(&start, Brings::State)[..], &ended.state].concat());
         }
+        Ok(())
     }
 
     /// Where the chapter is over, the next one begins, and process 0 writes what this one ended with.
@@ -59,12 +60,13 @@ impl<F: Front> Node<F> {
     }
 
     /// The next chapter has begun.
-    pub(super) fn turned(&mut self) {
-        self.meeting = Meeting::new(self.story.head());
+    pub(super) fn turned(&mut self) -> Result<(), Fault> {
+        self.meeting = Meeting::new(self.story.head())?;
         // (a count that was held is of the last chapter)
         self.parcels.clear();
         self.held_till = None;
         self.told = None;
         self.meet_all();
+        Ok(())
     }
 }

@@ -43,7 +43,7 @@ impl<F: Front> Node<F> {
         match self.story.done(wait)? {
             None => return Ok(false),
             Some(Done::Kept) => self.let_go()?,
-            Some(Done::Turned) => self.turned(),
+            Some(Done::Turned) => self.turned()?,
         }
         self.is_settled = true;
         Ok(true)

@@ -46,9 +46,11 @@ fn is_full<T: std::fmt::Debug>(told: &Result<T, Fault>) -> bool {
     matches!(told, Err(Fault::Io(why)) if why.kind() == io::ErrorKind::StorageFull)
 }
 
-/// Where a disk hangs once an entry was made, and whether it is in the file by then.
-const PLACES: [(bool, fn(Act) -> bool, bool); 3] =
-    [(true, IS_WRITE, false), (false, IS_WRITE, false), (true, |it| it == Act::Force, true)];
+/// Where a disk hangs once an entry was made: with `--sync` or without, at which act, and whether the entry is in the file
+/// by then.
+type Place = (bool, fn(Act) -> bool, bool);
+
+const PLACES: [Place; 3] = [(true, IS_WRITE, false), (false, IS_WRITE, false), (true, |it| it == Act::Force, true)];
 
 fn a_swap_is_late<F: Front>(front: &str) {
     for (at, (sync, acts, is_in)) in PLACES.into_iter().enumerate() {
