@@ -378,6 +378,9 @@ static void messages(struct choices *given) {
         must(tellwydar_message_greeting(bytes, length, &greeting) != 0 || length == 9);
         free(bytes);
     }
+    uint64_t accepted = log.begun;
+    tellwydar_message_greet(processes & 1, accepted, other, 9);
+    must(tellwydar_message_greeting(other, 9, &greeting) == 0 && greeting.accepted == accepted && greeting.is_wanting == (processes & 1));
     log.process = (uint8_t)(processes - 1);
     must(tellwydar_message_start(&log, (const uint8_t *)"x y", 3, 0, other, TELLWYDAR_MESSAGE_START) == 0);
     other[TELLWYDAR_MESSAGE_START] = TELLWYDAR_BRINGS_STATE;
