@@ -50,6 +50,8 @@ fn least(next: u64, counts: &[u64]) -> u64
 
 /// The least of the counts, which are all at least the bound. Where the slowest process still has this bound, nothing
 /// is searched.
+// (the slowest is the last of those with the least: where processes acknowledge a body by rising number, it is searched
+// for once, and not at each of them)
 fn least_again(next: u64, counts: &[u64], bound: u64, slowest: &mut usize) -> u64
     requires { bound ≤ least_from next counts.now }
     ensures { result ≡ least_from next counts.now }
@@ -58,7 +60,7 @@ fn least_again(next: u64, counts: &[u64], bound: u64, slowest: &mut usize) -> u6
         return bound;
     }
     let least = least(next, counts);
-    let place = counts.iter().position(|count| *count == least);
+    let place = counts.iter().rposition(|count| *count == least);
     *slowest = place.unwrap_or(0);
     least
 }
