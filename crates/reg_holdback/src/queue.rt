@@ -106,6 +106,8 @@ impl<A: Allocator + Copy> Holdback<A> {
 
     /// Takes in the time of a body of another process, and holds its cast, if it carries one. `NoProcess` and `Stale`
     /// come exactly where they apply. A body without a cast takes no memory. After a refusal nothing has changed.
+    // (in line: most bodies carry no cast, and then it is a few tests)
+    #[inline(always)]
     pub fn receive(&mut self, stamp: Stamp, op: Option<Op>) -> Result<(), HoldFault>
         ensures exact { MatchResult result (λ _. (receive_fault self.old stamp ≡ None) × (self.new ≡ received self.old stamp op)) (λ fault. (receive_fault self.old stamp ≡ refusal_of fault) × (self.new ≡ self.old)) }
 

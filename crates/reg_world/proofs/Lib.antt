@@ -1,6 +1,7 @@
 pub mod OnWires
 pub mod Sharing
 pub mod Packing
+pub mod KeptBodies
 pub mod Outlining
 pub mod Numbering
 pub mod run

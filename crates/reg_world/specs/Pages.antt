@@ -104,6 +104,20 @@ entered b e p step runs cast ds reply = record {
   tallies = tallies_after b.tallies p step runs cast;
 }
 
+-- a step that calls nothing
+abbrev pub CallsNothing : Step → Type 0
+CallsNothing (Call op) = ⊥
+CallsNothing (Take from frame) = Unit {0}
+CallsNothing Tick = Unit {0}
+
+-- the pages after an event in which p made a step that calls, answers and delivers nothing
+abbrev pub passed : Pages → Event → ℕ → Bool → Pages
+passed b e p runs = record b {
+  accepted = b.accepted ++ e ∷ [];
+  ahead = drop 1 b.ahead;
+  tallies = slice_set b.tallies p (record (tally_at b.tallies p) { runs = runs });
+}
+
 -- a call has a number left
 abbrev pub CallFits : Step → ℕ → Type 0
 CallFits (Call op) calls = calls < MOST_OPERATIONS

@@ -1,12 +1,12 @@
 //! What a world tells of its run.
-ghost use Rattle.std.specs.Prelude.{◌≡◌, ◌<◌, ◌≤◌, ◌+◌, ◌-◌, not, ◌++◌, ◌∷◌, [], if◌then◌else◌, ℕ, length, replicate, IfOk, OnOk, MatchResult, MatchResult, vec_len, vec_capacity, slice_get};
+ghost use Rattle.std.specs.Prelude.{◌≡◌, ◌<◌, ◌≤◌, ◌+◌, ◌-◌, not, ◌++◌, ◌∷◌, [], if◌then◌else◌, ℕ, length, replicate, IfOk, OnOk, MatchResult, MatchResult, vec_len, vec_capacity, slice_get, Decides, None};
 ghost use Rattle.reg_base.specs.declared.stamps.Delivered.{Delivered};
 ghost use Rattle.reg_base.specs.Order.{In};
 ghost use Rattle.reg_checkers.specs.History.{IsAt, IsHistory};
 ghost use Rattle.reg_world.specs.World.{op_id, calls_in, answers_in};
 ghost use Rattle.reg_world.specs.Tallies.{Tally, no_calls};
 ghost use Rattle.reg_world.specs.Witnesses.{is_after as is_after_of, last_stamp as last_stamp_of};
-ghost use Rattle.reg_world.specs.Pages.{entered, copied_in, tallies_after, tally_after, calls_after, last_casts, first_in, firsts_in, tally_at, number_at, TimesDiffer, CallFits, MayEnter};
+ghost use Rattle.reg_world.specs.Pages.{entered, passed, CallsNothing, copied_in, tallies_after, tally_after, calls_after, last_casts, first_in, firsts_in, tally_at, number_at, TimesDiffer, CallFits, MayEnter};
 
 use crate::callers::Caller;
 use crate::events::EventStore;
@@ -15,7 +15,7 @@ use crate::order::{CopyRead, First};
 use crate::witnesses::{is_after, last_stamp};
 use reg_base::{Delivered, OpId, Shape, Stamp};
 use reg_checkers::{Entry, History};
-use reg_process::{Event, Reply, Step};
+use reg_process::{Effect, Event, Reply, Step};
 use std::alloc::{AllocError, Allocator};
 use std::marker::Model;
 
@@ -72,6 +72,20 @@ fn reserve_all<A: Allocator + Copy, E: EventStore<A>>(
     history.reserve(2)?;
     order.reserve(firsts)?;
     reads.reserve(1)
+}
+
+/// Whether a step calls, answers and delivers nothing, so that all that is told of it is that its event was accepted.
+// (in line: it is a few tests)
+#[inline(always)]
+fn is_silent<A: Allocator + Copy>(step: &Step, effect: &Effect<A>) -> bool
+    ensures { Decides result (CallsNothing step.now × (effect.now.reply ≡ None) × (effect.now.delivered.items ≡ [])) }
+{
+    let calls = match step {
+        Step::Call { .. } => true,
+        Step::Take { .. } => false,
+        Step::Tick => false,
+    };
+    !calls && effect.reply.is_none() && effect.delivered.is_empty()
 }
 
 /// The operations of a step.
@@ -294,9 +308,42 @@ impl<A: Allocator + Copy, E: EventStore<A>> Book<A, E> {
     }
 
     /// Enters an event in which the process made this step. Where memory is refused nothing has changed.
-    // (in line: it runs at each event, and its lists stay in registers from one push to the next)
+    // (in line: it runs at each event, most of which tell nothing)
     #[inline(always)]
     pub(crate) fn enter(
+        &mut self,
+        event: Event,
+        process: u8,
+        step: &Step,
+        made: &StepEffect<'_, A>,
+    ) -> Result<(), AllocError>
+        requires { MayEnter self.old process step.now made.now.runs made.now.effect.now.cast made.now.effect.now.delivered.items made.now.effect.now.reply }
+        ensures { MatchResult result (λ _. self.new ≡ entered self.old event process step.now made.now.runs made.now.effect.now.cast made.now.effect.now.delivered.items made.now.effect.now.reply) (λ _. self.new ≡ self.old) }
+    {
+        if is_silent(step, made.effect) {
+            self.enter_silent(event, process, made.runs)
+        } else {
+            self.enter_telling(event, process, step, made)
+        }
+    }
+
+    /// Enters an event that calls, answers and delivers nothing.
+    // (in line: it runs at most events, and does little more than a call costs)
+    #[inline(always)]
+    fn enter_silent(&mut self, event: Event, process: u8, runs: bool) -> Result<(), AllocError>
+        requires { process < length self.old.tallies }
+        ensures { MatchResult result (λ _. self.new ≡ passed self.old event process runs) (λ _. self.new ≡ self.old) }
+    {
+        self.accepted.make_room()?;
+        self.callers[usize::from(process)].runs = runs;
+        self.accepted.add(event);
+        Ok(())
+    }
+
+    /// Enters an event, whatever it tells.
+    // (in line: its lists stay in registers from one push to the next)
+    #[inline(always)]
+    fn enter_telling(
         &mut self,
         event: Event,
         process: u8,

@@ -4,6 +4,7 @@
 
 mod accepted;
 mod advancing;
+mod bodies;
 mod books;
 mod callers;
 mod events;

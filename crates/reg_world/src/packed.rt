@@ -5,6 +5,7 @@ ghost use Rattle.reg_world.specs.Words.{HasRoom};
 ghost use Rattle.reg_world.specs.Packed.{frame_of, IsKept, Says, Grows};
 
 use crate::accepted::Accepted;
+use crate::bodies::Bodies;
 use crate::stores::{ListingStore, WireStore};
 use crate::strips::Strips;
 use crate::words::{FIRST_COUNT, MOST_SLOTS, Slot, Word, numbers_from};
@@ -17,7 +18,7 @@ use std::marker::Model;
 /// What the words of a process speak of: its bodies by number, and the frames that are told by no number and no count.
 #[derive(Drop)]
 pub(crate) struct Tables<A: Allocator + Copy = Global> {
-    bodies: Vec<Body, A>,
+    bodies: Bodies<A>,
     others: Vec<Frame, A>,
 }
 
@@ -26,7 +27,7 @@ impl<A: Allocator + Copy> Model for Tables<A> {
 
     ghost Value = { Kept };
 
-    ghost view = { λ t. record { bodies = t.bodies.items; others = t.others.items } };
+    ghost view = { λ t. record { bodies = t.bodies; others = t.others.items } };
 }
 
 impl<A: Allocator + Copy> Tables<A> {
@@ -35,7 +36,7 @@ impl<A: Allocator + Copy> Tables<A> {
         ensures { result ≡ record { bodies = []; others = [] } }
     {
         Tables {
-            bodies: Vec::new(alloc),
+            bodies: Bodies::new(alloc),
             others: Vec::new(alloc),
         }
     }
@@ -50,7 +51,7 @@ impl<A: Allocator + Copy> Tables<A> {
         match slot {
             Slot::Data { number } => Frame::Numbered {
                 number: u64::from(number),
-                body: self.bodies[number as usize],
+                body: self.bodies.at(number as usize),
             },
             Slot::Count { count } => Frame::Got {
                 count: u64::from(count),
@@ -82,7 +83,7 @@ impl<A: Allocator + Copy> Tables<A> {
         }
         let place = number as usize;
         if place < self.bodies.len() {
-            return Ok(self.bodies[place] == body);
+            return Ok(self.bodies.is(place, &body));
         }
         if place > self.bodies.len() {
             return Ok(false);

@@ -83,6 +83,8 @@ impl<F: FrontEnd, A: Allocator + Copy, W: WireStore<A>> World<F, A, W> {
     ///
     /// The first fault of `WorldFault` that applies, and then nothing has changed; or `OutOfMemory`, and then the world
     /// has stopped for good, with the events, history, order and reads of the steps before.
+    // (in line: a caller that makes events of one kind passes by what the others ask for)
+    #[inline(always)]
     pub fn step(&mut self, event: &Event) -> Result<(), WorldFault>
         ensures made { MatchResult result (λ _. Accepts F.start self.old event.now self.new) (λ fault. Refuses F.start self.old event.now fault self.new) }
         ensures history { MatchResult result (λ _. (reply : Option Reply) × Grows (length self.old.accepted) self.old.history event.now reply self.new.history) (λ _. self.new.history ≡ self.old.history) }
@@ -99,6 +101,8 @@ impl<F: FrontEnd, A: Allocator + Copy, W: WireStore<A>> World<F, A, W> {
     ///
     /// The first fault of `WorldFault` that applies, and then nothing has changed; or `OutOfMemory`, and then the world
     /// has stopped for good, with the events, history, order and reads of the steps before.
+    // (in line: as `step`)
+    #[inline(always)]
     pub fn step_reply(&mut self, event: &Event) -> Result<Option<Reply>, WorldFault>
         ensures made { MatchResult result (λ reply. Accepts F.start self.old event.now self.new × (reply ≡ reply_in F.start self.old event.now)) (λ fault. Refuses F.start self.old event.now fault self.new) }
         ensures history { MatchResult result (λ reply. Grows (length self.old.accepted) self.old.history event.now reply self.new.history) (λ _. self.new.history ≡ self.old.history) }

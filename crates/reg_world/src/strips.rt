@@ -14,7 +14,7 @@ pub(crate) trait Item: Copy {
 }
 
 /// A list of fewer items grows to twice its room.
-const SHORT: usize = 256;
+const SHORT: usize = 2048;
 
 /// A list of `SHORT` items or more grows by at least this number of items.
 const MANY: usize = 4096;

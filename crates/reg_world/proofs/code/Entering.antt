@@ -1,5 +1,5 @@
 -- What an event adds to what a world tells.
-use Rattle.std.proofs.Common.{◌≡◌, ℕ, ◌+◌, ◌-◌, ◌<◌, ◌≤◌, Bool, true, false, cond, List, [], ◌∷◌, ◌++◌, map, length, drop, get_or, Option, refl, sym, ap, ◌∙◌, subst, arith, Vec}
+use Rattle.std.proofs.Common.{◌≡◌, ℕ, ◌+◌, ◌-◌, ◌<◌, ◌≤◌, Bool, true, false, cond, List, [], ◌∷◌, ◌++◌, map, length, drop, get_or, Option, refl, sym, ap, ◌∙◌, subst, arith, Vec, Some, None, slice_set, append-nil}
 use Rattle.std.specs.Prelude.{vec_len, vec_capacity}
 use Rattle.std.specs.List.{filter}
 use Rattle.std.proofs.lemmas.List.{append_assoc, drop_more, take_at, take-append-le, get_or_default}
@@ -18,9 +18,13 @@ use Rattle.reg_world.specs.Witnesses.{is_after}
 use Rattle.reg_base.specs.declared.memory.OpId.{OpId}
 use Rattle.reg_base.specs.Shape.{Extent}
 use Rattle.reg_process.specs.declared.steps.Step.{Step}
+use Rattle.reg_process.specs.declared.steps.Step.TheVariants.{Call, Take, Tick}
+use Rattle.reg_process.specs.declared.events.Event.{Event}
+use Rattle.reg_world.specs.declared.callers.Note.{Note}
+use Rattle.reg_world.specs.declared.order.CopyRead.{CopyRead}
 use Rattle.reg_process.specs.declared.steps.Reply.{Reply}
 use Rattle.reg_world.specs.World.{op_id, calls_in, answers_in}
-use Rattle.reg_world.specs.Pages.{Pages, calls_after, entries_after, first_in, firsts_in, tally_at, TimesDiffer}
+use Rattle.reg_world.specs.Pages.{Pages, calls_after, entries_after, entered, passed, CallsNothing, first_in, firsts_in, tally_at, TimesDiffer}
 use Rattle.reg_world.proofs.lists.Bodies.{place_last, place_first, place_within}
 use Rattle.reg_world.proofs.code.Noted.{at_index}
 
@@ -98,3 +102,26 @@ module _ (b : Pages) (p : ℕ) (step : Step) (reply : Option Reply) (good : IsHi
       (subst (λ z. IsHistory b.shape.processes b.shape.registers (z ++ answers_in at answered reply)) (sym grown)
       (subst (λ z. IsHistory b.shape.processes b.shape.registers ((b.entries ++ calls_in at0 id0 step) ++ answers_in z answered reply)) (sym ea)
       (subst (λ z. IsHistory b.shape.processes b.shape.registers ((b.entries ++ calls_in at0 id0 step) ++ answers_in at0 z reply)) (sym ei) good)))
+
+-- the pages after an event in which nothing is told, with these lists
+abbrev pages_with : Pages → Event → ℕ → Bool → List Entry → List First → List CopyRead → List Note → Pages
+pages_with b e p runs entries order reads casts = record (passed b e p runs) {
+  entries = entries;
+  order = order;
+  reads = reads;
+  tallies = slice_set b.tallies p (record (tally_at b.tallies p) { runs = runs; casts = casts });
+}
+
+silent_pages : (b : Pages) (e : Event) (p : ℕ) (runs : Bool) → pages_with b e p runs ((b.entries ++ []) ++ []) (b.order ++ []) (b.reads ++ []) ((tally_at b.tallies p).casts ++ []) ≡ passed b e p runs
+silent_pages b e p runs =
+    let casts = (tally_at b.tallies p).casts in
+    ap (λ (l : List Entry). pages_with b e p runs l (b.order ++ []) (b.reads ++ []) (casts ++ [])) (append-nil (b.entries ++ []) ∙ append-nil b.entries)
+    ∙ (ap (λ (l : List First). pages_with b e p runs b.entries l (b.reads ++ []) (casts ++ [])) (append-nil b.order)
+    ∙ (ap (λ (l : List CopyRead). pages_with b e p runs b.entries b.order l (casts ++ [])) (append-nil b.reads)
+    ∙ ap (λ (l : List Note). pages_with b e p runs b.entries b.order b.reads l) (append-nil casts)))
+
+-- what an event adds in which nothing is told
+pub passed_is_entered : (b : Pages) (e : Event) (p : ℕ) (step : Step) (runs : Bool) (cast : Option Stamp) → CallsNothing step → entered b e p step runs cast [] None ≡ passed b e p runs
+passed_is_entered b e p (Call op) runs cast calls = absurd calls
+passed_is_entered b e p (Take from frame) runs cast calls = silent_pages b e p runs
+passed_is_entered b e p Tick runs cast calls = silent_pages b e p runs

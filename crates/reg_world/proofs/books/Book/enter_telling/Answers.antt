@@ -5,7 +5,7 @@ use Rattle.reg_world.specs.Tallies.{Tally}
 use Rattle.reg_world.specs.World.{op_id, calls_in}
 use Rattle.reg_world.specs.Pages.{Pages, tally_at, tallies_after, calls_after, CallFits, TimesDiffer}
 use Rattle.reg_world.proofs.code.Entering.{call_good, answer_good}
-use Rattle.reg_world.proofs.books.Book.enter.Goals as goal
+use Rattle.reg_world.proofs.books.Book.enter_telling.Goals as goal
 
 pub push_call-requires-clause-in_place : goal.push_call-requires-clause-in_place
 push_call-requires-clause-in_place g c =
