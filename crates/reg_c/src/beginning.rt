@@ -146,8 +146,9 @@ pub extern "C" fn tellwydar_node_begin(
     }
 }
 
-/// Puts into `headless` 1 where the text is what a crash can leave, before its head is whole, of the log that the row
-/// says, else 0. Of the row the cluster, the chapter and the process are looked at. If the result isn't 0, there was no
+/// Puts into `headless` 1 where the text is of a log that the row says and that never began, else 0. That is a first
+/// part of its lines up to its chapter, with zeros behind it or none, or all of these lines with fewer than five lines
+/// behind them. Of the row the cluster, the chapter and the process are looked at. If the result isn't 0, there was no
 /// memory, and nothing has changed.
 #[unsafe(no_mangle)]
 pub extern "C" fn tellwydar_node_is_headless(

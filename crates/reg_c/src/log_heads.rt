@@ -92,8 +92,8 @@ pub extern "C" fn tellwydar_log_head(
     }
 }
 
-/// How many bytes the head and the first entries, so many, of the log take that the text begins with; as many as the
-/// text has where there are fewer lines.
+/// How many bytes the head and the first entries, so many, of the log take that the text begins with, where it has as
+/// many. Of other texts it is told only that they have so many bytes.
 #[unsafe(no_mangle)]
 pub extern "C" fn tellwydar_log_part(text: &[u8], entries: u64) -> usize
     ensures within { result ≤ length text.now }

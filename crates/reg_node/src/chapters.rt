@@ -52,6 +52,7 @@ impl<A: Allocator + Copy> Model for Told<A> {
     ghost invariant = { λ t. length t.accepted.items ≤ 255 };
 }
 
+/// The value of a bit that is set, else 0.
 pub(crate) fn bit(is: bool, value: u8) -> u8
     ensures value { result ≡ bit_of is value }
     ensures within { result ≤ value }

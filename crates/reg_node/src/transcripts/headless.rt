@@ -52,8 +52,10 @@ fn lacks_head(bytes: &[u8], text: &[u8]) -> bool
     }
 }
 
-/// Whether the bytes are what a crash can leave of this log before its head is whole: so it never began, and can be
-/// begun anew. What was drawn for the log, `begun`, is not looked at.
+/// Whether the bytes are of a log that never began, and can be begun anew: a first part of the lines of this log up to
+/// its chapter, with zeros behind it or none, or all of these lines with fewer than five lines behind them. A crash
+/// before the head is whole leaves nothing else, if it leaves a first part of what was written and zeros. What was
+/// drawn for the log, `begun`, is not looked at.
 pub fn is_headless<A: Allocator + Copy>(
     alloc: A,
     bytes: &[u8],
