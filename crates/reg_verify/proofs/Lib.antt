@@ -2,3 +2,8 @@ pub mod Logged
 pub mod Shown
 pub mod Merged
 pub mod Gathered
+pub mod StoryCuts
+pub mod Opened
+pub mod Judged
+pub mod OneStory
+pub mod StoryTold

@@ -6,3 +6,8 @@ pub mod Merges
 pub mod Laying
 pub mod Gathers
 pub mod Gathering
+pub mod Stories
+pub mod Opening
+pub mod StoryTexts
+pub mod StoryParts
+pub mod StoryLaws

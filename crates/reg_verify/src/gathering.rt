@@ -124,7 +124,7 @@ fn is_same_name(a: Option<&str>, b: Option<&str>) -> bool
 }
 
 /// Whether the registers have the same names.
-fn have_same_names<A: Allocator + Copy>(a: &Names<A>, b: &Names<A>) -> bool
+pub(crate) fn have_same_names<A: Allocator + Copy>(a: &Names<A>, b: &Names<A>) -> bool
     ensures { (result ≡ true) ↔ (a.now ≡ b.now) }
 {
     if a.count() != b.count() {
