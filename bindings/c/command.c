@@ -1,5 +1,5 @@
-/* Runs a command of `awreg`, or `verify`, `merge` or `judge` of `awshow`, over standard input:
- * command replay|check|play|play-fair|verify|merge|judge. It prints what the program prints, with its status. */
+/* Runs a command of `awreg`, or `verify`, `merge`, `story` or `judge` of `awshow`, over standard input:
+ * command replay|check|play|play-fair|verify|merge|story|judge. It prints what the program prints, with its status. */
 #include "tellwydar.h"
 #include <stdio.h>
 #include <string.h>
@@ -17,6 +17,7 @@ static command *named(const char *word) {
     if (strcmp(word, "play-fair") == 0) return tellwydar_play_fair;
     if (strcmp(word, "verify") == 0) return tellwydar_verify;
     if (strcmp(word, "merge") == 0) return tellwydar_merge;
+    if (strcmp(word, "story") == 0) return tellwydar_story;
     if (strcmp(word, "judge") == 0) return judge;
     return tellwydar_replay;
 }

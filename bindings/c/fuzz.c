@@ -60,7 +60,8 @@ static uint8_t judge_from(const uint8_t *text, size_t count, uint8_t *output, si
 
 static void texts(struct choices *given) {
     static const command commands[] = {tellwydar_replay, tellwydar_check, tellwydar_play, tellwydar_play_fair,
-                                       tellwydar_verify, tellwydar_merge, judge,          judge_from};
+                                       tellwydar_verify, tellwydar_merge, tellwydar_story,  judge,
+                                       judge_from};
     command run = commands[one_of(given, sizeof commands / sizeof *commands)];
     size_t room = number(given, 2), more = number(given, 1), count;
     uint8_t *text = part(given, given->left, &count), *output = block(room), *errors = block(more);

@@ -20,14 +20,15 @@
 
 /* Which functions and numbers there are. 2 adds compare-and-swaps, 3 nodes, 4 the judge of histories, 6 chapters and looks
  * at the peers of a node, 7 how one chapter follows another, and 8 the merge of logs, what the head of one says, whether one
- * never began, and who a message is from: all functions and numbers of those before are there, and mean what they did. */
+ * never began, who a message is from, and whether chapters are one story: all functions and numbers of those before are there, and mean
+ * what they did. */
 #define TELLWYDAR_ABI 8
 
 #ifdef __cplusplus
 extern "C" {
 #endif
 
-/* --- Texts: the commands of the program `awreg`, and `verify`, `merge` and `judge` of `awshow` -------------------------------- */
+/* --- Texts: the commands of the program `awreg`, and `verify`, `merge`, `story` and `judge` of `awshow` ----------------------- */
 
 /* How many bytes an answer has, and how many the line of a fault, also where less room was lent. */
 struct tellwydar_lengths {
@@ -56,6 +57,10 @@ uint8_t tellwydar_verify(const uint8_t *text, size_t text_length, uint8_t *outpu
 /* A record whose steps stand in any order, those of each process in their own one, as `awshow merge` reads it: the answer is the record
  * of the same steps in an order that is a run. If there is none, the line names a step that no run of first steps has. */
 uint8_t tellwydar_merge(const uint8_t *text, size_t text_length, uint8_t *output, size_t output_length, uint8_t *errors,
+                        size_t errors_length, struct tellwydar_lengths *lengths);
+/* The reports of chapters, one behind another, as `awshow story` reads them: with status 0 they are one story. The answer says so, or names
+ * the first report with which they go wrong (status 1). */
+uint8_t tellwydar_story(const uint8_t *text, size_t text_length, uint8_t *output, size_t output_length, uint8_t *errors,
                         size_t errors_length, struct tellwydar_lengths *lengths);
 /* What any system answered its clients, as lines of JSON, EDN or a report: `awshow judge` reads it, and docs/JUDGE.md says how. The answer
  * begins with yes if it is linearizable (status 0) and with no if it isn't (status 1); with a line, and no answer, it is refused (status 1).

@@ -13,6 +13,25 @@ static void rooms(void) {
     expect("no text is no record", status == 1 && lengths.errors == strlen("line 1: end\n"));
 }
 
+/* Two chapters of one process: the second one writes first what the first one ended with, or doesn't. */
+static void storied(void) {
+    const char *form = "awreg report 2\nfront linear\nprocesses 1\nregisters 1\nx\nhistory 1\n"
+                       "       0  p0    #0       call    write x %d\norder 1\np0 #0\nend\n";
+    const char *yes = "one story of 2 chapters\n";
+    const char *no = "report 1: p0 #0 should be write x 5, with which the chapter before ended\n";
+    char text[512], answer[128], line[64];
+    struct tellwydar_lengths lengths;
+    for (int value = 5; value < 7; value++) {
+        const char *wanted = value == 5 ? yes : no;
+        size_t length = snprintf(text, sizeof text, form, 5);
+        snprintf(text + length, sizeof text - length, form, value);
+        uint8_t status = tellwydar_story((const uint8_t *)text, strlen(text), (uint8_t *)answer, sizeof answer, (uint8_t *)line,
+                                         sizeof line, &lengths);
+        expect("chapters are told to be one story or none", status == value - 5 && lengths.output == strlen(wanted) &&
+                                                                memcmp(answer, wanted, lengths.output) == 0 && lengths.errors == 0);
+    }
+}
+
 /* Two processes: one writes, and the other takes that before it stands in the text. */
 static void merged(void) {
     const char *head = "tellwydar record 1\nfront linear\nprocesses 2\nregisters x\n";
@@ -303,6 +322,7 @@ static void comparing_processes(void) {
 int main(void) {
     rooms();
     merged();
+    storied();
     first_values();
     histories();
     refusals();

@@ -4,9 +4,8 @@ import tempfile
 import threading
 import unittest
 
-from tellwydar import Front, Node as LoggedNode, Refused, check
+from tellwydar import Front, Node as LoggedNode, Refused, check, story
 from tellwydar.net import LossyRoad, Node, core, judge
-from tellwydar.net.chapters import StoryFault, check_story, told_of, values_after
 from tellwydar.net.room import Room, room_of
 from test_net import free_addresses
 from test_node_programs import COUNT, CALLS, RUST, YES, Cluster, wait_until
@@ -129,46 +128,73 @@ class Rooms(unittest.TestCase):
             self.refused(f"chapter_operations is {operations}; with 2 registers it can be 3 to 65535", 3, 2, operations, None)
 
 
+def told_of(reports):
+    """What the library tells of these reports, one behind another."""
+    told = story(b"".join(reports))
+    return told.status, (told.answer + told.line).decode()
+
+
+def one_story(reports):
+    """What it tells where they are one story."""
+    return 0, f"one story of {len(reports)} chapters\n"
+
+
 class Stories(unittest.TestCase):
-    def test_a_comparison_counts_where_it_found_its_value(self):
-        history = "".join(f"{at:>8}  p0    #{at:<6}  {what}\n" for at, what in enumerate(
-            ["call    cas x 0 5", "call    cas x 0 6", "call    swap y 3", "call    cas y 3 4", "call    read x"]))
-        text = REPORT.format(count=5, history=history, order=5, ids="".join(f"p0 #{at}\n" for at in range(5)), points="")
-        told = told_of(text.replace("awreg report 2", "awreg report 3").encode())
-        self.assertEqual(values_after(told), [5, 4])
+    def accepted(self, *reports):
+        self.assertEqual(told_of(reports), one_story(reports))
 
     def refused(self, why, *reports):
-        with self.assertRaises(StoryFault) as told:
-            check_story(reports)
-        self.assertIn(why, str(told.exception))
+        self.assertEqual(told_of(reports), (1, why + "\n"))
+
+    def unopened(self, number, id, wanted, *reports):
+        self.refused(f"report {number}: {id} should be {wanted}, with which the chapter before ended", *reports)
+
+    def test_a_comparison_counts_where_it_found_its_value(self):
+        history = "".join(f"{at:>8}  p0    #{at // 2:<6}  {what}\n" for at, what in enumerate([
+            "call    cas x 0 5", "answer  done", "call    cas x 0 6", "answer  unequal", "call    swap y 3", "answer  value 0",
+            "call    cas y 3 4", "answer  done", "call    read x", "answer  value 5"]))
+        text = REPORT.format(count=10, history=history, order=5, ids="".join(f"p0 #{at}\n" for at in range(5)), points="")
+        first = text.replace("awreg report 2", "awreg report 3").replace("points 5\n", "").encode()
+        self.accepted(first, report(("x", 5), ("y", 4)))
+        self.unopened(1, "p0 #0", "write x 5", first, report(("x", 6), ("y", 4)))
 
     def test_reports_by_hand_are_accepted_by_check(self):
         self.assertEqual(check(report(("x", 5), ("y", 6))).answer, b"serial yes\npoints yes\n")
 
     def test_what_a_chapter_ends_with_is_written_first_in_the_next(self):
         first = report(("x", 5), ("y", 6), ("x", 7))
-        check_story([first, report(("x", 7), ("y", 6), ("x", 8)), report(("x", 8), ("y", 6))])
-        self.refused("report 1: p0 #0 should be write x 7", first, report(("x", 5), ("y", 6)))
-        self.refused("report 1: p0 #1 should be write y 6", first, report(("x", 7), ("x", 6)))
-        self.refused("report 2: p0 #0 should be write x 7", first, report(("x", 7), ("y", 6)), report(("y", 6), ("x", 7)))
-        self.refused("other registers", first, report(("x", 7), ("y", 6)).replace(b"\ny\n", b"\nz\n").replace(b" y ", b" z "))
+        self.accepted(first, report(("x", 7), ("y", 6), ("x", 8)), report(("x", 8), ("y", 6)))
+        self.unopened(1, "p0 #0", "write x 7", first, report(("x", 5), ("y", 6)))
+        self.unopened(1, "p0 #1", "write y 6", first, report(("x", 7), ("x", 6)))
+        self.unopened(2, "p0 #0", "write x 7", first, report(("x", 7), ("y", 6)), report(("y", 6), ("x", 7)))
+        self.refused("report 1: other registers", first, report(("x", 7), ("y", 6)).replace(b"\ny\n", b"\nz\n").replace(b" y ", b" z "))
 
     def test_a_chapter_that_ended_while_it_was_opened_has_nothing_else(self):
         first = report(("x", 5), ("y", 6))
-        check_story([first, report(("x", 5))])
-        check_story([first, report()])
+        self.accepted(first, report(("x", 5)))
+        self.accepted(first, report())
         called = report(("x", 5)).replace(b"history 2", b"history 1").replace(b"       0  p0    #0       answer  done\n", b"")
         called = called.replace(b"order 1\np0 #0\npoints 1\np0 #0 at 0\n", b"order 0\npoints 0\n")
         self.assertEqual(check(called).answer, b"serial yes\npoints yes\n")
-        check_story([first, called])
-        self.refused("report 1: p0 #0 should be write x 5", first, report(("y", 6)))
+        self.accepted(first, called)
+        self.unopened(1, "p0 #0", "write x 5", first, report(("y", 6)))
+
+    def test_only_the_last_chapter_may_have_a_part_of_its_opening(self):
+        first, part = report(("x", 5), ("y", 6)), report(("x", 5))
+        self.unopened(1, "p0 #1", "write y 6", first, part, part)
+        self.unopened(1, "p0 #0", "write x 5", first, report(), first)
 
     def test_a_register_that_is_0_is_not_written(self):
-        check_story([report(("x", 5), ("x", 0), ("y", 6)), report(("y", 6))])
+        self.accepted(report(("x", 5), ("x", 0), ("y", 6)), report(("y", 6)))
 
-    def test_what_comes_before_the_opening_is_refused(self):
+    def test_what_check_refuses_is_no_chapter(self):
         text = report(("x", 5), ("y", 6)).replace(b"p0 #0\np0 #1\n", b"p0 #1\np0 #0\n")
-        self.refused("p0 #0 should be number 0 of the order", report(("x", 5)), text)
+        self.refused("report 1: serial no: own order", report(("x", 5)), text)
+
+    def test_what_is_no_report_is_told_by_its_line(self):
+        first = report(("x", 5))
+        self.refused("line 1: end")
+        self.refused(f"line {first.count(10) + 1}: end", first, b"no report\n")
 
 
 class Clusters(unittest.TestCase):
@@ -215,7 +241,7 @@ class Clusters(unittest.TestCase):
             reports = self.reports(3)
             # 120 operations, at most 9 of a process in a chapter
             self.assertGreaterEqual(len(reports), 5)
-            check_story(reports)
+            self.assertEqual(told_of(reports), one_story(reports))
             for text in reports:
                 self.assertEqual(check(text).answer, YES[front])
             self.tearDown()
@@ -224,11 +250,13 @@ class Clusters(unittest.TestCase):
     def test_one_node_alone(self):
         answers = self.play("linear", 1, 20)
         self.assertEqual([answers[0, k] for k in range(20)], list(range(1, 21)))
-        check_story(self.reports(1))
+        reports = self.reports(1)
+        self.assertEqual(told_of(reports), one_story(reports))
 
     def test_over_a_road_that_loses_repeats_and_reorders(self):
         self.play("local-read", 3, 12, lambda road: LossyRoad(road, 3, 0.2, 0.1, 0.2, 0.001))
-        check_story(self.reports(3))
+        reports = self.reports(3)
+        self.assertEqual(told_of(reports), one_story(reports))
 
 
 class Programs(unittest.TestCase):
@@ -260,7 +288,7 @@ class Programs(unittest.TestCase):
                     self.assertEqual(check(told.stdout).answer, YES[front])
                     reports.append(told.stdout)
                 self.assertGreater(len(reports), 1)
-                check_story(reports)
+                self.assertEqual(told_of(reports), one_story(reports))
                 openings = sum(len([it for it in (b"x", b"y") if b" call    write " + it in text]) for text in reports[1:])
                 self.assertGreaterEqual(sum(it.count(b" call ") for it in reports), COUNT * CALLS)
                 self.assertLessEqual(sum(it.count(b" call ") for it in reports), COUNT * CALLS + openings)

@@ -20,7 +20,7 @@ __all__ = [
     "UNEQUAL", "Answered", "Called", "CompareAndSwap", "Fault", "Front", "HistoryRefused", "Judgement", "Known",
     "LogHead", "LogsFault", "LogsRefused", "Look", "Node", "Output", "Process", "Read", "Refused", "Reply", "Row",
     "Swap", "Told", "Unequal", "World", "Write", "check", "check_points", "check_serial", "first_entries", "judge",
-    "merge", "merge_logs", "play", "play_fair", "replay", "verify",
+    "merge", "merge_logs", "play", "play_fair", "replay", "story", "verify",
 ]
 
 
@@ -51,7 +51,7 @@ def _load() -> Tuple[ctypes.CDLL, Any]:
     library = ctypes.CDLL(path)
     u8, u16, u32, u64, size, handle = ctypes.c_uint8, ctypes.c_uint16, ctypes.c_uint32, ctypes.c_uint64, ctypes.c_size_t, ctypes.c_void_p
     room = ctypes.c_char_p
-    for word in ("replay", "check", "play", "play_fair", "merge", "verify"):
+    for word in ("replay", "check", "play", "play_fair", "merge", "story", "verify"):
         call = getattr(library, f"tellwydar_{word}")
         call.restype, call.argtypes = u8, [room, size, room, size, room, size, ctypes.POINTER(_Lengths)]
     library.tellwydar_judge.restype = u8
@@ -149,6 +149,12 @@ def merge(record: bytes) -> Told:
     """Puts the steps of a record, those of each process in their own order, into an order that is a run: the answer is
     the record in that order."""
     return _tell("merge", record)
+
+
+def story(reports: bytes) -> Told:
+    """Judges the reports of chapters, one behind another: status 0 where they are one story, and else the answer names the first report with
+    which they go wrong."""
+    return _tell("story", reports)
 
 
 def verify(record: bytes) -> Told:

@@ -42,7 +42,7 @@ pub use messages::{Brings, Greeting, MESSAGE_START, Meeting, Meets, Met, message
 pub use nodes::{LogFault, LogHead, LoggedNode, Look, Output};
 pub use processes::{Frames, Known, Process};
 pub use rooms::{NoRoom, Room, room};
-pub use texts::{Told, check, merge, play, play_fair, replay, verify};
+pub use texts::{Told, check, merge, play, play_fair, replay, story, verify};
 pub use worlds::{Event, Front, Linear, LocalRead, LocalWrite, RealTime, Refused, Reply, World};
 
 /// What a process calls.

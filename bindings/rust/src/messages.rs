@@ -7,7 +7,7 @@ use crate::{LogHead, Refused};
 pub const MESSAGE_START: usize = 33;
 
 /// What a message brings, by its byte behind the start.
-#[derive(Clone, Copy, Debug, PartialEq, Eq)]
+#[derive(Clone, Copy, Debug, PartialEq, Eq, Hash)]
 pub enum Brings {
     /// Frames, one after the other.
     Frames,
@@ -18,7 +18,7 @@ pub enum Brings {
 }
 
 /// What a message is to the process that it came to: the first of these that applies.
-#[derive(Clone, Copy, Debug, PartialEq, Eq)]
+#[derive(Clone, Copy, Debug, PartialEq, Eq, Hash)]
 pub enum Met {
     /// Its bytes are none of a message.
     NoMessage,

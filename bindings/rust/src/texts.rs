@@ -77,6 +77,12 @@ pub fn verify(record: &[u8]) -> Told {
     tell(foreign::tellwydar_verify, record)
 }
 
+/// Judges the reports of chapters, one behind another: status 0 where they are one story, and else the answer names the
+/// first report with which they go wrong.
+pub fn story(reports: &[u8]) -> Told {
+    tell(foreign::tellwydar_story, reports)
+}
+
 /// Puts the steps of a record into an order that is a run, those of each process in their own order: the answer is the
 /// record in that order. Where there is none, the line names a step that is in none.
 pub fn merge(record: &[u8]) -> Told {

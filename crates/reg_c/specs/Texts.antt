@@ -1,5 +1,5 @@
 -- What a command tells over memory that its caller lends.
-use Rattle.std.specs.Prelude.{ℕ, ◌≡◌, ◌≢◌, ◌≤◌, ◌⊎◌, Bool, true, false, List, [], None, Some, length}
+use Rattle.std.specs.Prelude.{ℕ, ⊤, ◌≡◌, ◌≢◌, ◌≤◌, ◌⊎◌, Bool, true, false, List, [], None, Some, length}
 use Rattle.std.specs.Io.KnownBytes.{Appends}
 use Rattle.reg_base.specs.declared.limits.TheConstants.{LONGEST_INPUT}
 use Rattle.reg_commands.specs.Answers.{Answers, Blames}
@@ -15,6 +15,7 @@ use Rattle.reg_observed.specs.declared.command.CommandFault.{CommandFault}
 use Rattle.reg_observed.specs.declared.command.CommandFault.TheVariants.{Command as JudgeCommand}
 use Rattle.reg_observed.specs.declared.flags.JudgeFlags.{JudgeFlags}
 use Rattle.reg_verify.specs.Merges.{BlamesMerge, Merges}
+use Rattle.reg_verify.specs.StoryTexts.{BlamesStory, TellsStory as StoryAnswer}
 use Rattle.reg_verify.specs.Verifies.{BlamesAccount, Verifies, verify_line}
 use Rattle.reg_verify.specs.declared.faults.VerifyFault.TheVariants.{Command as VerifyCommand}
 
@@ -30,6 +31,10 @@ IsVerdict = IsTold ⊥ VerifyCommand verify_line BlamesAccount (λ _. Verifies)
 abbrev pub IsMerged : List ℕ → ℕ → List ℕ → List ℕ → Type 0
 IsMerged = IsTold ⊥ VerifyCommand verify_line BlamesMerge (λ _. Merges)
 
+-- the status, the line that is told of reports in a row and the line of a fault that are given to a text
+abbrev pub IsStoryTold : List ℕ → ℕ → List ℕ → List ℕ → Type 0
+IsStoryTold = IsTold ⊤ (λ (fault : Fault). fault) fault_line BlamesStory StoryAnswer
+
 -- what a command tells of a text
 abbrev pub Tells : Command → List ℕ → ℕ → List ℕ → List ℕ → List ℕ → List ℕ → Lengths → Type 0
 Tells command text status old new errors_old errors_new lengths = Fills (IsAnswer command text) status old new errors_old errors_new lengths
@@ -41,6 +46,10 @@ TellsVerdict text status old new errors_old errors_new lengths = Fills (IsVerdic
 -- what the merge tells of a text
 abbrev pub TellsMerged : List ℕ → ℕ → List ℕ → List ℕ → List ℕ → List ℕ → Lengths → Type 0
 TellsMerged text status old new errors_old errors_new lengths = Fills (IsMerged text) status old new errors_old errors_new lengths
+
+-- what is told of the reports that a text is
+abbrev pub TellsStory : List ℕ → ℕ → List ℕ → List ℕ → List ℕ → List ℕ → Lengths → Type 0
+TellsStory text status old new errors_old errors_new lengths = Fills (IsStoryTold text) status old new errors_old errors_new lengths
 
 -- how the judge of histories is asked: the usual first value is meant
 abbrev pub judge_flags : Bool → JudgeFlags

@@ -66,7 +66,7 @@ pub use process_handles::{
 pub use rooms::{RoomRow, tellwydar_room};
 pub use texts::{
     tellwydar_check, tellwydar_judge, tellwydar_judge_from, tellwydar_merge, tellwydar_play,
-    tellwydar_play_fair, tellwydar_replay, tellwydar_verify,
+    tellwydar_play_fair, tellwydar_replay, tellwydar_story, tellwydar_verify,
 };
 pub use worlds::{
     tellwydar_world_arrange, tellwydar_world_close, tellwydar_world_compare_and_swap,

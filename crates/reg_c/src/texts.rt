@@ -3,11 +3,11 @@ ghost use Rattle.std.specs.Prelude.{◌≡◌, ◌==◌, not, Some, option_copie
 ghost use Rattle.std.specs.Str.{IsUtf8};
 ghost use Rattle.reg_commands.specs.declared.command.Command.{Command};
 ghost use Rattle.reg_observed.specs.declared.flags.JudgeFlags.{JudgeFlags as AnyFlags};
-ghost use Rattle.reg_c.specs.Texts.{IsJudgement, Tells, TellsJudgement, TellsMerged, TellsVerdict, judge_flags};
+ghost use Rattle.reg_c.specs.Texts.{IsJudgement, Tells, TellsJudgement, TellsMerged, TellsStory, TellsVerdict, judge_flags};
 
 use reg_commands::{Command, Lengths, OverText, Response, tell};
 use reg_observed::{JudgeFlags, judge_text};
-use reg_verify::{Merge, Verify};
+use reg_verify::{Merge, Story, Verify};
 use std::alloc::Global;
 use std::str;
 
@@ -108,6 +108,21 @@ pub extern "C" fn tellwydar_merge(
     ensures { TellsMerged text.now result output.old output.new errors.old errors.new lengths.new }
 {
     tell(Merge, alloc, text).put(output, errors, lengths)
+}
+
+/// Judges whether reports, one behind another, are one story. The answer is that they are, and the status 0; or the
+/// first with which they go wrong, and the status 1; or 1 with the line of a fault, or a first part of it.
+#[unsafe(no_mangle)]
+pub extern "C" fn tellwydar_story(
+    alloc: Global,
+    text: &[u8],
+    output: &mut [u8],
+    errors: &mut [u8],
+    lengths: &mut Lengths,
+) -> u8
+    ensures { TellsStory text.now result output.old output.new errors.old errors.new lengths.new }
+{
+    tell(Story, alloc, text).put(output, errors, lengths)
 }
 
 /// What the judge of histories tells of a text.

@@ -8,11 +8,11 @@ use Rattle.reg_cli.specs.Subcommands.{Text}
 use Rattle.reg_outcomes.specs.declared.tables.plays.TheConstants.{MOST_PLAYS}
 use Rattle.reg_show_cli.specs.declared.topics.Topic.{Topic}
 use Rattle.reg_show_cli.specs.declared.words.Asked.{Asked}
-use Rattle.reg_show_cli.specs.declared.words.Asked.TheVariants.{AllOutcomes, Find, Help, Judge, Merge, Outcome, Outcomes, Schedule, ShortSchedule, Show, Text as OfText, Verify, Version, Why}
+use Rattle.reg_show_cli.specs.declared.words.Asked.TheVariants.{AllOutcomes, Find, Help, Judge, Merge, Outcome, Outcomes, Schedule, ShortSchedule, Show, Story, Text as OfText, Verify, Version, Why}
 use Rattle.reg_outcomes.specs.declared.orders.kinds.OrderKind.{OrderKind}
 use Rattle.reg_outcomes.specs.declared.orders.kinds.OrderKind.TheVariants.{Serial, Points}
 use Rattle.reg_show.specs.declared.Player.{Player}
-use Rattle.reg_show_cli.specs.Lines.{IsAllLine, IsFindLine, IsHelpLine, IsJudgeLine, IsLineOf, IsMergeLine, IsOneOutcomeLine, IsOutcomesLine, IsScheduleLine, IsShortLine, IsShowLine, IsVerifyLine, IsVersionLine, IsWhyLine, NumbersFit, SaysPlays, text_line}
+use Rattle.reg_show_cli.specs.Lines.{IsAllLine, IsFindLine, IsHelpLine, IsJudgeLine, IsLineOf, IsMergeLine, IsOneOutcomeLine, IsOutcomesLine, IsScheduleLine, IsShortLine, IsShowLine, IsStoryLine, IsVerifyLine, IsVersionLine, IsWhyLine, NumbersFit, SaysPlays, text_line}
 use Rattle.reg_show.specs.declared.showing.View.{View}
 use Rattle.reg_commands.specs.declared.command.Command.{Command}
 use Rattle.reg_commands.specs.declared.command.Command.TheVariants.{Check, Play, Replay}
@@ -73,6 +73,7 @@ module _ (line : List Text)
     (why : ¬ IsWhyLine line)
     (verified : ¬ IsVerifyLine line)
     (merged : ¬ IsMergeLine line)
+    (storied : ¬ IsStoryLine line)
     (judged : (first : Option Text) (report : Bool) → ¬ IsJudgeLine line first report)
     (version : ¬ IsVersionLine line)
     (every : ¬ IsAllLine line)
@@ -96,6 +97,7 @@ module _ (line : List Text)
   asks_nothing Why h = why h
   asks_nothing Verify h = verified h
   asks_nothing Merge h = merged h
+  asks_nothing Story h = storied h
   asks_nothing (Judge flags) h = judged (option_copied flags.first) flags.report h
   asks_nothing (Help topic) h = help topic h
   asks_nothing Version h = version h
@@ -139,6 +141,7 @@ numbers_fit line (Find kind) h = tt
 numbers_fit line Why h = tt
 numbers_fit line Verify h = tt
 numbers_fit line Merge h = tt
+numbers_fit line Story h = tt
 numbers_fit line (Judge flags) h = tt
 numbers_fit line (Help topic) h = tt
 numbers_fit line Version h = tt

@@ -20,7 +20,7 @@ use Rattle.reg_show_cli.specs.declared.flags.TheConstants.{USUAL_PLAYS}
 use Rattle.reg_show_cli.specs.Topics.{topic_name}
 use Rattle.reg_show_cli.specs.declared.topics.Topic.{Topic}
 use Rattle.reg_show_cli.specs.declared.words.Asked.{Asked}
-use Rattle.reg_show_cli.specs.declared.words.Asked.TheVariants.{AllOutcomes, Find, Help, Judge, Merge, Outcome, Outcomes, Schedule, ShortSchedule, Show, Text as OfText, Verify, Version, Why}
+use Rattle.reg_show_cli.specs.declared.words.Asked.TheVariants.{AllOutcomes, Find, Help, Judge, Merge, Outcome, Outcomes, Schedule, ShortSchedule, Show, Story, Text as OfText, Verify, Version, Why}
 
 -- the words that ask to show this: its name, and what a large drawing has behind it
 abbrev pub show_words : Showing → List Text
@@ -116,6 +116,10 @@ IsVerifyLine line = line ≡ codes "verify" ∷ []
 abbrev pub IsMergeLine : List Text → Type 0
 IsMergeLine line = line ≡ codes "merge" ∷ []
 
+-- the words ask whether reports are one story
+abbrev pub IsStoryLine : List Text → Type 0
+IsStoryLine line = line ≡ codes "story" ∷ []
+
 -- the words for a first value, where there is one
 abbrev pub first_words : Option Text → List Text
 first_words None = []
@@ -177,6 +181,7 @@ IsLineOf (Find kind) line = IsFindLine line kind
 IsLineOf Why line = IsWhyLine line
 IsLineOf Verify line = IsVerifyLine line
 IsLineOf Merge line = IsMergeLine line
+IsLineOf Story line = IsStoryLine line
 IsLineOf (Judge flags) line = IsJudgeLine line (option_copied flags.first) flags.report
 IsLineOf (Help topic) line = IsHelpLine line topic
 IsLineOf Version line = IsVersionLine line

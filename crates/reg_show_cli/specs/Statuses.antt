@@ -24,12 +24,13 @@ use Rattle.reg_show.specs.Seeds.{is_fair, reseeded, seed_of}
 use Rattle.reg_show.specs.Shorts.{ShowsShort, StopsShort}
 use Rattle.reg_show.specs.Showings.{Blames, Shows}
 use Rattle.reg_verify.specs.Merges.{BlamesMerge, Merges}
+use Rattle.reg_verify.specs.StoryTexts.{BlamesStory, TellsStory}
 use Rattle.reg_verify.specs.Verifies.{BlamesAccount, Verifies, verify_line}
 use Rattle.reg_verify.specs.declared.faults.VerifyFault.{VerifyFault}
 use Rattle.reg_verify.specs.declared.faults.VerifyFault.TheVariants.{Command as VerifyCommand}
 use Rattle.reg_show_cli.specs.Topics.{help_text}
 use Rattle.reg_show_cli.specs.declared.words.Asked.{Asked}
-use Rattle.reg_show_cli.specs.declared.words.Asked.TheVariants.{AllOutcomes, Find, Help, Judge, Merge, Outcome, Outcomes, Schedule, ShortSchedule, Show, Text as OfText, Verify, Version, Why}
+use Rattle.reg_show_cli.specs.declared.words.Asked.TheVariants.{AllOutcomes, Find, Help, Judge, Merge, Outcome, Outcomes, Schedule, ShortSchedule, Show, Story, Text as OfText, Verify, Version, Why}
 use Rattle.reg_reasons.specs.Tellings.{Answers, Halts}
 use Rattle.reg_observed.specs.Commands.{IsAnyJudged}
 use Rattle.reg_observed.specs.declared.command.CommandFault.{CommandFault as JudgeFault}
@@ -68,6 +69,7 @@ promise (Find kind) = record { Refusal = ShowFault; of_fault = Command; line = s
 promise Why = record { Refusal = Fault; of_fault = λ fault. fault; line = fault_line; Denies = ⊤; IsBlamed = Halts; IsAnswer = Answers }
 promise Verify = record { Refusal = VerifyFault; of_fault = VerifyCommand; line = verify_line; Denies = ⊥; IsBlamed = BlamesAccount; IsAnswer = λ _. Verifies }
 promise Merge = record { Refusal = VerifyFault; of_fault = VerifyCommand; line = verify_line; Denies = ⊥; IsBlamed = BlamesMerge; IsAnswer = λ _. Merges }
+promise Story = record { Refusal = Fault; of_fault = λ fault. fault; line = fault_line; Denies = ⊤; IsBlamed = BlamesStory; IsAnswer = TellsStory }
 promise (Judge flags) = record { Refusal = JudgeFault; of_fault = JudgeCommand; line = λ _. []; Denies = ⊤; IsBlamed = λ _ _. ⊤; IsAnswer = IsAnyJudged flags }
 promise (Help topic) = of_no_text
 promise Version = of_no_text
@@ -79,8 +81,8 @@ Obeys version (Help topic) input Wrote = Wrote (help_text topic)
 Obeys version Version input Wrote = Wrote version
 Obeys version asked input Wrote = IfSome input (λ xs. length xs ≤ LONGEST_INPUT) × IfSome input ((promise asked).IsAnswer true Wrote)
 
--- Status 1: the answer is a no, which only check, why, find and judge have; or the line of a fault was told, or a
--- first part of it. The fault holds of the input, and nothing was written unless the writer failed; then a first
+-- Status 1: the answer is a no, which only check, why, find, story and judge have; or the line of a fault was told, or
+-- a first part of it. The fault holds of the input, and nothing was written unless the writer failed; then a first
 -- part of an answer was. Of what is told where a history of JSON lines is refused no clause speaks. Where help or
 -- the version was asked for, the writer failed.
 abbrev pub Stops : Asked → Option (List ℕ) → Type 0 → Option (List ℕ) → Option (List ℕ) → Type 0 → Option (List ℕ) → Option (List ℕ) → Type 0

@@ -3,8 +3,8 @@ use Rattle.std.specs.Prelude.{ℕ, List, [], ◌∷◌, ◌++◌, codes, Option,
 use Rattle.std.specs.List.{flat_map}
 use Rattle.reg_cli.specs.Subcommands.{Text}
 use Rattle.reg_show_cli.specs.declared.topics.Topic.{Topic}
-use Rattle.reg_show_cli.specs.declared.topics.Topic.TheVariants.{Replay, Check, Play, Schedule, Outcomes, Find, Trace, Draw, Page, Data, Rest, Why, Verify, Merge, Judge}
-use Rattle.reg_show_cli.specs.declared.topics.TheConstants.{REPLAY, CHECK, PLAY, SCHEDULE, OUTCOMES, FIND, TRACE, DRAW, PAGE, DATA, REST, WHY, VERIFY, MERGE, JUDGE}
+use Rattle.reg_show_cli.specs.declared.topics.Topic.TheVariants.{Replay, Check, Play, Schedule, Outcomes, Find, Trace, Draw, Page, Data, Rest, Why, Verify, Merge, Story, Judge}
+use Rattle.reg_show_cli.specs.declared.topics.TheConstants.{REPLAY, CHECK, PLAY, SCHEDULE, OUTCOMES, FIND, TRACE, DRAW, PAGE, DATA, REST, WHY, VERIFY, MERGE, STORY, JUDGE}
 use Rattle.reg_show_cli.specs.declared.words.TheConstants.{HELP_BEGIN, HELP_END}
 
 abbrev pub topic_name : Topic → Text
@@ -22,6 +22,7 @@ topic_name Rest = codes "rest"
 topic_name Why = codes "why"
 topic_name Verify = codes "verify"
 topic_name Merge = codes "merge"
+topic_name Story = codes "story"
 topic_name Judge = codes "judge"
 
 -- what help tells of a command
@@ -40,11 +41,12 @@ topic_lines Rest = REST.now
 topic_lines Why = WHY.now
 topic_lines Verify = VERIFY.now
 topic_lines Merge = MERGE.now
+topic_lines Story = STORY.now
 topic_lines Judge = JUDGE.now
 
 -- all commands
 abbrev pub topics : List Topic
-topics = Replay ∷ Check ∷ Play ∷ Schedule ∷ Outcomes ∷ Find ∷ Trace ∷ Draw ∷ Page ∷ Data ∷ Rest ∷ Why ∷ Verify ∷ Merge ∷ Judge ∷ []
+topics = Replay ∷ Check ∷ Play ∷ Schedule ∷ Outcomes ∷ Find ∷ Trace ∷ Draw ∷ Page ∷ Data ∷ Rest ∷ Why ∷ Verify ∷ Merge ∷ Story ∷ Judge ∷ []
 
 -- the help with a command, or with all
 abbrev pub help_text : Option Topic → List ℕ

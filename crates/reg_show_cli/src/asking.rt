@@ -10,7 +10,7 @@ ghost use Rattle.reg_show.specs.declared.showing.View.{View as AnyView};
 ghost use Rattle.reg_commands.specs.declared.command.Command.{Command as AnyCommand};
 ghost use Rattle.reg_show_cli.specs.declared.topics.Topic.{Topic as AnyTopic};
 ghost use Rattle.reg_show_cli.specs.declared.words.Asked.{Asked as AnyAsked};
-ghost use Rattle.reg_show_cli.specs.Lines.{IsAllLine, IsFindLine, IsHelpLine, IsHelpWith, IsJudgeLine, IsLineOf, IsMergeLine, IsOneOutcomeLine, IsOutcomesLine, IsScheduleLine, IsShortLine, IsShowLine, IsVerifyLine, IsVersionLine, IsWhyLine, show_words, text_line};
+ghost use Rattle.reg_show_cli.specs.Lines.{IsAllLine, IsFindLine, IsHelpLine, IsHelpWith, IsJudgeLine, IsLineOf, IsMergeLine, IsOneOutcomeLine, IsOutcomesLine, IsScheduleLine, IsShortLine, IsShowLine, IsStoryLine, IsVerifyLine, IsVersionLine, IsWhyLine, show_words, text_line};
 ghost use Rattle.reg_show_cli.specs.Topics.{topic_name};
 
 use crate::flags::{
@@ -243,6 +243,7 @@ fn plain_asked(words: &[String]) -> Option<Asked<'_>>
     ensures why { result ≡ None → ¬ IsWhyLine (behind_name words.now) }
     ensures verify { result ≡ None → ¬ IsVerifyLine (behind_name words.now) }
     ensures merge { result ≡ None → ¬ IsMergeLine (behind_name words.now) }
+    ensures story { result ≡ None → ¬ IsStoryLine (behind_name words.now) }
     ensures version { result ≡ None → ¬ IsVersionLine (behind_name words.now) }
     ensures all { result ≡ None → ¬ IsAllLine (behind_name words.now) }
     ensures help { result ≡ None → (topic : Option AnyTopic) → ¬ IsHelpLine (behind_name words.now) topic }
@@ -255,6 +256,9 @@ fn plain_asked(words: &[String]) -> Option<Asked<'_>>
     }
     if is_alone(words, "merge") {
         return Some(Asked::Merge);
+    }
+    if is_alone(words, "story") {
+        return Some(Asked::Story);
     }
     if is_alone(words, "--version") {
         return Some(Asked::Version);

@@ -23,7 +23,7 @@ use reg_show::{
     EveryOutcome, FindOrder, FullSchedule, ManyPlays, OneOutcome, ShortSchedule, ShowEither,
 };
 use reg_text::{Sink, Unwritten};
-use reg_verify::{Merge, Verify};
+use reg_verify::{Merge, Story, Verify};
 use std::io::{self, BufWriter, Read, Write};
 use std::rt::Env;
 
@@ -125,6 +125,7 @@ fn obey<R: AllocGlobal, I: Read, O: Write, E: Write>(
         Asked::Why => run!(Explain { global }),
         Asked::Verify => run!(Verify),
         Asked::Merge => run!(Merge),
+        Asked::Story => run!(Story),
         Asked::Judge { flags } => judge_text(alloc, flags, reader, writer, errors),
     }
 }

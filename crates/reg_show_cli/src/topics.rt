@@ -20,11 +20,12 @@ pub enum Topic {
     Why,
     Verify,
     Merge,
+    Story,
     Judge,
 }
 
 /// All of them, in the order in which help tells of them.
-pub const TOPICS: [Topic; 15] = [
+pub const TOPICS: [Topic; 16] = [
     Topic::Replay,
     Topic::Check,
     Topic::Play,
@@ -39,6 +40,7 @@ pub const TOPICS: [Topic; 15] = [
     Topic::Why,
     Topic::Verify,
     Topic::Merge,
+    Topic::Story,
     Topic::Judge,
 ];
 
@@ -127,6 +129,11 @@ pub const MERGE: &str =
                                 each process's own, prints them as a record in an order that is a run
 ";
 
+/// What help tells of `story`.
+pub const STORY: &str =
+    "  awshow story                  reads the reports of chapters, one behind another, prints whether they are one story
+";
+
 /// What help tells of `judge`.
 pub const JUDGE: &str =
     "  awshow judge                  reads a history, as JSON lines, EDN or a report, prints whether it is linearizable,
@@ -156,6 +163,7 @@ impl Topic {
             "why" => Some(Topic::Why),
             "verify" => Some(Topic::Verify),
             "merge" => Some(Topic::Merge),
+            "story" => Some(Topic::Story),
             "judge" => Some(Topic::Judge),
             _ => None,
         }
@@ -180,6 +188,7 @@ impl Topic {
             Topic::Why => WHY,
             Topic::Verify => VERIFY,
             Topic::Merge => MERGE,
+            Topic::Story => STORY,
             Topic::Judge => JUDGE,
         }
     }

@@ -30,6 +30,8 @@ pub enum Asked<'a> {
     Verify,
     /// To put the steps of the record on the input into an order that is a run.
     Merge,
+    /// To judge whether the reports on the input are one story.
+    Story,
     /// To judge the history on the input.
     Judge { flags: JudgeFlags<'a> },
     /// How the program is used: one command, or all of it.

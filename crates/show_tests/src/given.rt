@@ -6,7 +6,7 @@ use reg_show::{
     EveryOutcome, FindOrder, Form, FullSchedule, ManyPlays, OneOutcome, Player, ShortSchedule,
     ShowEither, Showing, View,
 };
-use reg_verify::{Merge, Verify};
+use reg_verify::{Merge, Story, Verify};
 use std::alloc::Global;
 use std::process::Abort;
 
@@ -37,6 +37,8 @@ pub(crate) enum Task {
     Show { showing: Showing },
     /// A run is shown, of a workload's play its short form.
     ShowShort { showing: Showing },
+    /// It is judged whether reports are one story.
+    Story,
     /// A record is judged.
     Verify,
     /// It is told what is wrong with the text.
@@ -85,6 +87,7 @@ fn run(alloc: Global, task: Task, text: &str, output: &mut Vec<u8>, errors: &mut
             let view = View { showing, form };
             run_command(ShowEither { view, global }, alloc, input, output, errors)
         }
+        Task::Story => run_command(Story, alloc, input, output, errors),
         Task::Verify => run_command(Verify, alloc, input, output, errors),
         Task::Why => run_command(Explain { global }, alloc, input, output, errors),
         Task::WhyLent => run_command(ExplainLent, alloc, input, output, errors),

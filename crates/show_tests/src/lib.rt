@@ -47,6 +47,8 @@ mod show_words;
 #[cfg(test)]
 mod shown;
 #[cfg(test)]
+mod stories;
+#[cfg(test)]
 mod streams;
 pub mod values;
 #[cfg(test)]

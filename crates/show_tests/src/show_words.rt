@@ -86,7 +86,7 @@ const JUDGED: [(&str, Option<Asked<'static>>); 17] = [
 ];
 
 /// Lines that ask for help with a command, and with which.
-const HELP: [(&str, Topic); 17] = [
+const HELP: [(&str, Topic); 18] = [
     ("draw --help", Topic::Draw),
     ("schedule --help", Topic::Schedule),
     ("outcomes -h", Topic::Outcomes),
@@ -100,6 +100,7 @@ const HELP: [(&str, Topic); 17] = [
     ("page --help", Topic::Page),
     ("help rest", Topic::Rest),
     ("help merge", Topic::Merge),
+    ("story --help", Topic::Story),
     ("help trace", Topic::Trace),
     ("help replay", Topic::Replay),
     ("check --help", Topic::Check),
@@ -121,7 +122,7 @@ const WHOLE_HELP: [(&str, Option<Asked<'static>>); 10] = [
 ];
 
 /// Lines of the other commands, and of none, and what each asks for.
-const OTHERS: [(&str, Option<Asked<'static>>); 39] = [
+const OTHERS: [(&str, Option<Asked<'static>>); 40] = [
     ("trace --seed 5", None),
     ("trace --short", None),
     (
@@ -187,6 +188,7 @@ const OTHERS: [(&str, Option<Asked<'static>>); 39] = [
     ("why", Some(Asked::Why)),
     ("verify", Some(Asked::Verify)),
     ("merge", Some(Asked::Merge)),
+    ("story", Some(Asked::Story)),
     ("--version", Some(Asked::Version)),
     ("", None),
     ("trace --", None),

@@ -1,7 +1,9 @@
 //! Every command of both programs over streams that fail: over a reader that fails at one read, over a writer that
 //! fails at one write or at its flush alone, and over one that holds what it is given until it is flushed.
 use crate::lines::words_of;
-use crate::{histories_judged, one_shown, orders_shown, records_judged, short_shown, shown, why};
+use crate::{
+    histories_judged, one_shown, orders_shown, records_judged, short_shown, shown, stories, why,
+};
 use reg_cli::{Asked, choose, run_text};
 use reg_show_cli::run_line;
 use std::io;
@@ -12,7 +14,7 @@ use std::process::Abort;
 type Row = (&'static str, &'static str, u8);
 
 /// All commands, each with every answer that it writes in a way of its own.
-const COMMANDS: [Row; 30] = [
+const COMMANDS: [Row; 32] = [
     ("awreg replay", shown::WRITE, 0),
     ("awreg check", records_judged::REPORT, 0),
     ("awreg check", orders_shown::STALE, 1),
@@ -40,6 +42,8 @@ const COMMANDS: [Row; 30] = [
     ("awshow why", why::REFUSED, 1),
     ("awshow verify", records_judged::WRITE, 0),
     ("awshow merge", records_judged::WRITE, 0),
+    ("awshow story", stories::FIRST, 0),
+    ("awshow story", stories::OUT_OF_ORDER, 1),
     ("awshow judge", histories_judged::BOTH_WELL, 0),
     ("awshow judge", histories_judged::STALE, 1),
     ("awshow judge --report", histories_judged::READ_BACK, 0),

@@ -13,14 +13,17 @@ import time
 import tomllib
 from typing import List, TextIO
 
-from .. import Refused, check
+from .. import Refused, story
 from . import judge, port, road
-from .calls import WORDS, perform
-from .chapters import StoryFault, check_story
+from .calls import WORDS
 from .core import Closed, NodeFailed, answer_text, say
+from .datagrams import AnyRoad
 from .logfile import LogFault
-from .node import AnyRoad, Node
+from .node import Node
 from .road import Keys, LossyRoad, RoadFault
+
+# (each ends with one line that says why)
+FAULTS = (Closed, LogFault, NodeFailed, OSError, Refused, RoadFault, TypeError, ValueError)
 
 
 def node_of(a: argparse.Namespace) -> Node:
@@ -50,12 +53,9 @@ def node_of(a: argparse.Namespace) -> Node:
     )
 
 
-class ScriptFault(Exception):
-    """A line of a script that says no call, or whose call was refused."""
-
-
 def run_script(node: Node, lines: List[str], out: TextIO) -> None:
-    """Makes the calls of a script. A node that was resumed goes on where its log ends."""
+    """Makes the calls of a script. A node that was resumed goes on where its log ends. `ValueError` names a line that
+    says no call, or whose call was refused."""
     called, going_on = node.so_far()
     if going_on:
         print(answer_text(node.wait()), file=out, flush=True)
@@ -70,48 +70,80 @@ def run_script(node: Node, lines: List[str], out: TextIO) -> None:
             if words[0] == "sleep":
                 time.sleep(float(words[1]))
                 continue
-            answer = perform(node, WORDS.call(line, node.registers))
+            answer = node.perform(WORDS.call(line, node.registers))
         except (ValueError, IndexError, Refused) as why:
-            raise ScriptFault(f"line {number}: {line.strip()}: {why}") from None
+            raise ValueError(f"line {number}: {line.strip()}: {why}") from None
         print(answer_text(answer), file=out, flush=True)
     print("end", file=out, flush=True)
 
 
 def tell_story(paths: List[str]) -> int:
-    """Judges each report by `check`, and then whether each goes on where the one before it ended."""
+    """Asks the library whether these reports, in this order, are one story. It tells a report by its place, from 0."""
     reports = []
     for path in paths:
         with open(path, "rb") as file:
             reports.append(file.read())
-        told = check(reports[-1])
-        if told.status != 0:
-            say(f"{path}: {(told.answer + told.line).decode().strip()}")
-            return 1
-    try:
-        check_story(reports)
-    except StoryFault as why:
-        say(str(why))
+    told = story(b"".join(reports))
+    if told.status != 0:
+        say((told.answer + told.line).decode().strip())
         return 1
-    print(f"one story of {len(reports)} chapters")
+    print(told.answer.decode(), end="")
     return 0
 
 
-def ask(path: str) -> int:
+def run_node(a: argparse.Namespace) -> None:
+    """Runs a node until it is ended, or its script fails."""
+    end, faults = threading.Event(), []
+
+    def run(node: Node, lines: List[str]) -> None:
+        try:
+            run_script(node, lines, sys.stdout)
+        except FAULTS as why:
+            faults.append(why)
+            end.set()
+
+    for number in (signal.SIGTERM, signal.SIGINT):
+        signal.signal(number, lambda *_: end.set())
+    with node_of(a) as node, contextlib.ExitStack() as opened:
+        if a.socket:
+            opened.enter_context(port.Port(node, a.socket))
+        if not node.sync:
+            say("without --sync a crash of the machine may lose entries that others have seen; a crash of this program loses none")
+        if a.script:
+            with open(a.script) as file:
+                lines = file.read().splitlines()
+            threading.Thread(target=run, args=(node, lines), daemon=True).start()
+        end.wait()
+    if faults:
+        raise faults[0]
+
+
+def ask(a: argparse.Namespace) -> None:
     """Has the node at this socket answer the lines of the standard input."""
     try:
-        for answer in port.answers(path, sys.stdin.buffer):
+        for answer in port.answers(a.socket, sys.stdin.buffer):
             sys.stdout.buffer.write(answer)
             sys.stdout.buffer.flush()
     except OSError as why:
-        say(f"{path}: {why.strerror or why}")
-        return 1
-    return 0
+        raise OSError(f"{a.socket}: {why.strerror or why}") from None
 
 
-def main(words: List[str]) -> int:
-    parser = argparse.ArgumentParser(prog="python3 -m tellwydar.net", description=__doc__, formatter_class=argparse.RawDescriptionHelpFormatter)
-    sub = parser.add_subparsers(dest="word", required=True)
+def merge(a: argparse.Namespace) -> None:
+    sys.stdout.buffer.write(judge.judge(a.logs, say, a.cut))
+
+
+def make_keys(a: argparse.Namespace) -> None:
+    public, secret = road.new_keys()
+    with open(os.open(a.file, os.O_WRONLY | os.O_CREAT | os.O_EXCL, 0o600), "wb") as file:
+        file.write(secret + b"\n")
+    print(f'key = "{public.decode()}"')
+
+
+def parser() -> argparse.ArgumentParser:
+    whole = argparse.ArgumentParser(prog="python3 -m tellwydar.net", description=__doc__, formatter_class=argparse.RawDescriptionHelpFormatter)
+    sub = whole.add_subparsers(required=True)
     p = sub.add_parser("node", help="runs a node until SIGTERM or SIGINT")
+    p.set_defaults(run=run_node)
     p.add_argument("--me", type=int, required=True)
     p.add_argument("--config", required=True)
     p.add_argument("--log", required=True)
@@ -123,62 +155,28 @@ def main(words: List[str]) -> int:
     p.add_argument("--resume", action="store_true", help="go on from the log")
     p.add_argument("--lossy", help="for tests: SEED,LOSS%%,DUPLICATES%%,REORDER%%,DELAY_MS")
     p = sub.add_parser("client", help="has a node answer the lines of the standard input")
+    p.set_defaults(run=ask)
     p.add_argument("socket")
     p = sub.add_parser("merge", help="prints the report of the run that the logs are")
+    p.set_defaults(run=merge)
     p.add_argument("--cut", action="store_true", help="where no order has all entries, the report of those that one has")
     p.add_argument("logs", nargs="+")
     p = sub.add_parser("story", help="checks that the reports of chapters, in their order, are one story")
+    p.set_defaults(run=lambda a: tell_story(a.reports))
     p.add_argument("reports", nargs="+")
     p = sub.add_parser("keys", help="makes a secret key in a new FILE, and prints its public key")
+    p.set_defaults(run=make_keys)
     p.add_argument("file")
-    a = parser.parse_args(words)
-    if a.word == "keys":
-        public, secret = road.new_keys()
-        made = os.open(a.file, os.O_WRONLY | os.O_CREAT | os.O_EXCL, 0o600)
-        os.write(made, secret + b"\n")
-        os.close(made)
-        print(f'key = "{public.decode()}"')
-        return 0
-    if a.word == "client":
-        return ask(a.socket)
-    if a.word == "merge":
-        try:
-            sys.stdout.buffer.write(judge.judge(a.logs, say, a.cut))
-        except (LogFault, OSError) as why:
-            say(str(why))
-            return 1
-        return 0
-    if a.word == "story":
-        return tell_story(a.reports)
-    end, faults = threading.Event(), []
+    return whole
 
-    def run(node: Node, lines: List[str]) -> None:
-        try:
-            run_script(node, lines, sys.stdout)
-        except (ScriptFault, NodeFailed, Closed, OSError) as why:
-            faults.append(why)
-            end.set()
 
-    for number in (signal.SIGTERM, signal.SIGINT):
-        signal.signal(number, lambda *_: end.set())
+def main(words: List[str]) -> int:
+    a = parser().parse_args(words)
     try:
-        with node_of(a) as node, contextlib.ExitStack() as opened:
-            if a.socket:
-                opened.enter_context(port.Port(node, a.socket))
-            if not a.sync:
-                say("without --sync a crash of the machine may lose entries that others have seen; a crash of this program loses none")
-            if a.script:
-                with open(a.script) as file:
-                    lines = file.read().splitlines()
-                threading.Thread(target=run, args=(node, lines), daemon=True).start()
-            end.wait()
-        if faults:
-            say(str(faults[0]))
-            return 1
-    except (NodeFailed, RoadFault, LogFault, OSError, Refused, TypeError, ValueError) as why:
+        return a.run(a) or 0
+    except FAULTS as why:
         say(str(why))
         return 1
-    return 0
 
 
 if __name__ == "__main__":
