@@ -14,7 +14,7 @@ from unittest import mock
 from tellwydar.net import Busy, Closed, Node, NodeFailed, Paused, TimedOut, core, judge, node, story
 from tellwydar.net.aio import AsyncNode
 from tellwydar.net.logfile import LogFile
-from tellwydar.net.messages import FRAMES
+from tellwydar.net.peers import FRAMES
 from tellwydar.net.port import Port
 from test_net import CLUSTER, entries_of, free_addresses
 from test_port import told

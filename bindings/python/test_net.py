@@ -17,15 +17,16 @@ import zlib
 
 import zmq
 
-from tellwydar import CompareAndSwap, Front, Read, Swap, Write, check, merge_logs
+from tellwydar import CompareAndSwap, Front, LogHead, Read, Swap, Write, check, merge_logs
 from tellwydar import Node as CoreNode
+from tellwydar.messages import Greeting, Met, start_of
 from tellwydar.net import (
     Busy, Closed, Keys, LogFault, LossyRoad, Node, NodeFailed, Paused, Refused, TimedOut, core, judge, road,
 )
 from tellwydar.net.aio import AsyncNode
 from tellwydar.net.datagrams import DatagramRoad
-from tellwydar.net.logfile import Head, LogFile, open_log
-from tellwydar.net.messages import FRAMES, GREETING, STATE, Greeting, Post, start_of
+from tellwydar.net.logfile import LogFile, open_log
+from tellwydar.net.peers import FRAMES, GREETING, STATE, Post
 from tellwydar.net.road import RoadFault
 
 if importlib.util.find_spec("nacl"):
@@ -235,7 +236,7 @@ class Logs(unittest.TestCase):
 class Spellings(unittest.TestCase):
     """The log of a process that is alone, as worked by hand."""
 
-    head = Head(CLUSTER, Front.LINEAR, ("x",), 1, 0, 0, 12)
+    head = LogHead(CLUSTER, 0, Front.LINEAR, 1, ("x",), begun=12, chapter=0)
     acts = [Write(0, 5), Swap(0, 2**64 - 1), CompareAndSwap(0, 4, 9), Read(0)]
     steps = ["0 call write x 5 = done 0", f"0 call swap x {2**64 - 1} = value 5 1", "0 call cas x 4 9 = unequal 2",
              f"0 call read x = value {2**64 - 1} 3", "0 tick"]
@@ -252,7 +253,7 @@ class Spellings(unittest.TestCase):
         return lines_of(judge.read(self.path, self.said.append).text)[9:]
 
     def test_is_read_as_it_was_written(self):
-        text = self.head.text()
+        text = CoreNode.begin(**self.head._asdict())
         with CoreNode.open(text, 0) as node:
             text += b"".join(node.call(act) for act in self.acts) + node.tick()
         self.assertEqual(text, self.whole)
@@ -287,19 +288,20 @@ class Spellings(unittest.TestCase):
 class Messages(unittest.TestCase):
     """Of process 1 in chapter 4 of cluster 5, whose log was begun as 9."""
 
-    head = Head(5, Front.LINEAR, ("x", "y"), 3, 1, 4, 9)
+    head = LogHead(5, 1, Front.LINEAR, 3, ("x", "y"), begun=9, chapter=4)
 
     def setUp(self):
         self.said = []
-        self.post = Post(self.head._replace(me=2, begun=1), road.Complaints(self.said.append))
+        self.post = Post(self.head._replace(process=2, begun=1), road.Complaints(self.said.append))
 
-    def opened(self, key=None, brings=b"\0", **other):
-        return self.post.opened(key, start_of(self.head._replace(**other), 2) + brings + b"rest")
+    def met(self, key=None, brings=b"\0", **other):
+        it = self.post.met(key, start_of(**self.head._replace(**other)._asdict(), to=2) + brings + b"rest")
+        return it and (it.met, it.sender, it.brings)
 
     def test_they_begin_as_worked_by_hand(self):
         # (zlib.crc32(b"x y") is 0x19fe0dc0)
         of = "545703 00 03 0002 19fe0dc0 0000000000000005 01 02 0000000000000009 00000004"
-        self.assertEqual(start_of(self.head, 2), bytes.fromhex(of))
+        self.assertEqual(start_of(**self.head._asdict(), to=2), bytes.fromhex(of))
         self.assertEqual((STATE, GREETING), (b"\1", b"\2"))
         for greeting, wanted in ((Greeting(True, 258), "01 0000000000000102"), (Greeting(False, 0), "00" * 9)):
             self.assertEqual(greeting.data(), bytes.fromhex(wanted))
@@ -308,12 +310,12 @@ class Messages(unittest.TestCase):
             self.assertIsNone(Greeting.of(odd))
 
     def test_who_was_heard_first_is_the_process(self):
-        self.assertEqual(self.opened(), (1, b"\0", b"rest"))
-        self.assertEqual(self.opened(1, b"\2"), (1, b"\2", b"rest"))
-        self.assertEqual(self.opened(chapter=3), (1, b"", b""))
-        self.assertIsNone(self.opened(chapter=5) or self.opened(chapter=2))
+        self.assertEqual(self.met(), (Met.PEER, 1, 0))
+        self.assertEqual(self.met(1, b"\2"), (Met.PEER, 1, 2))
+        self.assertEqual(self.met(chapter=3)[:2], (Met.LATE, 1))
+        self.assertIsNone(self.met(chapter=5) or self.met(chapter=2))
         self.assertEqual(self.said, [])
-        self.assertIsNone(self.opened(begun=8))
+        self.assertIsNone(self.met(begun=8))
         self.assertEqual(len(self.said), 1)
         self.assertIn("process 1 was begun anew", self.said[0])
 
@@ -321,26 +323,26 @@ class Messages(unittest.TestCase):
         for other, why in (
             ({"front": Front.LOCAL_READ}, "has the front end local-read, not linear"),
             ({"processes": 4}, "is of 4 processes, not of 3"),
-            ({"registers": ("x",)}, "has 1 registers, or other names for them"),
-            ({"registers": ("x", "z")}, "has 2 registers, or other names for them"),
+            ({"names": ("x",)}, "has 1 registers, or other names for them"),
+            ({"names": ("x", "z")}, "has 2 registers, or other names for them"),
             ({"cluster": 6}, "is of cluster 6, not of 5"),
-            ({"me": 2}, "says that it is process 2"),
+            ({"process": 2}, "says that it is process 2"),
             ({"brings": b"\3"}, "no message of a node"),
             ({"key": 0}, "says that it is process 1"),
         ):
             self.said.clear()
             self.setUp()
-            self.assertIsNone(self.opened(**other))
+            self.assertIsNone(self.met(**other))
             who = "process 0" if "key" in other else "somebody"
             self.assertEqual(self.said, [f"{who}: {why}; dropped"])
         # (there is no process 9)
         self.setUp()
-        mine = start_of(self.head, 2)
-        self.assertIsNone(self.post.opened(None, mine[:19] + b"\x09" + mine[20:] + b"\0"))
+        mine = start_of(**self.head._asdict(), to=2)
+        self.assertIsNone(self.post.met(None, mine[:19] + b"\x09" + mine[20:] + b"\0"))
         self.assertEqual(self.said[-1], "somebody: says that it is process 9; dropped")
-        start = start_of(self.head, 0) + b"\0"
+        start = start_of(**self.head._asdict(), to=0) + b"\0"
         for message in (b"", start[:-2], b"TW\2" + start[3:], start):
-            self.assertIsNone(self.post.opened(None, message))
+            self.assertIsNone(self.post.met(None, message))
         self.assertEqual(self.said[-1], "somebody: a message for process 0; dropped")
 
 
@@ -986,6 +988,12 @@ class Commands(unittest.TestCase):
         status, out, lines = self.run_node(many, log="4.log", shell='ulimit -f 1; trap "" XFSZ; exec "$@"')
         self.assertEqual((status, out.count("end")), (1, 0))
         self.assertIn("the log can't be written", lines[-1])
+
+    def test_the_configuration_may_ask_for_sync_too(self):
+        for config, said in (("sync = true", 0), ("sync = false", 1)):
+            _, out, _ = self.run_node("write x 5\n", config, shell='exec "$@" 2>&1', log=f"{said}.sync.log")
+            self.assertEqual(out.count("without --sync"), said, out)
+            self.assertTrue(out.endswith("done\nend\n"), out)
 
     def test_answers_are_told_alone_also_where_nobody_reads_what_is_said(self):
         for shell in ('exec "$@" 2>&-', 'exec "$@" 2>/dev/full'):

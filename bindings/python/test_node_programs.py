@@ -192,10 +192,50 @@ class Programs(unittest.TestCase):
                 self.play(front, killed=True, rust=rust)
 
 
+PROGRAMS = [[sys.executable, "-m", "tellwydar.net"], *([[RUST]] if RUST else [])]
+
+
+class Words(unittest.TestCase):
+    """Words that the programs of each language take, or don't."""
+
+    def run_program(self, *words):
+        told = subprocess.run(words, cwd=HERE, stdin=subprocess.DEVNULL, capture_output=True, text=True, timeout=60)
+        return told.returncode, told.stdout, told.stderr
+
+    def test_words_that_ask_for_nothing_end_with_status_2(self):
+        node = ["node", "--me", "0", "--config", "c.toml", "--log", "0.log"]
+        for program in PROGRAMS:
+            for words in (
+                [], ["nodes"], ["node"], node[:-2], node[:-1], [*node, "more"], [*node, "--fast"], [*node, "--secret"],
+                [*node, "--script", "a", "--socket", "b"], ["node", "--me", "x", *node[3:]], ["client"],
+                ["client", "a", "b"], ["merge"], ["merge", "--cut"], ["keys"], ["keys", "a", "b"],
+            ):
+                status, out, err = self.run_program(*program, *words)
+                self.assertEqual((status, out), (2, ""), words)
+                self.assertRegex(err, "(?i)usage: |--help")
+            status, out, err = self.run_program(*program, "node", "--help")
+            self.assertEqual((status, err), (0, ""))
+            self.assertIn("--resume", out)
+
+    def test_a_secret_key_is_made_in_a_new_file_alone(self):
+        for program in PROGRAMS:
+            with tempfile.TemporaryDirectory() as folder:
+                path = os.path.join(folder, "0.key")
+                status, out, err = self.run_program(*program, "keys", path)
+                self.assertEqual((status, err), (0, ""))
+                self.assertRegex(out, '^key = "[!-~]{40}"\n$')
+                with open(path) as file:
+                    secret = file.read()
+                self.assertEqual((len(secret), os.stat(path).st_mode & 0o777), (41, 0o600))
+                status, out, err = self.run_program(*program, "keys", path)
+                self.assertEqual((status, out, err.count("\n")), (1, "", 1), err)
+                self.assertIn("File exists", err)
+                with open(path) as file:
+                    self.assertEqual(file.read(), secret)
+
+
 class Sockets(unittest.TestCase):
     """A node that programs call, of each language by the client of each."""
-
-    PROGRAMS = [[sys.executable, "-m", "tellwydar.net"], *([[RUST]] if RUST else [])]
 
     def run_client(self, program, path, lines):
         words = [*program, "client", path]
@@ -225,9 +265,9 @@ class Sockets(unittest.TestCase):
         self.status = node.returncode
 
     def test_a_program_has_its_calls_answered(self):
-        for k, program in enumerate(self.PROGRAMS):
+        for k, program in enumerate(PROGRAMS):
             with self.node(program, f"{k}.log"):
-                for client in self.PROGRAMS:
+                for client in PROGRAMS:
                     lines = ["swap x 5", "", "cas x 5 6", "cas x 5 7", "read x", "write x 0", "read y", "health", "metrics"]
                     status, out, err = self.run_client(client, self.socket, lines)
                     self.assertEqual((status, err), (0, ""))
@@ -236,7 +276,7 @@ class Sockets(unittest.TestCase):
                     self.assertEqual((out[6], out[7], out[-1]), ("ok", "# TYPE tellwydar_operations_total counter", "# EOF"))
             self.assertEqual(self.status, 0)
             self.assertFalse(os.path.exists(self.socket))
-            for client in self.PROGRAMS:
+            for client in PROGRAMS:
                 status, out, err = self.run_client(client, self.socket, ["read x"])
                 self.assertEqual((status, out, err.count("\n")), (1, [], 1))
                 self.assertTrue(err.startswith(self.socket + ": No such file or directory"), err)
@@ -244,18 +284,18 @@ class Sockets(unittest.TestCase):
             self.assertEqual(check(told.stdout).answer, YES["linear"])
 
     def test_objects_are_answered_alike(self):
-        for k, program in enumerate(self.PROGRAMS):
+        for k, program in enumerate(PROGRAMS):
             with self.node(program, f"{k}.log"):
-                for client in self.PROGRAMS:
+                for client in PROGRAMS:
                     told = self.run_client(client, self.socket, [*ANSWERED, *REFUSED])
                     self.assertEqual(told, (0, [*ANSWERED.values(), *REFUSED.values()], ""))
 
     def test_of_a_call_whose_entry_is_not_written_nobody_knows(self):
         calls = [{"process": 0, "type": "invoke", "f": "write", "key": "x", "value": value} for value in range(1, 51)]
-        for k, program in enumerate(self.PROGRAMS):
+        for k, program in enumerate(PROGRAMS):
             # (the log has no more than 1,024 bytes)
             with self.node(program, f"{k}.log", shell='ulimit -f 1; trap "" XFSZ; exec "$@"'):
-                _, out, _ = self.run_client(self.PROGRAMS[0], self.socket, map(json.dumps, calls))
+                _, out, _ = self.run_client(PROGRAMS[0], self.socket, map(json.dumps, calls))
             told = [json.loads(it) for it in out]
             last = [it["type"] for it in told].index("info")
             self.assertIn("File too large", told[last]["error"])
@@ -263,7 +303,7 @@ class Sockets(unittest.TestCase):
             self.assertEqual({it["type"] for it in told[:last]}, {"ok"})
             self.assertLessEqual({it["type"] for it in told[last + 1 :]}, {"fail"})
             with self.node(program, f"{k}.log", "--resume"):
-                _, (read,), _ = self.run_client(self.PROGRAMS[0], self.socket, [json.dumps({"f": "read", "key": "x"})])
+                _, (read,), _ = self.run_client(PROGRAMS[0], self.socket, [json.dumps({"f": "read", "key": "x"})])
             rows = [row for call, end in zip(calls, told) for row in (call, {"process": 0, **end})]
             rows += [{"process": 1, "type": "invoke", "f": "read", "key": "x"}, {"process": 1, **json.loads(read)}]
             self.assertIn(rows[-1]["value"], (last, last + 1))

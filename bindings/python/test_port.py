@@ -175,7 +175,7 @@ class Ports(unittest.TestCase):
             self.assertIn('\ntellwydar_silent_seconds{process="1"} NaN\n', self.told("metrics")[0])
 
     def test_of_a_call_whose_entry_is_not_written_nobody_knows(self):
-        full = "the log can't be written: [Errno 28] No space left on device"
+        full, found = "the log can't be written: [Errno 28] No space left on device", []
         with Port(self.node, self.path):
             self.assertEqual(self.told("write x 1"), ["done"])
             with mock.patch.object(self.node._story.file, "append", side_effect=OSError(28, "No space left on device")):
@@ -185,6 +185,11 @@ class Ports(unittest.TestCase):
             answer, words = self.told(call("cas", "x", [1, 2]), "write x 3")
             self.assertEqual(json.loads(answer), {"type": "fail", "f": "cas", "key": "x", "value": [1, 2], "error": full})
             self.assertEqual(words, f"refused: {full}")
+            # (how it is, it doesn't tell either: that is one line too)
+            asked = threading.Thread(target=lambda: found.extend(self.told("metrics", "health")), daemon=True)
+            asked.start()
+            asked.join(10)
+            self.assertEqual(found, [f"refused: {full}"] * 2)
 
 
 class Ends(unittest.TestCase):

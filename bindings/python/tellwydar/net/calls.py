@@ -3,25 +3,19 @@
 A line is either words, as `write x 5`, or an object in the words of a history (docs/JUDGE.md of the repository), so that
 what went over a port can be judged: `{"f": "write", "key": "x", "value": 5}`.
 """
+import dataclasses
 import json
-from typing import Any, List, NamedTuple, Optional, Sequence, Tuple, Union
+from typing import Any, Dict, List, NamedTuple, Optional, Sequence, Tuple, Type, Union
 
-from .. import UNEQUAL, Answer
+from .. import UNEQUAL, Answer, CompareAndSwap, Op, Read, Swap, Write
 from .core import answer_text
-from .node import Node
 
+_OPS: Dict[str, Type[Op]] = {"read": Read, "write": Write, "swap": Swap, "cas": CompareAndSwap}
+_NAMES = {op: name for name, op in _OPS.items()}
 _COUNTS = {"read": 0, "write": 1, "swap": 1, "cas": 2}  # how many values a call has
 _DEEPEST = 127  # so many brackets stand within one another at most, as in what the judge reads
 _INTEGER = f"integer from 0 to {2**64 - 1}"
 _WANTED = {"read": "null or nothing", "write": f"an {_INTEGER}", "swap": f"an {_INTEGER}", "cas": f"an array of two, each an {_INTEGER}"}
-
-
-class Call(NamedTuple):
-    """A call of a register."""
-
-    f: str  # read, write, swap or cas
-    key: str
-    values: Tuple[int, ...]  # of a cas the expected and the new one
 
 
 class End(NamedTuple):
@@ -33,32 +27,19 @@ class End(NamedTuple):
     error: str = ""  # why it wasn't answered
 
 
-def perform(node: Node, call: Call) -> Answer:
-    """Makes the call, and gives its answer."""
-    f, key, values = call
-    if f == "read":
-        return node.read(key)
-    if f == "cas":
-        return None if node.compare_and_swap(key, *values) else UNEQUAL
-    if f == "swap":
-        return node.swap(key, *values)
-    node.write(key, *values)
-    return None
-
-
 class Words:
     """Calls that are spelled as words."""
 
-    def call(self, text: str, names: Sequence[str]) -> Call:
+    def call(self, text: str, names: Sequence[str]) -> Op:
         """The call of one of these registers that a line is. `ValueError` says why it is none."""
-        words = text.split()
-        if not words or words[0] not in _COUNTS or len(words) != 2 + _COUNTS[words[0]]:
+        f, *words = text.split() or [""]
+        if f not in _OPS or len(words) != 1 + _COUNTS[f]:
             raise ValueError("no call")
-        if words[1] not in names:
+        if words[0] not in names:
             raise ValueError("no register")
-        return Call(words[0], words[1], tuple(map(int, words[2:])))
+        return _OPS[f](names.index(words[0]), *map(int, words[1:]))
 
-    def answer(self, call: Call, end: End) -> str:
+    def answer(self, op: Op, names: Sequence[str], end: End) -> str:
         """The line that tells how a call ended."""
         if end.type == "ok":
             return answer_text(end.answer)
@@ -72,19 +53,21 @@ class Words:
 class Objects:
     """Calls that are spelled as objects of JSON."""
 
-    def call(self, text: str, names: Sequence[str]) -> Call:
+    def call(self, text: str, names: Sequence[str]) -> Op:
         members = _object(text)
         f, key, value = [_member(members, it) for it in ("f", "key", "value")]
-        if not isinstance(f, str) or f not in _COUNTS:
+        if not isinstance(f, str) or f not in _OPS:
             raise ValueError("wanted f, one of read, write, swap and cas")
         if not isinstance(key, str) or key not in names:
             raise ValueError("wanted key, the name of a register")
-        return Call(f, key, _values(f, value))
+        return _OPS[f](names.index(key), *_values(f, value))
 
-    def answer(self, call: Call, end: End) -> str:
-        given = list(call.values) if call.f == "cas" else call.values[0] if call.values else None
+    def answer(self, op: Op, names: Sequence[str], end: End) -> str:
+        f, (register, *values) = _NAMES[type(op)], dataclasses.astuple(op)
+        given = values if f == "cas" else values[0] if values else None
         kind, error = ("fail", "unequal") if end.answer is UNEQUAL else (end.type, end.error)
-        told = {"type": kind, "f": call.f, "key": call.key, "value": end.answer if isinstance(end.answer, int) else given}
+        value = end.answer if isinstance(end.answer, int) else given
+        told = {"type": kind, "f": f, "key": names[register], "value": value}
         return json.dumps({**told, "error": error} if error else told)
 
     def refusal(self, why: str) -> str:

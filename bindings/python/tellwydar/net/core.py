@@ -31,9 +31,15 @@ class NodeFailed(Exception):
 
 
 def front_of(name: str) -> Front:
+    """The front end of this name."""
     if name not in FRONTS:
         raise ValueError(f"{name!r} is no front end: {', '.join(FRONTS)}")
     return Front(FRONTS.index(name))
+
+
+def name_of(front: int) -> str:
+    """The name of the front end of this number."""
+    return FRONTS[front] if front < len(FRONTS) else "unknown"
 
 
 def answer_text(answer: Answer) -> str:

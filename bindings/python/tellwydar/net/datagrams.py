@@ -4,19 +4,15 @@ behind a lost one, as it does with TCP.
 With keys each datagram is a NaCl box, made with the same keys as ZeroMQ's CURVE: so it is read by its receiver alone, and comes from the process
 whose key opens it. A datagram that is recorded and sent again is a repeated message, which changes nothing.
 """
-import os
 import select
 import socket
-from typing import Any, Dict, List, Optional, Sequence, Tuple
+from typing import Any, Dict, Optional, Sequence, Tuple, Union
 
-from .road import BATCH, Complaints, Keys, RoadFault, check_addresses, check_keys, of_z85
+from .road import BATCH, Arrived, Bell, Complaints, Keys, LossyRoad, Road, RoadFault, check_keys, of_z85
 
 MOST_BYTES = 1200  # of a message, so that a datagram fits into one packet of most networks
 _MOST_READ = 2048
 FEW = 16  # datagrams of strangers that are opened at once
-
-# (type checkers know it not whole)
-_os: Any = os
 
 
 def _place_of(address: str) -> Tuple[str, int]:
@@ -30,8 +26,8 @@ def _share(bound: socket.socket, other: socket.socket) -> None:
         one.setsockopt(socket.SOL_SOCKET, socket.SO_REUSEADDR, 1)
 
 
-class DatagramRoad:
-    """Once a node serves, its receiver alone calls all but `wake`.
+class DatagramRoad(Bell):
+    """The road of UDP.
 
     Each peer has a socket of its own, to which the system brings what comes from the peer's address. All else comes to the socket for strangers,
     of which few datagrams are opened before the peers are heard again: a flood from elsewhere takes no peer's room, and little of its time."""
@@ -39,11 +35,10 @@ class DatagramRoad:
     most_bytes = MOST_BYTES
 
     def __init__(self, me: int, addresses: Sequence[str], keys: Optional[Keys], complain: Complaints):
-        self.me, self.complain, self.dropped = me, complain, 0
-        check_addresses(addresses, keys)
+        self.me = me
+        check_keys(me, addresses, keys)
         self.boxes: Optional[Dict[int, Any]] = None
         if keys is not None:
-            check_keys(me, len(addresses), keys)
             from nacl.public import Box, PrivateKey, PublicKey
 
             secret = PrivateKey(of_z85(keys.secret))
@@ -61,12 +56,10 @@ class DatagramRoad:
         except OSError as why:
             self._shut()
             raise RoadFault(f"{addresses[me]}: {why}") from None
-        self.bell = _os.eventfd(0, _os.EFD_NONBLOCK | _os.EFD_CLOEXEC)
-        self.poller = select.poll()
-        for one in [*self.peers.values(), self.strangers]:
+        sockets = [*self.peers.values(), self.strangers]
+        for one in sockets:
             one.setblocking(False)
-            self.poller.register(one.fileno(), select.POLLIN)
-        self.poller.register(self.bell, select.POLLIN)
+        super().__init__(complain, select.poll(), [it.fileno() for it in sockets])
 
     def send(self, to: int, message: bytes) -> None:
         if self.boxes is not None:
@@ -76,19 +69,8 @@ class DatagramRoad:
         except OSError:  # no room, or nobody there: a tick puts it again
             self.dropped += 1
 
-    def pump(self, now: float) -> Optional[float]:
-        """Sends what is due, and tells when something is due next."""
-        return None
-
-    def wake(self) -> None:
-        _os.eventfd_write(self.bell, 1)
-
-    def receive(self, timeout: Optional[float]) -> List[Tuple[Optional[int], bytes]]:
-        """Some messages, each with the process whose key opens it (None without keys)."""
-        ready = {it for it, _ in self.poller.poll(None if timeout is None else max(0, int(timeout * 1000 + 0.999)))}
-        if self.bell in ready:
-            _os.eventfd_read(self.bell)
-        found: List[Tuple[Optional[int], bytes]] = []
+    def receive(self, timeout: Optional[float]) -> Arrived:
+        ready, found = self.ready(timeout), []  # type: Dict[Any, int], Arrived
         for peer in self.peers.values():
             if peer.fileno() in ready:
                 self._take(peer, BATCH, found)
@@ -96,7 +78,7 @@ class DatagramRoad:
             self._take(self.strangers, FEW, found)
         return found
 
-    def _take(self, source: socket.socket, most: int, found: List[Tuple[Optional[int], bytes]]) -> None:
+    def _take(self, source: socket.socket, most: int, found: Arrived) -> None:
         """Opens some of what has come to a socket."""
         for _ in range(most):
             try:
@@ -126,8 +108,11 @@ class DatagramRoad:
 
     def close(self) -> None:
         self._shut()
-        os.close(self.bell)
+        super().close()
 
     def _shut(self) -> None:
         for one in [*self.peers.values(), self.strangers]:
             one.close()
+
+
+AnyRoad = Union[Road, DatagramRoad, LossyRoad]

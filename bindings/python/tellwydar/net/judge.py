@@ -5,19 +5,14 @@ The library finds an order of the steps of all logs that is a run (`tellwydar.me
 """
 from typing import Callable, List, NamedTuple, Sequence
 
-from .. import LogsFault, LogsRefused, first_entries, merge_logs, verify
-from .logfile import HEAD_LINES, Head, LogFault, open_log, say_cut
-
-_OF_ALL = (0, 2, 3, 4, 5)  # of the words of a head, those that all logs of a chapter have: cluster, chapter, shape
-_PROCESS = 1
+from .. import LogHead, LogsFault, LogsRefused, first_entries, merge_logs, verify
+from .logfile import HEAD_LINES, LogFault, differs, head_of, open_log, say_cut
 
 
 class Log(NamedTuple):
     path: str
     text: bytes
-
-    def word(self, at: int) -> str:
-        return Head.of(self.path, self.text).words()[at]
+    head: LogHead
 
 
 def read(path: str, say: Callable[[str], None]) -> Log:
@@ -26,7 +21,7 @@ def read(path: str, say: Callable[[str], None]) -> Log:
         text = file.read()
     with open_log(path, text, True) as node:
         say_cut(path, text, node, say)
-    return Log(path, text)
+    return Log(path, text, head_of(path, text))
 
 
 def _why(logs: Sequence[Log], refused: LogsRefused) -> str:
@@ -35,12 +30,11 @@ def _why(logs: Sequence[Log], refused: LogsRefused) -> str:
         return f"no log of process {refused.place}"
     if refused.why in (LogsFault.NO_LOG, LogsFault.TOO_MANY, LogsFault.OUT_OF_MEMORY):
         return refused.told
-    log = logs[refused.log]
-    if refused.why is LogsFault.OTHER:
-        at = _OF_ALL[refused.place]
-        return f"{log.path} is of {log.word(at)}, and {logs[0].path} of {logs[0].word(at)}"
+    log, first = logs[refused.log], logs[0]
+    if refused.why is LogsFault.OTHER and (both := differs(log.head._replace(process=first.head.process), first.head)):
+        return f"{log.path} is of {both[0]}, and {first.path} of {both[1]}"
     if refused.why is LogsFault.TWICE:
-        return f"{log.path} and {logs[refused.place].path} are both of {log.word(_PROCESS)}"
+        return f"{log.path} and {logs[refused.place].path} are both of process {log.head.process}"
     if refused.why is LogsFault.UNFAITHFUL:
         return f"{log.path}: line {HEAD_LINES + refused.place + 1}: {refused.told}"
     return f"{log.path}: {refused.told}"

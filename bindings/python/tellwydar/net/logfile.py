@@ -5,10 +5,10 @@ A log is the text of docs/FORMATS.md, "Log". The library begins it, spells each 
 """
 import fcntl
 import os
-from typing import Callable, NamedTuple, Optional, Tuple
+from typing import Callable, Optional, Tuple
 
-from .. import Front, Node, Refused
-from .core import FRONTS
+from .. import LogHead, Node, Refused
+from .core import name_of
 
 HEAD_LINES = 9  # an entry stands on a line behind them
 _WHY = {
@@ -21,43 +21,20 @@ class LogFault(Exception):
     """Why a file is no log that can be used."""
 
 
-class Head(NamedTuple):
-    """Whose log it is, and what its cluster is like."""
+def head_of(path: str, text: bytes) -> LogHead:
+    """What the head of this log says."""
+    head = Node.head(text)
+    if head is None:
+        raise LogFault(f"{path}: no head of a log")
+    return head
 
-    cluster: int
-    front: Front
-    registers: Tuple[str, ...]  # the names
-    processes: int
-    me: int
-    chapter: int
-    begun: int  # drawn anew for each log
 
-    @classmethod
-    def of(cls, path: str, text: bytes) -> "Head":
-        """What the head of this log says."""
-        head = Node.head(text)
-        if head is None:
-            raise LogFault(f"{path}: no head of a log")
-        return cls(head.cluster, head.front, head.names, head.processes, head.process, head.chapter, head.begun)
-
-    def words(self) -> Tuple[str, ...]:
-        """What it says, but for what was drawn, in the words and the order of its lines."""
-        front, names = FRONTS[self.front], " ".join(self.registers)
-        return (f"cluster {self.cluster}", f"process {self.me}", f"chapter {self.chapter}", f"front {front}",
-                f"processes {self.processes}", f"registers {names}")
-
-    def differs(self, other: "Head") -> Optional[Tuple[str, str]]:
-        """The first of what they say that differs, but for what was drawn."""
-        return next((both for both in zip(self.words(), other.words()) if both[0] != both[1]), None)
-
-    def text(self) -> bytes:
-        """The log of a process that did nothing yet."""
-        return Node.begin(cluster=self.cluster, process=self.me, front=self.front, processes=self.processes,
-                          names=self.registers, begun=self.begun, chapter=self.chapter)
-
-    def never_began(self, text: bytes) -> bool:
-        """Whether this is what a crash can leave of such a log before its head is whole."""
-        return Node.is_headless(text, cluster=self.cluster, process=self.me, chapter=self.chapter)
+def differs(found: LogHead, wanted: LogHead) -> Optional[Tuple[str, str]]:
+    """The first of what two heads say that differs, but for what was drawn, in the words of their lines."""
+    one, other = [(f"cluster {it.cluster}", f"process {it.process}", f"chapter {it.chapter}",
+                   f"front {name_of(it.front)}", f"processes {it.processes}", f"registers {' '.join(it.names)}")
+                  for it in (found, wanted)]
+    return next((both for both in zip(one, other) if both[0] != both[1]), None)
 
 
 def open_log(path: str, text: bytes, is_over: bool) -> Node:

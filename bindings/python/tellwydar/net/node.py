@@ -9,22 +9,20 @@ chapter and begins the next one (`chapters`): callers wait meanwhile.
 """
 import threading
 import time
-from types import TracebackType
 from typing import Callable, Dict, List, Optional, Sequence, Tuple, Type, Union
 
-from .. import Answer, CompareAndSwap, Op, Read, Refused, Reply, Swap, Write
+from .. import Answer, CompareAndSwap, LogHead, Op, Read, Refused, Reply, Swap, Write
+from .. import Node as ProvedNode
+from ..messages import START, Met
 from . import core
 from .core import Busy, Closed, NodeFailed, Paused, TimedOut
-from .datagrams import DatagramRoad
-from .logfile import Head
-from .messages import FRAMES, GREETING, LATE
-from .peers import Peers
-from .road import Complaints, Keys, LossyRoad, Road
+from .datagrams import AnyRoad, DatagramRoad
+from .peers import FRAMES, GREETING, Peers
+from .road import Arrived, Complaints, Keys, LossyRoad, Road
 from .room import room_of
 from .status import Status, status_of
 from .story import Story
 
-AnyRoad = Union[Road, DatagramRoad]
 _HOLD = 0.002  # seconds for which counts are held
 _MOMENT = 0.1  # seconds that a caller gives the disk at least, where nothing else is between it and its answer
 
@@ -51,23 +49,24 @@ class Node:
                  lossy: Optional[Callable[[AnyRoad], LossyRoad]] = None, say: Callable[[str], None] = core.say):
         if type(cluster) is not int or not 0 < cluster < 2**63:
             raise ValueError(f"{cluster!r} is no number of a cluster: 1 to 2^63 - 1")
-        head = Head(cluster, core.front_of(front), tuple(registers), len(peers), me, 0, 0)
-        head.text()  # (what no log can be of is refused before there is any)
+        head = LogHead(cluster, me, core.front_of(front), len(peers), tuple(registers), begun=0, chapter=0)
+        ProvedNode.begin(**head._asdict())  # (what no log can be of is refused before there is any)
         room = room_of(len(peers), len(registers), chapter_operations, chapter_entries)
-        self.registers = head.registers
+        self.registers = head.names
         self._names = {name: r for r, name in enumerate(registers)}
-        self._me, self._sync, self._look_every = me, sync, look
+        self._me, self.sync, self._look_every = me, sync, look
         self._say, self._complain = say, Complaints(say)
         self._answer: Optional[Reply] = None
         self._is_awaited = False  # the caller of the operation that goes on is still there
-        kind: Union[Type[Road], Type[DatagramRoad]] = DatagramRoad if peers[me].startswith("udp://") else Road
-        road = kind(me, peers, keys, self._complain)  # before the log: where it is refused no log is begun
+        of = me, peers, keys, self._complain
+        # (before the log: where it is refused no log is begun)
+        road: AnyRoad = DatagramRoad(*of) if peers[me].startswith("udp://") else Road(*of)
         try:
             self._story = Story(head, log_path, room, resume, say)
         except BaseException:
             road.close()
             raise
-        self._road: Union[Road, DatagramRoad, LossyRoad] = road if lossy is None else lossy(road)
+        self._road = road if lossy is None else lossy(road)
         self._lock = threading.Lock()
         self._answered = threading.Condition(self._lock)
         self._failed, self._closed, self._is_opening = "", False, True
@@ -89,8 +88,8 @@ class Node:
         with self._lock:
             if self._failed or not story.lines and not (must and self._held_till):
                 return
-            is_held = self._sync and not must and not story.is_urgent()
-            lines, force, logged = story.made(self._sync and not is_held)
+            is_held = self.sync and not must and not story.is_urgent()
+            lines, force, logged = story.made(self.sync and not is_held)
         story.write(lines, force)
         with self._lock:
             if is_held:
@@ -104,11 +103,12 @@ class Node:
         begins. Nobody calls meanwhile."""
         story = self._story
         with self._lock:
-            if story.lines or self._failed:
+            if self._failed or story.lines or not story.node.is_ending:
                 return
-            is_quiet, is_over = story.is_quiet(), story.is_over()
+            story.tell_state()
+            is_quiet, is_over, called = story.node.is_quiet(story.running), story.node.is_over, story.called()
         if is_quiet:
-            story.say_quiet()
+            story.say_quiet(called)
         following = story.begin_next() if is_over else None
         with self._lock:
             if is_look:
@@ -124,7 +124,7 @@ class Node:
         story = self._story
         while True:
             with self._lock:
-                due = story.next_opening()
+                due = story.node.next_opening
                 if due is None or story.running or not story.node.has_heard_all:
                     if not story.is_opening():
                         self._is_opening = False
@@ -142,7 +142,7 @@ class Node:
         for output in story.outputs(logged):
             for to, frame in output.frames:
                 out.setdefault(to, []).append(frame)
-            if output.reply is not None and story.calls() > 0:
+            if output.reply is not None and story.own_calls > 0:
                 self._answer = output.reply
         for to, frames in out.items():
             self._send(to, frames)
@@ -181,7 +181,9 @@ class Node:
             raise Refused("no register")
         return register
 
-    def _call(self, op: Op, timeout: Optional[float]) -> Answer:
+    def perform(self, op: Op, timeout: Optional[float] = None) -> Answer:
+        """Makes a call, and gives its answer: None where it is done, `UNEQUAL`, or a value. `TimedOut` says that the
+        operation goes on, and `Paused` that it wasn't made."""
         for value in (getattr(op, "value", 0), getattr(op, "expected", 0)):
             if type(value) is not int or not 0 <= value < 2**64:
                 raise ValueError(f"{value!r} is no number of 64 bits")
@@ -198,11 +200,12 @@ class Node:
         ahead of the others."""
         self._up()
         story = self._story
-        if story.is_opening() or story.ending and not story.running and self._answer is None:
+        is_idle = not story.running and self._answer is None
+        if story.is_opening() or story.node.is_ending and is_idle:
             return False
-        if story.running or self._answer is not None:
+        if not is_idle:
             raise Busy()
-        self._is_held_back = not isinstance(op, Read) and story.is_far_ahead()
+        self._is_held_back = not isinstance(op, Read) and story.node.is_far_ahead
         if self._is_held_back:
             return False
         try:
@@ -239,21 +242,21 @@ class Node:
         return answer.value
 
     def read(self, register: Union[str, int], timeout: Optional[float] = None) -> int:
-        value = self._call(Read(self._register(register)), timeout)
+        value = self.perform(Read(self._register(register)), timeout)
         assert isinstance(value, int)
         return value
 
     def write(self, register: Union[str, int], value: int, timeout: Optional[float] = None) -> None:
-        self._call(Write(self._register(register), value), timeout)
+        self.perform(Write(self._register(register), value), timeout)
 
     def swap(self, register: Union[str, int], value: int, timeout: Optional[float] = None) -> int:
-        old = self._call(Swap(self._register(register), value), timeout)
+        old = self.perform(Swap(self._register(register), value), timeout)
         assert isinstance(old, int)
         return old
 
     def compare_and_swap(self, register: Union[str, int], expected: int, value: int, timeout: Optional[float] = None) -> bool:
         """Writes the value where the expected one is there, and tells whether it was."""
-        return self._call(CompareAndSwap(self._register(register), expected, value), timeout) is None
+        return self.perform(CompareAndSwap(self._register(register), expected, value), timeout) is None
 
     def wait(self, timeout: Optional[float] = None) -> Answer:
         """The answer of the operation whose caller's time was up: None where it is done, `UNEQUAL`, or a value. `Busy` says that a caller still
@@ -269,8 +272,8 @@ class Node:
     def so_far(self) -> Tuple[int, bool]:
         """How many operations were called, in earlier runs too, and whether one of them goes on or has an answer to be fetched."""
         with self._lock:
-            called = self._story.calls()
-            return self._story.called_before + called, self._story.running and called > 0 or self._answer is not None
+            is_own = self._story.running and self._story.own_calls > 0
+            return self._story.called(), is_own or self._answer is not None
 
     def status(self) -> Status:
         """How far this node has come, and what it knows of the others."""
@@ -299,13 +302,13 @@ class Node:
     def __enter__(self) -> "Node":
         return self
 
-    def __exit__(self, kind: Optional[Type[BaseException]], why: Optional[BaseException], trace: Optional[TracebackType]) -> None:
+    def __exit__(self, *_: object) -> None:
         self.close()
 
     # --- the receiver's side
 
     def _serve(self) -> None:
-        look_at, messages = time.monotonic() + self._look_every, []  # type: float, List[Tuple[Optional[int], bytes]]
+        look_at, messages = time.monotonic() + self._look_every, []  # type: float, Arrived
         try:
             while True:
                 now = time.monotonic()
@@ -320,12 +323,11 @@ class Node:
                         must |= self._look()
                         look_at = now + self._look_every
                 self._commit(must)
-                if self._story.ending:
-                    self._end_chapter(is_look)
+                self._end_chapter(is_look)
                 if self._is_opening:
                     self._write_opening()
                 with self._lock:
-                    if self._is_held_back and not self._story.is_far_ahead():
+                    if self._is_held_back and not self._story.node.is_far_ahead:
                         self._answered.notify_all()
                     ends = [self._held_till, self._road.pump(now), None if self._is_at_rest() else look_at]
                 messages = self._receive(min((it for it in ends if it is not None), default=None))
@@ -336,7 +338,7 @@ class Node:
             with self._lock:
                 self._fail(str(why) or repr(why))
 
-    def _receive(self, until: Optional[float]) -> List[Tuple[Optional[int], bytes]]:
+    def _receive(self, until: Optional[float]) -> Arrived:
         try:
             return self._road.receive(None if until is None else max(0.0, until - time.monotonic()))
         except Exception as why:
@@ -344,34 +346,34 @@ class Node:
 
     def _is_at_rest(self) -> bool:
         """Whether nothing is to be done until somebody else does something."""
-        story = self._story
-        is_busy = story.ending or not story.node.has_heard_all or story.is_opening()
-        return not is_busy and story.node.pending == 0
+        node = self._story.node
+        is_busy = node.is_ending or not node.has_heard_all or self._story.is_opening()
+        return not is_busy and node.pending == 0
 
     def _look(self) -> bool:
         """Looks at the links, and tells whether all entries are to be durable then."""
         tick = self._peers.look()
         if tick:
             self._story.step(self._story.node.tick)
-        return tick or self._story.ending
+        return tick or self._story.node.is_ending
 
-    def _heard(self, key: Optional[int], data: bytes, now: float) -> None:
-        message = self._peers.post.opened(key, data)
-        if message is None:
+    def _heard(self, key: Optional[int], message: bytes, now: float) -> None:
+        it = self._peers.post.met(key, message)
+        if it is None:
             return
-        sender, brings, rest = message
-        if brings != LATE:
-            self._peers.came(sender, now)
+        if it.met is Met.LATE:
+            self._peers.tell_last(it.sender)
+            return
+        self._peers.came(it.sender, now)
+        brings, rest = message[START : START + 1], message[START + 1 :]
         if brings == FRAMES:
-            self._take(sender, rest)
+            self._take(it.sender, rest)
         elif brings == GREETING:
-            self._peers.greeted(sender, rest)
+            self._peers.greeted(it.sender, rest)
             if self._story.node.has_heard_all:
                 self._answered.notify_all()
-        elif brings == LATE:
-            self._peers.tell_last(sender)
         else:
-            self._peers.heard_state(sender, rest)
+            self._peers.heard_state(it.sender, rest)
 
     def _take(self, sender: int, frames: bytes) -> None:
         at = 0

@@ -11,10 +11,10 @@ import socket
 import socketserver
 import stat
 import threading
-from types import TracebackType
-from typing import Any, BinaryIO, Iterable, Iterator, Optional, Type
+from typing import Any, BinaryIO, Iterable, Iterator
 
-from .calls import WORDS, Call, End, form_of, perform
+from .. import Op
+from .calls import WORDS, End, form_of
 from .core import Busy, Closed, NodeFailed
 from .node import Node
 from .status import Status
@@ -32,7 +32,7 @@ def _words_of(why: Exception) -> str:
 class _Session(socketserver.StreamRequestHandler):
     """A program that calls the node."""
 
-    server: "_Server"
+    server: "Port"
 
     def handle(self) -> None:
         while line := self.rfile.readline(_LONGEST + 1):
@@ -53,20 +53,32 @@ class _Session(socketserver.StreamRequestHandler):
             return WORDS.refusal(_words_of(why))
 
     def _answer(self, text: str) -> str:
-        form = form_of(text)
+        form, names = form_of(text), self.server.node.registers
         try:
-            call = form.call(text, self.server.node.registers)
+            op = form.call(text, names)
         except ValueError as why:
             return form.refusal(str(why))
-        return form.answer(call, self.server.end_of(call))
+        return form.answer(op, names, self.server.end_of(op))
 
 
-class _Server(socketserver.ThreadingUnixStreamServer):
+def _remove_stale(path: str) -> None:
+    """Removes the socket of a node that is gone."""
+    if os.path.exists(path) and stat.S_ISSOCK(os.stat(path).st_mode):
+        with socket.socket(socket.AF_UNIX) as one:
+            try:
+                one.connect(path)
+            except ConnectionRefusedError:
+                os.unlink(path)
+
+
+class Port(socketserver.ThreadingUnixStreamServer):
+    """A port that is open until it is closed."""
+
     daemon_threads = True
     block_on_close = False
 
     def __init__(self, node: Node, path: str):
-        self.node, self._turn = node, threading.Lock()
+        self.node, self._path, self._turn = node, path, threading.Lock()
         self._goes_on = node.so_far()[1]  # an operation whose caller is gone, as where the node was resumed
         super().__init__(path, _Session, bind_and_activate=False)
         try:
@@ -74,18 +86,19 @@ class _Server(socketserver.ThreadingUnixStreamServer):
             self.server_bind()
             os.chmod(path, 0o600)  # nobody else calls: it listens only from here on
             self.server_activate()
-        except BaseException:
+        except OSError as why:
             self.server_close()
-            raise
+            raise OSError(f"{path}: {why.strerror or why}") from None
+        threading.Thread(target=self.serve_forever, args=(0.05,), name="tellwydar port", daemon=True).start()
 
-    def end_of(self, call: Call) -> End:
+    def end_of(self, op: Op) -> End:
         """Makes a call when those before it have ended. Where it isn't answered it surely did nothing if the node counts
         no operation more: one that it counts is in its log, perhaps on the disk, and goes on where the node is resumed."""
         with self._turn:
             called = self.node.so_far()[0]
             try:
                 self._end_earlier()
-                return End("ok", perform(self.node, call))
+                return End("ok", self.node.perform(op))
             except Exception as why:  # (what nobody thought of may come behind the call too)
                 is_called = self.node.so_far()[0] > called
                 self._goes_on |= is_called
@@ -101,40 +114,13 @@ class _Server(socketserver.ThreadingUnixStreamServer):
     def handle_error(self, request: Any, client_address: Any) -> None:
         """A program that is gone isn't there to be told."""
 
-
-def _remove_stale(path: str) -> None:
-    """Removes the socket of a node that is gone."""
-    if os.path.exists(path) and stat.S_ISSOCK(os.stat(path).st_mode):
-        with socket.socket(socket.AF_UNIX) as one:
-            try:
-                one.connect(path)
-            except ConnectionRefusedError:
-                os.unlink(path)
-
-
-class Port:
-    """A port that is open until it is closed."""
-
-    def __init__(self, node: Node, path: str):
-        try:
-            self._server = _Server(node, path)
-        except OSError as why:
-            raise OSError(f"{path}: {why.strerror or why}") from None
-        self._path = path
-        threading.Thread(target=self._server.serve_forever, args=(0.05,), name="tellwydar port", daemon=True).start()
-
-    def __enter__(self) -> "Port":
-        return self
-
-    def __exit__(
-        self, kind: Optional[Type[BaseException]], why: Optional[BaseException], trace: Optional[TracebackType]
-    ) -> None:
+    def __exit__(self, *_: object) -> None:
         self.close()
 
     def close(self) -> None:
         """Ends it. A call that goes on goes on."""
-        self._server.shutdown()
-        self._server.server_close()
+        self.shutdown()
+        self.server_close()
         with contextlib.suppress(FileNotFoundError):
             os.unlink(self._path)
 
@@ -144,16 +130,13 @@ def answers(path: str, lines: Iterable[bytes]) -> Iterator[bytes]:
     with socket.socket(socket.AF_UNIX) as one:
         one.connect(path)
         file: BinaryIO = one.makefile("rb")
-        for line in map(bytes.strip, lines):
-            if not line:
-                continue
+        for line in filter(None, map(bytes.strip, lines)):
             one.sendall(line + b"\n")
-            answer = file.readline()
-            while line == b"metrics" and answer and not answer.endswith(b"# EOF\n"):
-                more = file.readline()
-                answer += more
-                if not more:
-                    break
-            if not answer.endswith(b"\n"):
-                raise OSError(f"{path}: the node ended")
-            yield answer
+            told, is_last = b"", False
+            while not is_last:
+                part = file.readline()
+                if not part.endswith(b"\n"):
+                    raise OSError("the node ended")
+                told += part
+                is_last = line != b"metrics" or part == b"# EOF\n" or part.startswith(b"refused: ")
+            yield told

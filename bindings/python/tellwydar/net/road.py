@@ -8,6 +8,7 @@ import heapq
 import ipaddress
 import os
 import random
+import select
 import time
 from typing import Any, Callable, Dict, List, NamedTuple, Optional, Sequence, Tuple
 
@@ -17,7 +18,6 @@ from zmq.utils import z85
 MOST_BYTES = 4096  # of a message
 MOST_QUEUED = 1000  # messages to or from one peer
 BATCH = 64  # messages taken at once
-
 
 # (type checkers know neither of them whole)
 _os: Any = os
@@ -64,16 +64,15 @@ def is_loopback(address: str) -> bool:
         return False  # a name, or a star
 
 
-def check_addresses(addresses: Sequence[str], keys: Optional[Keys]) -> None:
-    """Without keys only loopback addresses are taken."""
-    for address in addresses:
-        if keys is None and not is_loopback(address):
-            raise RoadFault(f"{address} is no loopback address: between machines give keys")
-
-
-def check_keys(me: int, count: int, keys: Keys) -> None:
-    """Each process has a key of its own, and this one the secret to its own."""
-    if len(keys.known) != count or len(set(keys.known)) != count:
+def check_keys(me: int, addresses: Sequence[str], keys: Optional[Keys]) -> None:
+    """Each process has a key of its own, and this one the secret to its own. Without keys only loopback addresses are
+    taken."""
+    if keys is None:
+        for address in addresses:
+            if not is_loopback(address):
+                raise RoadFault(f"{address} is no loopback address: between machines give keys")
+        return
+    if len(keys.known) != len(addresses) or len(set(keys.known)) != len(addresses):
         raise RoadFault("each process needs a key of its own")
     if zmq.curve_public(keys.secret) != keys.known[me]:
         raise RoadFault(f"the secret key isn't that of process {me}")
@@ -92,17 +91,46 @@ class Complaints:
             self.say(text if count == 1 else f"{text} ({count} of this kind)")
 
 
-class Road:
-    """Once a node serves, its receiver alone calls all but `wake`: no socket is in two threads at a time."""
+Arrived = List[Tuple[Optional[int], bytes]]  # messages, each with the process that its key names
+
+
+class Bell:
+    """What wakes a road, and what it hears. Once a node serves, its receiver alone calls all but `wake`: no socket is
+    in two threads at a time."""
+
+    def __init__(self, complain: Complaints, poller: Any, heard: Sequence[Any]):
+        self.complain, self.poller, self.dropped = complain, poller, 0
+        self.bell: int = _os.eventfd(0, _os.EFD_NONBLOCK | _os.EFD_CLOEXEC)
+        for one in [*heard, self.bell]:
+            poller.register(one, select.POLLIN)
+
+    def wake(self) -> None:
+        _os.eventfd_write(self.bell, 1)
+
+    def ready(self, timeout: Optional[float]) -> Dict[Any, int]:
+        """What is heard within this time, if it isn't woken before."""
+        ready = dict(self.poller.poll(None if timeout is None else max(0, int(timeout * 1000 + 0.999))))
+        if self.bell in ready:
+            _os.eventfd_read(self.bell)
+        return ready
+
+    def pump(self, now: float) -> Optional[float]:
+        """Sends what is due, and tells when something is due next."""
+        return None
+
+    def close(self) -> None:
+        os.close(self.bell)
+
+
+class Road(Bell):
+    """The road of ZeroMQ."""
 
     most_bytes = MOST_BYTES
 
     def __init__(self, me: int, addresses: Sequence[str], keys: Optional[Keys], complain: Complaints):
-        self.complain = complain
         self.by_key: Optional[Dict[bytes, bytes]] = None
-        check_addresses(addresses, keys)
+        check_keys(me, addresses, keys)
         if keys is not None:
-            check_keys(me, len(addresses), keys)
             self.by_key = {of_z85(key): b"%d" % p for p, key in enumerate(keys.known) if p != me}
         self.context = zmq.Context()
         try:
@@ -110,37 +138,34 @@ class Road:
         except BaseException:
             self.context.destroy(0)
             raise
-        self.bell = _os.eventfd(0, _os.EFD_NONBLOCK | _os.EFD_CLOEXEC)
-        self.poller = zmq.Poller()
-        for what in (self.pull, self.door, self.bell):
-            self.poller.register(what, zmq.POLLIN)
-        self.dropped = 0
+        super().__init__(complain, zmq.Poller(), [self.pull, self.door])
+
+    def _socket(self, kind: int, is_ipv6: bool) -> Any:
+        """A socket within its limits."""
+        socket = self.context.socket(kind)
+        socket.linger = 0
+        for option, value in (
+            (zmq.MAXMSGSIZE, MOST_BYTES), (zmq.SNDHWM, MOST_QUEUED), (zmq.RCVHWM, MOST_QUEUED), (zmq.IPV6, is_ipv6),
+            (zmq.HANDSHAKE_IVL, 5000), (zmq.HEARTBEAT_IVL, 2000), (zmq.HEARTBEAT_TIMEOUT, 6000),
+            (zmq.RECONNECT_IVL, 50), (zmq.RECONNECT_IVL_MAX, 2000),
+        ):
+            socket.set(option, value)
+        return socket
 
     def _open(self, me: int, addresses: Sequence[str], keys: Optional[Keys]) -> None:
+        is_ipv6 = any("[" in it for it in addresses)
         self.door = self.context.socket(zmq.REP)
         self.door.linger = 0
         self.door.bind("inproc://zeromq.zap.01")
-        self.pull = self.context.socket(zmq.PULL)
-        self.push: Dict[int, Any] = {}
-        for socket in [self.pull] + [self.push.setdefault(p, self.context.socket(zmq.PUSH)) for p in range(len(addresses)) if p != me]:
-            socket.linger = 0
-            socket.set(zmq.MAXMSGSIZE, MOST_BYTES)
-            socket.set(zmq.SNDHWM, MOST_QUEUED)
-            socket.set(zmq.RCVHWM, MOST_QUEUED)
-            socket.set(zmq.HANDSHAKE_IVL, 5000)
-            socket.set(zmq.HEARTBEAT_IVL, 2000)
-            socket.set(zmq.HEARTBEAT_TIMEOUT, 6000)
-            socket.set(zmq.RECONNECT_IVL, 50)
-            socket.set(zmq.RECONNECT_IVL_MAX, 2000)
-            socket.set(zmq.IPV6, any("[" in a for a in addresses))
+        self.pull = self._socket(zmq.PULL, is_ipv6)
         self.pull.set(zmq.ZAP_DOMAIN, b"tellwydar")
         if keys is not None:
-            self.pull.curve_server = True
-            self.pull.curve_secretkey = keys.secret
+            self.pull.curve_server, self.pull.curve_secretkey = True, keys.secret
         try:
             self.pull.bind(addresses[me])
         except zmq.ZMQError as why:
             raise RoadFault(f"{addresses[me]}: {why}") from None
+        self.push = {p: self._socket(zmq.PUSH, is_ipv6) for p in range(len(addresses)) if p != me}
         for p, socket in self.push.items():
             socket.set(zmq.IMMEDIATE, 1)  # nothing is kept for a peer that isn't there
             if keys is not None:
@@ -153,21 +178,11 @@ class Road:
         except zmq.Again:
             self.dropped += 1
 
-    def pump(self, now: float) -> Optional[float]:
-        """Sends what is due, and tells when something is due next."""
-        return None
-
-    def wake(self) -> None:
-        _os.eventfd_write(self.bell, 1)
-
-    def receive(self, timeout: Optional[float]) -> List[Tuple[Optional[int], bytes]]:
-        """Some messages, each with the process that its key names (None without keys)."""
-        ready = dict(self.poller.poll(None if timeout is None else max(0, int(timeout * 1000 + 0.999))))
-        if self.bell in ready:
-            _os.eventfd_read(self.bell)
+    def receive(self, timeout: Optional[float]) -> Arrived:
+        ready = self.ready(timeout)
         if self.door in ready:
             self._answer()
-        out: List[Tuple[Optional[int], bytes]] = []
+        out: Arrived = []
         if self.pull in ready:
             try:
                 while len(out) < BATCH:
@@ -199,7 +214,7 @@ class Road:
         for socket in [self.pull, self.door, *self.push.values()]:
             socket.close(0)
         self.context.term()
-        os.close(self.bell)
+        super().close()
 
 
 class LossyRoad:

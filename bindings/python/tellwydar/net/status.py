@@ -2,6 +2,7 @@
 import json
 from typing import Dict, List, NamedTuple, Optional, Tuple
 
+from .core import name_of
 from .story import Story
 
 
@@ -56,12 +57,11 @@ class Status(NamedTuple):
 
 def status_of(story: Story, came_at: Dict[int, Optional[float]], now: float) -> Status:
     """The status at this time, by time.monotonic(), as are the times at which something came last."""
-    node, peers = story.node, []
+    node, head, peers = story.node, story.head, []
     for process, at in came_at.items():
         known = node.known(process)
         silent = None if at is None else round(now - at, 3)
         waiting = known.next - known.first
         peers.append(Peer(process, node.has_heard(process), silent, waiting, node.is_long_silent(process)))
-    head, called = story.head, story.called_before + story.calls()
-    front = head.front.name.lower().replace("_", "-")
-    return Status(head.me, front, head.chapter, called, node.logged, story.running, peers)
+    front = name_of(head.front)
+    return Status(head.process, front, head.chapter, story.called(), node.logged, story.running, peers)

@@ -2,8 +2,15 @@
 //!
 //! A line is either words, as `write x 5`, or an object in the words of a history (docs/JUDGE.md of the repository), so
 //! that what went over a port can be judged: `{"f": "write", "key": "x", "value": 5}`.
-use crate::json::{self, Members, Value};
+use serde::Deserializer;
+use serde::de::{MapAccess, Visitor};
+use serde_json::from_str;
+use serde_json::value::RawValue;
+use std::fmt;
 use tellwydar::{Answer, Op, Word};
+
+/// So many brackets stand within one another at most, as in what the judge reads.
+const DEEPEST: usize = 127;
 
 /// How a call is spelled, and so the answer to it.
 #[derive(Clone, Copy, Debug, PartialEq, Eq)]
@@ -82,41 +89,94 @@ fn of_words(line: &str, names: &[String]) -> Option<Op> {
 }
 
 fn of_object(line: &str, names: &[String]) -> Result<Op, String> {
-    let members = json::object(line).ok_or("wanted a JSON object")?;
-    let (f, key, value) = (member(&members, "f")?, member(&members, "key")?, member(&members, "value")?);
-    let (f, wanted) = f.as_text().and_then(wanted_of).ok_or("wanted f, one of read, write, swap and cas")?;
-    let register = key.as_text().and_then(|it| register_of(it, names));
-    let register = register.ok_or("wanted key, the name of a register")?;
-    op_of(f, register, value).ok_or_else(|| format!("wanted value, {wanted}"))
+    let members = Members::of(line).ok_or("wanted a JSON object")?;
+    let [f, key, value] = [members.one("f")?, members.one("key")?, members.one("value")?];
+    let f = text(f).unwrap_or_default();
+    let wanted = wanted_of(&f).ok_or("wanted f, one of read, write, swap and cas")?;
+    let register = text(key).and_then(|it| register_of(&it, names)).ok_or("wanted key, the name of a register")?;
+    op_of(&f, register, value).ok_or_else(|| format!("wanted value, {wanted}"))
 }
 
-/// The member of this name, or null. One that stands twice is refused, since readers of JSON take it in several ways.
-fn member<'a>(members: &'a Members, name: &str) -> Result<&'a Value, String> {
-    let mut found = members.iter().filter(|it| it.0 == name).map(|it| &it.1);
-    let first = found.next().unwrap_or(&Value::Null);
-    if found.next().is_some() { Err(format!("wanted one {name}")) } else { Ok(first) }
+/// The members of an object in their order: how the name and the value of each are spelled.
+struct Members<'a>(Vec<(&'a RawValue, &'a RawValue)>);
+
+impl<'a> Members<'a> {
+    /// The object that a line is.
+    fn of(line: &'a str) -> Option<Self> {
+        let mut reader = serde_json::Deserializer::from_str(line);
+        let members = reader.deserialize_map(Self(Vec::new())).ok()?;
+        (reader.end().is_ok() && depth(line) <= DEEPEST).then_some(members)
+    }
+
+    /// How those of this name are spelled.
+    fn all(&self, name: &str) -> impl Iterator<Item = &'a str> {
+        self.0.iter().filter(move |it| text(it.0.get()).is_some_and(|it| it == name)).map(|it| it.1.get())
+    }
+
+    /// How the member of this name is spelled, or null. One that stands twice is refused, since readers of JSON take it
+    /// in several ways.
+    fn one(&self, name: &str) -> Result<&'a str, String> {
+        let mut found = self.all(name);
+        let first = found.next().unwrap_or("null");
+        if found.next().is_some() { Err(format!("wanted one {name}")) } else { Ok(first) }
+    }
 }
 
-/// The name of an operation, and which value it has.
-fn wanted_of(f: &str) -> Option<(&str, &'static str)> {
-    let wanted = match f {
-        "read" => "null or nothing",
-        "write" | "swap" => "an integer from 0 to 18446744073709551615",
-        "cas" => "an array of two, each an integer from 0 to 18446744073709551615",
-        _ => return None,
-    };
-    Some((f, wanted))
+impl<'a> Visitor<'a> for Members<'a> {
+    type Value = Self;
+
+    fn expecting(&self, f: &mut fmt::Formatter<'_>) -> fmt::Result {
+        f.write_str("an object")
+    }
+
+    fn visit_map<M: MapAccess<'a>>(mut self, mut map: M) -> Result<Self, M::Error> {
+        while let Some(member) = map.next_entry()? {
+            self.0.push(member);
+        }
+        Ok(self)
+    }
 }
 
-fn op_of(f: &str, register: u16, value: &Value) -> Option<Op> {
-    Some(match (f, value) {
-        ("read", Value::Null) => Op::Read { register },
-        ("write", &Value::Number(value)) => Op::Write { register, value },
-        ("swap", &Value::Number(value)) => Op::Swap { register, value },
-        ("cas", Value::Array(values)) => match values[..] {
-            [Value::Number(expected), Value::Number(value)] => Op::CompareAndSwap { register, expected, value },
-            _ => return None,
-        },
+/// How many brackets of a value stand within one another.
+fn depth(line: &str) -> usize {
+    let (mut open, mut most, mut is_string, mut bytes) = (0usize, 0, false, line.bytes());
+    while let Some(it) = bytes.next() {
+        match it {
+            b'"' => is_string = !is_string,
+            b'\\' if is_string => drop(bytes.next()),
+            b'{' | b'[' if !is_string => open += 1,
+            b'}' | b']' if !is_string => open -= 1,
+            _ => {}
+        }
+        most = most.max(open);
+    }
+    most
+}
+
+/// The text that this spells, if it is one.
+fn text(spelled: &str) -> Option<String> {
+    from_str(spelled).ok()
+}
+
+/// Which value the operation of this name has.
+fn wanted_of(f: &str) -> Option<&'static str> {
+    match f {
+        "read" => Some("null or nothing"),
+        "write" | "swap" => Some("an integer from 0 to 18446744073709551615"),
+        "cas" => Some("an array of two, each an integer from 0 to 18446744073709551615"),
+        _ => None,
+    }
+}
+
+fn op_of(f: &str, register: u16, value: &str) -> Option<Op> {
+    Some(match f {
+        "read" if value == "null" => Op::Read { register },
+        "write" => Op::Write { register, value: from_str(value).ok()? },
+        "swap" => Op::Swap { register, value: from_str(value).ok()? },
+        "cas" => {
+            let [expected, value] = from_str(value).ok()?;
+            Op::CompareAndSwap { register, expected, value }
+        }
         _ => return None,
     })
 }
@@ -139,4 +199,132 @@ fn told(op: Op, names: &[String], end: &End) -> String {
     let name = &names[usize::from(register)];
     let error = error.map_or(String::new(), |it| format!(", \"error\": {}", Word::from(it)));
     format!("{{\"type\": \"{kind}\", \"f\": \"{f}\", \"key\": \"{name}\", \"value\": {value}{error}}}")
+}
+
+#[cfg(test)]
+mod tests {
+    use super::*;
+
+    /// Whether an object can have this value; it has no other member then.
+    fn is_value(value: &str) -> bool {
+        let line = format!("{{\"it\": {value}}}");
+        Members::of(&line).is_some_and(|it| it.0.len() == 1 && it.all("it").count() == 1)
+    }
+
+    fn write(value: &str) -> Result<Op, String> {
+        Form::Object.call(&format!("{{\"f\": \"write\", \"key\": \"x\", \"value\": {value}}}"), &["x".to_string()])
+    }
+
+    #[test]
+    fn values_are_read() {
+        for (text, number) in [("0", 0), ("18446744073709551615", u64::MAX)] {
+            assert_eq!(write(text), Ok(Op::Write { register: 0, value: number }), "{text}");
+        }
+        for text in [
+            "null",
+            "18446744073709551616",
+            "-0",
+            "1.0",
+            "-1.5e+400",
+            "false",
+            "{}",
+            "{\"a\": {\"b\" :[ ]} , \"a\":1}",
+            "\"\"",
+            "\"\\ud83d\\ude00\"",
+            "[1, [\"x\"]\t,null]",
+        ] {
+            assert!(is_value(text), "{text}");
+            assert_eq!(
+                write(text),
+                Err("wanted value, an integer from 0 to 18446744073709551615".to_string()),
+                "{text}"
+            );
+        }
+        assert_eq!(text("\"\\u0078\\n\\\"\\/ é\"").as_deref(), Some("x\n\"/ é"));
+    }
+
+    #[test]
+    fn what_is_none_is_refused() {
+        for text in [
+            "",
+            "NaN",
+            "-Infinity",
+            "True",
+            "nul",
+            "nulll",
+            "01",
+            "-",
+            "+1",
+            "1.",
+            ".5",
+            "1e",
+            "1e+",
+            "1.e5",
+            "0x1",
+            "1 2",
+            "1,",
+            "[",
+            "]",
+            "[1",
+            "[1,]",
+            "[,1]",
+            "[1 2]",
+            "{",
+            "{1: 2}",
+            "{\"a\"}",
+            "{\"a\": 1,}",
+            "{\"a\" 1}",
+            "{a: 1}",
+            "[1}",
+            "\"",
+            "'x'",
+            "\"\\\"",
+            "\"\\x\"",
+            "\"\\u12\"",
+            "\"\\u+041\"",
+            "\"\t\"",
+            "\u{a0}1",
+            "1 // one",
+        ] {
+            assert!(!is_value(text), "{text}");
+        }
+        for text in ["", "[]", "1", "{} {}", "{}x", "{", "\u{feff}{}"] {
+            assert!(Members::of(text).is_none(), "{text}");
+        }
+        assert!(Members::of(" \t{ } \r\n").is_some_and(|it| it.0.is_empty()));
+    }
+
+    #[test]
+    fn what_is_no_object_is_refused() {
+        for text in
+            ["", "[]", "1", "{} {}", "{}x", "{", "\u{feff}{}", "{1: 2}", "{\"a\": 01}", "{\"a\": 1,}", "{'a': 1}"]
+        {
+            assert!(Members::of(text).is_none(), "{text}");
+        }
+    }
+
+    #[test]
+    fn members_stay_as_often_as_they_stand() {
+        let members = Members::of(" {\"a\": 1, \"b\": [null], \"a\": 18446744073709551615}\r\n").expect("an object");
+        let of = |name| members.all(name).collect::<Vec<_>>();
+        assert_eq!(of("a"), ["1", "18446744073709551615"]);
+        assert_eq!((of("b"), members.one("a")), (vec!["[null]"], Err("wanted one a".to_string())));
+        assert!(of("c").is_empty());
+    }
+
+    #[test]
+    fn brackets_stand_within_one_another_up_to_the_depth_of_the_judge() {
+        let nested = |count| format!("{{\"it\": {}{}}}", "[".repeat(count), "]".repeat(count));
+        assert!(Members::of(&nested(126)).is_some());
+        assert!(Members::of(&nested(127)).is_none());
+    }
+
+    #[test]
+    fn brackets_stand_within_one_another_up_to_a_depth() {
+        let nested = |count| format!("{}{}", "[".repeat(count), "]".repeat(count));
+        assert!(is_value(&nested(126)) && !is_value(&nested(127)));
+        assert!(!is_value(&"[".repeat(4000)));
+        assert!(is_value(&format!("[{}[]]", "[],".repeat(500))));
+        assert!(is_value(&format!("[\"{}\\\"\"]", "[".repeat(500))));
+    }
 }

@@ -8,9 +8,10 @@
 //! Each peer has a socket of its own, to which the system brings what comes from the peer's address. All else comes to
 //! the socket for strangers, of which few datagrams are opened before the peers are heard again: a flood from elsewhere
 //! takes no peer's room, and little of its time.
-use crate::complaints::{Complaint, Kind};
+use crate::fault::Fault;
 use crate::keys::{Key, Keys};
-use crate::road::{Arrived, BATCH, Bell, Road, RoadFault, check_addresses, milliseconds};
+use crate::message::{Complaint, Kind};
+use crate::road::{Arrived, BATCH, Bell, Message, Road, poll};
 use libsodium_sys as sodium;
 use socket2::{Domain, SockRef, Socket, Type};
 use std::io;
@@ -31,11 +32,11 @@ const SEAL: usize = sodium::crypto_box_MACBYTES as usize;
 struct Shared([u8; sodium::crypto_box_BEFORENMBYTES as usize]);
 
 impl Shared {
-    fn of(secret: &Key, other: &Key) -> Result<Self, RoadFault> {
+    fn of(secret: &Key, other: &Key) -> Result<Self, Fault> {
         let mut shared = Self([0; _]);
         // SAFETY: the three arrays have the lengths that the library names: 32 bytes each.
         let code = unsafe { sodium::crypto_box_beforenm(shared.0.as_mut_ptr(), other.0.as_ptr(), secret.0.as_ptr()) };
-        if code == 0 { Ok(shared) } else { Err(RoadFault::new("a key that is no point of the curve")) }
+        if code == 0 { Ok(shared) } else { Err(Fault::Road("a key that is no point of the curve".to_string())) }
     }
 
     /// A nonce and the box of a message.
@@ -85,10 +86,10 @@ pub struct Datagrams {
     bell: Bell,
 }
 
-fn place_of(address: &str) -> Result<SocketAddr, RoadFault> {
+fn place_of(address: &str) -> Result<SocketAddr, Fault> {
     let place = address.strip_prefix("udp://").unwrap_or(address);
-    let found = place.to_socket_addrs().map_err(|why| RoadFault::new(format!("{address}: {why}")))?.next();
-    found.ok_or_else(|| RoadFault::new(format!("{address}: no such place")))
+    let found = place.to_socket_addrs().map_err(|why| Fault::Road(format!("{address}: {why}")))?.next();
+    found.ok_or_else(|| Fault::Road(format!("{address}: no such place")))
 }
 
 /// A socket for what comes to an address. Before it was bound, one that somebody else has was refused: from here on
@@ -115,18 +116,17 @@ impl Datagrams {
     ///
     /// # Errors
     ///
-    /// Without keys where an address isn't of loopback; and where the own one can't be listened to.
-    pub fn open(me: u8, addresses: &[String], keys: Option<Keys>, bell: Bell) -> Result<Self, RoadFault> {
-        check_addresses(addresses, keys.as_ref())?;
+    /// Where an address is none, or the own one can't be listened to.
+    pub fn open(me: u8, addresses: &[String], keys: Option<Keys>, bell: Bell) -> Result<Self, Fault> {
         // SAFETY: it may be called at any time, from any thread, as often as one likes.
         if unsafe { sodium::sodium_init() } < 0 {
-            return Err(RoadFault::new("libsodium has no random bytes"));
+            return Err(Fault::Road("libsodium has no random bytes".to_string()));
         }
         let shared = |keys: Keys| keys.known.iter().map(|it| Shared::of(&keys.secret, it)).collect();
         let shared = keys.map(shared).transpose()?;
         let to: Vec<SocketAddr> = addresses.iter().map(|it| place_of(it)).collect::<Result<_, _>>()?;
         let own = usize::from(me);
-        let failed = |why: io::Error| RoadFault::new(format!("{}: {why}", addresses[own]));
+        let failed = |why: io::Error| Fault::Road(format!("{}: {why}", addresses[own]));
         let strangers = for_strangers(to[own]).map_err(failed)?;
         let peer = |(p, &place): (usize, &SocketAddr)| (p != own).then(|| for_peer(to[own], place)).transpose();
         let peers = to.iter().enumerate().map(peer).collect::<io::Result<_>>().map_err(failed)?;
@@ -134,13 +134,13 @@ impl Datagrams {
     }
 
     /// The message of a datagram, with the process whose key opens it.
-    fn opened(&self, datagram: &[u8]) -> Option<Arrived> {
+    fn opened(&self, datagram: &[u8]) -> Option<Message> {
         let Some(shared) = &self.shared else {
-            return Some(Arrived::Message { key: None, bytes: datagram.to_vec() });
+            return Some(Message { key: None, bytes: datagram.to_vec() });
         };
         let (&from, sealed) = datagram.split_first()?;
         let bytes = shared.get(usize::from(from)).filter(|_| from != self.me)?.opened(sealed)?;
-        Some(Arrived::Message { key: Some(from), bytes })
+        Some(Message { key: Some(from), bytes })
     }
 
     /// Opens some of what has come to a socket.
@@ -148,9 +148,9 @@ impl Datagrams {
         let mut room = [0; MOST_READ];
         for _ in 0..most {
             match socket.recv_from(&mut room) {
-                Ok((length, place)) => into.push(self.opened(&room[..length]).unwrap_or_else(|| {
+                Ok((length, place)) => into.push(self.opened(&room[..length]).ok_or_else(|| {
                     let text = format!("{}: a datagram that no known key opens; dropped", place.ip());
-                    Arrived::Odd(Complaint { kind: Kind::Key, text })
+                    Complaint { kind: Kind::Key, text }
                 })),
                 Err(why) if why.kind() == io::ErrorKind::WouldBlock => break,
                 // (what a datagram of this node met at a port where nobody is)
@@ -173,14 +173,11 @@ impl Road for Datagrams {
         let _ = peer.send(sealed.as_deref().unwrap_or(message));
     }
 
-    fn receive(&mut self, wait: Option<Duration>, into: &mut Vec<Arrived>) -> Result<bool, RoadFault> {
+    fn receive(&mut self, wait: Option<Duration>, into: &mut Vec<Arrived>) -> Result<bool, Fault> {
         let sockets: Vec<&UdpSocket> = self.peers.iter().flatten().chain([&self.strangers]).collect();
         let descriptors = sockets.iter().map(|it| it.as_raw_fd()).chain([self.bell.descriptor()]);
         let mut items: Vec<PollItem> = descriptors.map(|it| PollItem::from_fd(it, POLLIN)).collect();
-        match zmq::poll(&mut items, milliseconds(wait)) {
-            Ok(_) | Err(zmq::Error::EINTR) => {}
-            Err(why) => return Err(why.into()),
-        }
+        poll(&mut items, wait)?;
         for (place, socket) in sockets.iter().enumerate().filter(|it| items[it.0].is_readable()) {
             self.take(socket, if place + 1 < sockets.len() { BATCH } else { FEW }, into);
         }
@@ -236,7 +233,7 @@ mod tests {
         for _ in 0..100 {
             here.receive(Some(Duration::ZERO), &mut came).expect("received");
         }
-        let is_of_peer = |it: &&Arrived| matches!(it, Arrived::Message { bytes, .. } if bytes.len() == 1);
+        let is_of_peer = |it: &&Arrived| it.as_ref().is_ok_and(|it| it.bytes.len() == 1);
         assert_eq!(came.iter().filter(is_of_peer).count(), 50);
     }
 }

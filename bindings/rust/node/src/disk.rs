@@ -48,9 +48,7 @@ pub enum Wait {
 }
 
 /// What goes before each act, and may refuse it.
-pub trait Gate: FnMut(Act) -> io::Result<()> + Send + 'static {}
-
-impl<G: FnMut(Act) -> io::Result<()> + Send + 'static> Gate for G {}
+pub type Gate = Box<dyn FnMut(Act) -> io::Result<()> + Send>;
 
 /// The thread, which has one job at a time.
 pub struct Disk {
@@ -69,12 +67,12 @@ fn is_gone() -> io::Error {
     io::Error::other("the thread that writes the log is gone")
 }
 
-fn done(mut job: Job, log: &mut LogFile, gate: &mut impl Gate) -> Result<Job, Fault> {
-    match &mut job {
+/// Does a job, and gives it back.
+fn done(job: Job, log: &mut LogFile, gate: &mut Gate) -> Result<Job, Fault> {
+    match &job {
         Job::Write { lines, force, .. } => {
             gate(Act::Write(*force))?;
             log.write(lines, *force)?;
-            lines.clear();
             if *force {
                 gate(Act::Force)?;
                 log.force()?;
@@ -100,7 +98,7 @@ fn done(mut job: Job, log: &mut LogFile, gate: &mut impl Gate) -> Result<Job, Fa
 
 impl Disk {
     /// Starts the thread, which has this log in hands.
-    pub fn start(mut log: LogFile, ringer: Ringer, mut gate: impl Gate) -> io::Result<Self> {
+    pub fn start(mut log: LogFile, ringer: Ringer, mut gate: Gate) -> io::Result<Self> {
         let ((jobs, given), (tell, done_with)) = (sync_channel(1), sync_channel(1));
         let rings = Arc::new(AtomicBool::new(false));
         let is_awaited = Arc::clone(&rings);

@@ -1,12 +1,11 @@
 //! Why a node refuses a call, doesn't start, or stopped.
-use crate::config::ConfigFault;
-use crate::road::RoadFault;
 use std::fmt;
 use std::io;
+use std::path::Path;
 use tellwydar::Refused;
 
-/// Why a call isn't answered, or why there is no node. Only after `Stopped` and what comes after it in this list the
-/// node has stopped.
+/// Why a call isn't answered, why there is no node, or why logs have no report. Only after `Stopped` and what comes
+/// after it in this list a node has stopped.
 #[derive(Debug)]
 pub enum Fault {
     /// An operation goes on, or its answer wasn't fetched.
@@ -28,10 +27,12 @@ pub enum Fault {
     Failed(Refused),
     /// The log lost entries: another process accepted more bodies than it has. This is the line that says so.
     LogLost(String),
-    /// A log is there where none may be, or it isn't one of this process, or a file is no log.
+    /// A log is there where none may be, or isn't one of this process, or a file is no log, or logs aren't of one run.
     OtherLog(String),
-    Config(ConfigFault),
-    Road(RoadFault),
+    /// The configuration, a script or an option says something else than it should.
+    Config(String),
+    /// There is no road to the others: an address or a key is refused.
+    Road(String),
     Io(io::Error),
 }
 
@@ -40,6 +41,16 @@ impl Fault {
     pub(crate) fn is_of_a_call(&self) -> bool {
         matches!(self, Self::Busy | Self::TimedOut | Self::Paused | Self::Rung | Self::Refused(_) | Self::Nothing)
     }
+
+    /// A fault about the log at a path.
+    pub(crate) fn of_log(path: &Path, why: impl fmt::Display) -> Self {
+        Self::OtherLog(format!("{}: {why}", path.display()))
+    }
+}
+
+/// The same fault, with the path at which it came up.
+pub fn at_path(path: &Path, why: io::Error) -> io::Error {
+    io::Error::new(why.kind(), format!("{}: {why}", path.display()))
 }
 
 impl fmt::Display for Fault {
@@ -55,9 +66,7 @@ impl fmt::Display for Fault {
             Self::Nothing => f.write_str("no operation goes on"),
             Self::Stopped => f.write_str("the node has stopped"),
             Self::Failed(why) => write!(f, "the process stopped: {why}"),
-            Self::LogLost(why) | Self::OtherLog(why) => f.write_str(why),
-            Self::Config(why) => why.fmt(f),
-            Self::Road(why) => why.fmt(f),
+            Self::LogLost(why) | Self::OtherLog(why) | Self::Config(why) | Self::Road(why) => f.write_str(why),
             Self::Io(why) => why.fmt(f),
         }
     }
@@ -80,15 +89,9 @@ impl From<Refused> for Fault {
     }
 }
 
-impl From<ConfigFault> for Fault {
-    fn from(why: ConfigFault) -> Self {
-        Self::Config(why)
-    }
-}
-
-impl From<RoadFault> for Fault {
-    fn from(why: RoadFault) -> Self {
-        Self::Road(why)
+impl From<zmq::Error> for Fault {
+    fn from(why: zmq::Error) -> Self {
+        Self::Road(why.to_string())
     }
 }
 

@@ -1,9 +1,10 @@
 //! Keys of ZeroMQ's CURVE, as texts of 40 characters (Z85).
-use crate::road::RoadFault;
+use crate::config::{Config, Options};
+use crate::fault::{Fault, at_path};
 use std::ffi::{CString, c_char, c_int};
 use std::fmt;
-use std::fs::OpenOptions;
-use std::io::{Read, Write};
+use std::fs::{File, OpenOptions};
+use std::io::{self, Write};
 use std::os::unix::fs::{OpenOptionsExt, PermissionsExt};
 use std::path::Path;
 use std::str::FromStr;
@@ -27,35 +28,31 @@ impl fmt::Debug for Key {
 }
 
 impl FromStr for Key {
-    type Err = RoadFault;
+    type Err = Fault;
 
-    fn from_str(text: &str) -> Result<Self, RoadFault> {
-        let none = || RoadFault::new("a key has 40 characters of Z85");
-        if text.len() != LETTERS || text.contains('\0') {
-            return Err(none());
-        }
-        let bytes = zmq::z85_decode(text).map_err(|_| none())?;
-        let key = Self(bytes.try_into().map_err(|_| none())?);
-        if key.text()? == text { Ok(key) } else { Err(none()) }
+    fn from_str(text: &str) -> Result<Self, Fault> {
+        let key = zmq::z85_decode(text).ok().and_then(|it| it.try_into().ok()).map(Self);
+        // (ZeroMQ takes some letters that aren't of Z85)
+        key.filter(|it| it.text() == text).ok_or_else(|| Fault::Road("a key has 40 characters of Z85".to_string()))
     }
 }
 
 impl Key {
     /// The key as it is written.
-    pub fn text(&self) -> Result<String, RoadFault> {
-        zmq::z85_encode(&self.0).map_err(|why| RoadFault::new(why.to_string()))
+    pub fn text(&self) -> String {
+        zmq::z85_encode(&self.0).expect("32 bytes have a text")
     }
 
     /// The public key of this secret one.
-    fn public(&self) -> Result<Self, RoadFault> {
-        let secret = CString::new(self.text()?).map_err(|why| RoadFault::new(why.to_string()))?;
+    fn public(&self) -> Result<Self, Fault> {
+        let secret = CString::new(self.text()).expect("a text has no zero");
         let mut told = [0u8; LETTERS + 1];
         // SAFETY: the secret key is a text of 40 characters with its end, and there is room for 40 and an end.
         let code = unsafe { zmq_curve_public(told.as_mut_ptr().cast::<c_char>(), secret.as_ptr()) };
         if code != 0 {
-            return Err(RoadFault::new("ZeroMQ has no CURVE here"));
+            return Err(Fault::Road("ZeroMQ has no CURVE here".to_string()));
         }
-        std::str::from_utf8(&told[..LETTERS]).map_err(|why| RoadFault::new(why.to_string()))?.parse()
+        String::from_utf8_lossy(&told[..LETTERS]).parse()
     }
 
     /// A secret key from a file that only its owner may read.
@@ -63,24 +60,26 @@ impl Key {
     /// # Errors
     ///
     /// Where the file can't be read, others may read it too, or it has no key.
-    pub fn read_secret(path: &Path) -> Result<Self, RoadFault> {
-        let failed = |why: std::io::Error| RoadFault::new(format!("{}: {why}", path.display()));
-        let mut file = std::fs::File::open(path).map_err(failed)?;
-        if file.metadata().map_err(failed)?.permissions().mode() & 0o077 != 0 {
-            return Err(RoadFault::new(format!("{}: others may read this secret key: chmod 600", path.display())));
+    pub fn read_secret(path: &Path) -> Result<Self, Fault> {
+        let read = || {
+            let file = File::open(path)?;
+            let is_others = file.metadata()?.permissions().mode() & 0o077 != 0;
+            Ok((is_others, io::read_to_string(file)?))
+        };
+        let (is_others, text) = read().map_err(|why| at_path(path, why))?;
+        if is_others {
+            return Err(Fault::Road(format!("{}: others may read this secret key: chmod 600", path.display())));
         }
-        let mut text = String::new();
-        file.read_to_string(&mut text).map_err(failed)?;
         text.trim().parse()
     }
 }
 
-/// Makes a pair of keys: the secret one goes into a new file that only its owner may read, and the public one is told.
-pub fn write_new_keys(path: &Path) -> Result<Key, RoadFault> {
+/// Makes a pair of keys. The secret one goes into a new file that only its owner may read, and the public one is told.
+pub fn write_new_keys(path: &Path) -> Result<Key, Fault> {
     let pair = zmq::CurveKeyPair::new()?;
-    let failed = |why: std::io::Error| RoadFault::new(format!("{}: {why}", path.display()));
-    let mut file = OpenOptions::new().write(true).create_new(true).mode(0o600).open(path).map_err(failed)?;
-    writeln!(file, "{}", Key(pair.secret_key).text()?).map_err(failed)?;
+    let file = OpenOptions::new().write(true).create_new(true).mode(0o600).open(path);
+    let written = file.and_then(|mut it| writeln!(it, "{}", Key(pair.secret_key).text()));
+    written.map_err(|why| at_path(path, why))?;
     Ok(Key(pair.public_key))
 }
 
@@ -97,15 +96,23 @@ impl Keys {
     /// # Errors
     ///
     /// Where two processes have the same key, or the secret one isn't that of this process.
-    pub fn new(me: u8, secret: Key, known: Vec<Key>) -> Result<Self, RoadFault> {
+    pub fn new(me: u8, secret: Key, known: Vec<Key>) -> Result<Self, Fault> {
         let twice = known.iter().enumerate().any(|(at, key)| known[..at].contains(key));
         if twice {
-            return Err(RoadFault::new("each process needs a key of its own"));
+            return Err(Fault::Road("each process needs a key of its own".to_string()));
         }
         if known.get(usize::from(me)) != Some(&secret.public()?) {
-            return Err(RoadFault::new(format!("the secret key isn't that of process {me}")));
+            return Err(Fault::Road(format!("the secret key isn't that of process {me}")));
         }
         Ok(Self { secret, known })
+    }
+
+    /// Those of the configuration, where it has some.
+    pub(crate) fn of(config: &Config, options: &Options) -> Result<Option<Self>, Fault> {
+        let Some(known) = config.nodes.iter().map(|it| it.key).collect() else { return Ok(None) };
+        let why = "the configuration has keys: a secret one is needed";
+        let secret = options.secret.ok_or_else(|| Fault::Road(why.to_string()))?;
+        Self::new(options.me, secret, known).map(Some)
     }
 }
 
@@ -121,7 +128,7 @@ mod tests {
     fn a_secret_key_has_its_public_one() {
         let (public, secret): (Key, Key) = (PUBLIC.parse().expect("a key"), SECRET.parse().expect("a key"));
         assert_eq!(secret.public().expect("a key"), public);
-        assert_eq!(public.text().expect("a text"), PUBLIC);
+        assert_eq!(public.text(), PUBLIC);
     }
 
     #[test]

@@ -17,13 +17,11 @@
 //! ```
 
 mod calls;
-mod complaints;
 mod config;
 #[cfg(feature = "datagrams")]
 mod datagrams;
 mod disk;
 mod fault;
-mod json;
 mod keys;
 mod log_file;
 mod log_text;
@@ -31,26 +29,21 @@ mod lossy;
 mod merge;
 mod message;
 mod node;
-mod options;
 mod parcels;
 mod port;
 mod road;
-mod room;
 mod script;
 mod status;
 mod story;
 mod zeromq;
 
-pub use config::{Config, ConfigFault, Peer};
+pub use config::{Config, Most, Options, Peer};
 pub use fault::Fault;
 pub use keys::{Key, Keys, write_new_keys};
 pub use lossy::Losses;
-pub use merge::{MergeFault, merge};
+pub use merge::merge;
 pub use node::Node;
-pub use options::Options;
 pub use port::{Port, ask};
-pub use road::RoadFault;
-pub use room::Most;
-pub use script::{Script, ScriptFault};
+pub use script::Script;
 pub use status::{PeerStatus, Status};
 pub use tellwydar::FrontEnd;

@@ -1,6 +1,7 @@
-//! The file of a log, which one node has in its hands. What the log says is the library's: docs/FORMATS.md, "Log".
-use crate::fault::Fault;
-use std::fs::{File, OpenOptions, TryLockError};
+//! The files of a node: its logs, which it alone has in its hands, and what stands beside them. What a log says is the
+//! library's: docs/FORMATS.md, "Log".
+use crate::fault::{Fault, at_path};
+use std::fs::{self, File, OpenOptions, TryLockError};
 use std::io::{self, Read, Write};
 use std::os::unix::fs::{FileExt, OpenOptionsExt};
 use std::path::{Path, PathBuf};
@@ -18,12 +19,8 @@ pub struct LogFile {
     room: u64,
 }
 
-pub fn at_path(path: &Path, why: io::Error) -> io::Error {
-    io::Error::new(why.kind(), format!("{}: {why}", path.display()))
-}
-
 /// The folder of this file.
-pub fn folder_of(path: &Path) -> &Path {
+fn folder_of(path: &Path) -> &Path {
     path.parent().filter(|it| !it.as_os_str().is_empty()).unwrap_or(Path::new("."))
 }
 
@@ -114,4 +111,35 @@ impl Drop for LogFile {
             let _ = self.file.set_len(self.end);
         }
     }
+}
+
+/// The log of a chapter.
+pub fn log_of(path: &Path, chapter: u64) -> PathBuf {
+    if chapter == 0 { path.to_path_buf() } else { path.with_added_extension(chapter.to_string()) }
+}
+
+/// The file that says that nothing more is called in the chapter of this log: how many operations were called up to its
+/// end.
+pub fn quiet_of(log: &Path) -> PathBuf {
+    log.with_added_extension("quiet")
+}
+
+/// How many operations its callers called up to the end of the chapter of this log.
+pub fn called_up_to(log: &Path) -> Result<u64, Fault> {
+    let path = quiet_of(log);
+    let text = fs::read_to_string(&path).map_err(|why| at_path(&path, why))?;
+    let count = text.strip_suffix('\n').and_then(|it| it.parse().ok());
+    count.ok_or_else(|| Fault::of_log(&path, "no number of calls"))
+}
+
+/// The last chapter that has a log at this path. Those before the last two may have been put aside.
+pub fn last_chapter(path: &Path) -> Result<u64, Fault> {
+    let begin = format!("{}.", path.file_name().unwrap_or_default().to_string_lossy());
+    let (folder, mut last) = (folder_of(path), 0);
+    for entry in fs::read_dir(folder).map_err(|why| at_path(folder, why))? {
+        let name = entry?.file_name().to_string_lossy().into_owned();
+        let number = name.strip_prefix(&begin).filter(|it| it.starts_with(|it: char| matches!(it, '1'..='9')));
+        last = number.and_then(|it| it.parse().ok()).map_or(last, |it| last.max(it));
+    }
+    Ok(last)
 }

@@ -47,7 +47,7 @@ pub fn unsealed(log: &[u8]) -> Vec<&[u8]> {
 }
 
 fn entries(log: &[u8]) -> String {
-    String::from_utf8(unsealed(log)[HEAD..].concat()).expect("a text")
+    String::from_utf8(unsealed(log)[HEAD as usize..].concat()).expect("a text")
 }
 
 fn worked_head() -> LogHead {
@@ -116,7 +116,8 @@ fn a_log_of_another_head_is_told_by_what_differs_first() {
         (LogHead { names, ..mine.clone() }, "registers x y, and this node of registers x"),
     ];
     for (other, told) in others {
-        assert_eq!(differs(&other, &mine).as_deref(), Some(told));
+        let (found, wanted) = differs(&other, &mine).expect(told);
+        assert_eq!(format!("{found}, and this node of {wanted}"), told);
     }
     assert_eq!(differs(&LogHead { begun: 13, ..mine.clone() }, &mine), None);
 }

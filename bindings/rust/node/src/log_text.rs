@@ -1,28 +1,15 @@
 //! The text of a log, and whose it is, as the library tells it.
-use crate::fault::Fault;
-use crate::log_file::at_path;
+use crate::fault::{Fault, at_path};
 use std::fs;
 use std::path::Path;
 use tellwydar::{LogFault, LogHead, LoggedNode};
 
 /// The lines of a log's head: an entry stands on a line behind them.
-pub const HEAD: usize = 9;
+const HEAD: u64 = 9;
 
 /// What the head of the log at a path says.
 pub fn head(path: &Path, text: &[u8]) -> Result<LogHead, Fault> {
-    LoggedNode::head(text)?.ok_or_else(|| Fault::OtherLog(format!("{}: no head of a log", path.display())))
-}
-
-/// What a head says, but for what was drawn, in the words and the order of its lines.
-pub fn words(head: &LogHead) -> [String; 6] {
-    [
-        format!("cluster {}", head.cluster),
-        format!("process {}", head.process),
-        format!("chapter {}", head.chapter),
-        format!("front {}", head.front),
-        format!("processes {}", head.processes),
-        format!("registers {}", head.names.join(" ")),
-    ]
+    LoggedNode::head(text)?.ok_or_else(|| Fault::of_log(path, "no head of a log"))
 }
 
 /// The text of a file, without the zeros at its end: those are room that was made.
@@ -44,21 +31,38 @@ pub fn say_cut(path: &Path, count: usize) {
 
 /// A node that goes on after the log at a path.
 pub fn open(path: &Path, text: &[u8]) -> Result<LoggedNode, Fault> {
-    let at = |line: u64, why: &str| Fault::OtherLog(format!("{}: line {line}: {why}", path.display()));
-    let first = HEAD as u64 + 1;
-    LoggedNode::open(text, 0).map_err(|why| match why {
-        LogFault::NotALog { line } => at(line, "no line of a log"),
-        LogFault::NotAStep { entry } => at(entry + first, "no step of its process"),
-        LogFault::Foreign { entry } => at(entry + first, "of another process"),
-        why => Fault::OtherLog(format!("{}: {why}", path.display())),
-    })
+    LoggedNode::open(text, 0).map_err(|why| fault(path, why))
 }
 
-/// Of which other cluster, chapter, process or shape the first head is than the second one, if it is.
-pub fn differs(found: &LogHead, wanted: &LogHead) -> Option<String> {
-    let (found, wanted) = (words(found), words(wanted));
-    let other = found.iter().zip(&wanted).find(|(found, wanted)| found != wanted);
-    other.map(|(found, wanted)| format!("{found}, and this node of {wanted}"))
+/// A fault of an entry, by its line.
+pub fn at_entry(path: &Path, entry: u64, why: &str) -> Fault {
+    Fault::of_log(path, format!("line {}: {why}", HEAD + entry + 1))
+}
+
+/// Why the text at a path is no log, by its lines.
+pub fn fault(path: &Path, why: LogFault) -> Fault {
+    match why {
+        LogFault::NotALog { line } => Fault::of_log(path, format!("line {line}: no line of a log")),
+        LogFault::NotAStep { entry } => at_entry(path, entry, "no step of its process"),
+        LogFault::Foreign { entry } => at_entry(path, entry, "of another process"),
+        LogFault::Damaged { entry } => at_entry(path, entry, "changed, or a line before it is missing"),
+        LogFault::Refused(why) => Fault::of_log(path, why),
+    }
+}
+
+/// The first of what two heads say that differs, but for what was drawn, in the words of their lines.
+pub fn differs(found: &LogHead, wanted: &LogHead) -> Option<(String, String)> {
+    let words = |it: &LogHead| {
+        [
+            format!("cluster {}", it.cluster),
+            format!("process {}", it.process),
+            format!("chapter {}", it.chapter),
+            format!("front {}", it.front),
+            format!("processes {}", it.processes),
+            format!("registers {}", it.names.join(" ")),
+        ]
+    };
+    words(found).into_iter().zip(words(wanted)).find(|(found, wanted)| found != wanted)
 }
 
 #[cfg(test)]

@@ -1,8 +1,10 @@
 //! A road for tests: each message is lost, sent twice, kept back after the next one, or late, as the words of a seed
 //! say.
-use crate::road::{Arrived, Road, RoadFault};
+use crate::fault::Fault;
+use crate::road::{Arrived, Road};
 use std::cmp::Reverse;
 use std::collections::BinaryHeap;
+use std::collections::binary_heap::PeekMut;
 use std::str::FromStr;
 use std::time::{Duration, Instant};
 
@@ -18,25 +20,19 @@ pub struct Losses {
     delay: f64,
 }
 
-/// A text that says no losses.
-#[derive(Clone, Copy, Debug, PartialEq, Eq)]
-pub struct NoLosses;
-
 impl FromStr for Losses {
-    type Err = NoLosses;
+    type Err = Fault;
 
-    fn from_str(text: &str) -> Result<Self, NoLosses> {
-        let numbers: Vec<f64> = text.split(',').map(str::parse).collect::<Result<_, _>>().map_err(|_| NoLosses)?;
-        match *numbers {
-            [seed, loss, repeats, reorder, delay] if numbers.iter().all(|it| (0.0..1e9).contains(it)) => Ok(Self {
-                seed: seed as u64,
-                loss: loss / 100.0,
-                repeats: repeats / 100.0,
-                reorder: reorder / 100.0,
-                delay: delay / 1000.0,
-            }),
-            _ => Err(NoLosses),
+    fn from_str(text: &str) -> Result<Self, Fault> {
+        let numbers: Vec<f64> = text.split(',').map(str::parse).collect::<Result<_, _>>().unwrap_or_default();
+        let [seed, loss, repeats, reorder, delay] = numbers[..] else {
+            return Err(Fault::Config("losses are five numbers".to_string()));
+        };
+        if !numbers.iter().all(|it| (0.0..1e9).contains(it)) {
+            return Err(Fault::Config("losses are numbers from 0 to below 10^9".to_string()));
         }
+        let [loss, repeats, reorder] = [loss, repeats, reorder].map(|it| it / 100.0);
+        Ok(Self { seed: seed as u64, loss, repeats, reorder, delay: delay / 1000.0 })
     }
 }
 
@@ -108,20 +104,19 @@ impl Road for LossyRoad {
         }
     }
 
-    fn receive(&mut self, wait: Option<Duration>, into: &mut Vec<Arrived>) -> Result<bool, RoadFault> {
+    fn receive(&mut self, wait: Option<Duration>, into: &mut Vec<Arrived>) -> Result<bool, Fault> {
         self.road.receive(wait, into)
     }
 
-    fn due(&self) -> Option<Instant> {
-        self.late.peek().map(|Reverse((due, ..))| *due)
-    }
-
-    fn pump(&mut self, now: Instant) {
-        while self.due().is_some_and(|it| it <= now) {
-            if let Some(Reverse((_, _, to, message))) = self.late.pop() {
-                self.road.send(to, &message);
+    fn pump(&mut self, now: Instant) -> Option<Instant> {
+        while let Some(late) = self.late.peek_mut() {
+            if late.0.0 > now {
+                return Some(late.0.0);
             }
+            let Reverse((_, _, to, message)) = PeekMut::pop(late);
+            self.road.send(to, &message);
         }
+        None
     }
 }
 
@@ -131,9 +126,10 @@ mod tests {
 
     #[test]
     fn losses_are_five_numbers() {
-        assert_eq!("7,20,10,20,1".parse(), Ok(Losses { seed: 7, loss: 0.2, repeats: 0.1, reorder: 0.2, delay: 0.001 }));
+        let losses: Losses = "7,20,10,20,1".parse().expect("losses");
+        assert_eq!(losses, Losses { seed: 7, loss: 0.2, repeats: 0.1, reorder: 0.2, delay: 0.001 });
         for text in ["", "1,2,3,4", "1,2,3,4,5,6", "1,2,3,4,x", "1,-2,3,4,5", "1,2,3,4,inf", "NaN,2,3,4,5"] {
-            assert_eq!(text.parse::<Losses>(), Err(NoLosses), "{text}");
+            assert!(text.parse::<Losses>().is_err(), "{text}");
         }
     }
 }

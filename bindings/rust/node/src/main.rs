@@ -1,4 +1,5 @@
 //! The program of a node: its words are those of `python3 -m tellwydar.net`.
+use clap::{Args, Parser};
 use signal_hook::consts::{SIGINT, SIGTERM};
 use signal_hook::flag;
 use signal_hook::low_level::pipe;
@@ -10,79 +11,58 @@ use std::process::ExitCode;
 use std::sync::Arc;
 use std::sync::atomic::{AtomicBool, Ordering};
 use tellwydar::{Front, Linear, LocalRead, LocalWrite};
-use tellwydar_node::{Config, Fault, FrontEnd, Key, Node, Options, Port, Script, ask, merge, write_new_keys};
+use tellwydar_node::{Config, Fault, FrontEnd, Key, Losses, Node, Options, Port, Script, ask, merge, write_new_keys};
 
-const USAGE: &str = "\
-usage: tellwydar-node node --me N --config FILE --log FILE [--script FILE | --socket FILE] [--secret FILE] [--sync]
-                          [--resume]
-       tellwydar-node client SOCKET < LINES
-       tellwydar-node merge [--cut] LOG..
-       tellwydar-node keys FILE
-
-node      runs a node until SIGTERM or SIGINT, and prints the answers of its script
-client    has the node at a socket answer lines: calls, health, status, metrics
-merge     prints the report of the run that the logs of one chapter are
-keys      makes a secret key in a new FILE, and prints its public key
---sync    each entry is on the disk before its frames go out
---resume  goes on from the log
---socket  programs on this machine call the node here
---cut     where no order has all entries, the report of those that one has
---lossy SEED,LOSS%,DUPLICATES%,REORDER%,DELAY_MS   for tests: what happens to messages
-";
-
-/// What is asked for.
+/// A node of a cluster: one process on a machine of its own
+#[derive(Parser)]
+#[command(bin_name = "tellwydar-node", disable_help_subcommand = true)]
 enum Asked {
-    Node { config: PathBuf, calls: Calls, secret: Option<PathBuf>, options: Options },
-    Client(PathBuf),
-    Merge { logs: Vec<PathBuf>, cut: bool },
-    Keys(PathBuf),
+    /// Runs a node until SIGTERM or SIGINT
+    Node(Given),
+    /// Has the node at a socket answer the lines of the standard input: calls, health, status, metrics
+    Client { socket: PathBuf },
+    /// Prints the report of the run that the logs of one chapter are
+    Merge {
+        /// Where no order has all entries, the report of those that one has
+        #[arg(long)]
+        cut: bool,
+        #[arg(required = true)]
+        logs: Vec<PathBuf>,
+    },
+    /// Makes a secret key in a new FILE, and prints its public key
+    Keys { file: PathBuf },
 }
 
-/// Where a node's calls come from.
-enum Calls {
-    None,
-    Script(PathBuf),
-    Socket(PathBuf),
-}
-
-fn asked(words: &[String]) -> Option<Asked> {
-    match words {
-        [word, file] if word == "keys" => Some(Asked::Keys(file.into())),
-        [word, socket] if word == "client" => Some(Asked::Client(socket.into())),
-        [word, rest @ ..] if word == "node" => node_asked(rest),
-        [word, cut, logs @ ..] if word == "merge" && cut == "--cut" && !logs.is_empty() => {
-            Some(merge_asked(logs, true))
-        }
-        [word, logs @ ..] if word == "merge" && !logs.is_empty() => Some(merge_asked(logs, false)),
-        _ => None,
-    }
-}
-
-fn merge_asked(logs: &[String], cut: bool) -> Asked {
-    Asked::Merge { logs: logs.iter().map(PathBuf::from).collect(), cut }
-}
-
-fn node_asked(words: &[String]) -> Option<Asked> {
-    let (mut me, mut config, mut log, mut calls, mut secret) = (None, None, None, Calls::None, None);
-    let mut options = Options::new(0, "");
-    let mut words = words.iter();
-    while let Some(word) = words.next() {
-        let mut path = || words.next().map(PathBuf::from);
-        match word.as_str() {
-            "--sync" => options.sync = true,
-            "--resume" => options.resume = true,
-            "--config" => config = Some(path()?),
-            "--log" => log = Some(path()?),
-            "--script" if matches!(calls, Calls::None) => calls = Calls::Script(path()?),
-            "--socket" if matches!(calls, Calls::None) => calls = Calls::Socket(path()?),
-            "--secret" => secret = Some(path()?),
-            "--me" => me = Some(words.next()?.parse().ok()?),
-            "--lossy" => options.losses = Some(words.next()?.parse().ok()?),
-            _ => return None,
-        }
-    }
-    options = Options { me: me?, log: log?, ..options };
-    Some(Asked::Node { config: config?, calls, secret, options })
+/// How a node is asked for.
+#[derive(Args)]
+struct Given {
+    /// Which process of the cluster it is, from 0
+    #[arg(long, value_name = "N")]
+    me: u8,
+    /// The configuration, which is the same on all machines
+    #[arg(long, value_name = "FILE")]
+    config: PathBuf,
+    /// A new file, or with --resume the log of this process
+    #[arg(long, value_name = "FILE")]
+    log: PathBuf,
+    /// Makes the calls of this file, and prints their answers
+    #[arg(long, value_name = "FILE")]
+    script: Option<PathBuf>,
+    /// Programs on this machine call the node here
+    #[arg(long, value_name = "FILE", conflicts_with = "script")]
+    socket: Option<PathBuf>,
+    /// The secret key, where the configuration has keys
+    #[arg(long, value_name = "FILE")]
+    secret: Option<PathBuf>,
+    /// Each entry is on the disk before its frames go out
+    #[arg(long)]
+    sync: bool,
+    /// Goes on from the log
+    #[arg(long)]
+    resume: bool,
+    /// For tests, what happens to messages
+    #[arg(long, value_name = "SEED,LOSS%,DUPLICATES%,REORDER%,DELAY_MS")]
+    lossy: Option<Losses>,
 }
 
 /// The text of a file, or why there is none, with its name.
@@ -90,40 +70,25 @@ fn text_of(path: &Path) -> Result<String, String> {
     fs::read_to_string(path).map_err(|why| format!("{}: {why}", path.display()))
 }
 
-/// What a node calls.
-enum Work {
-    Nothing,
-    Script(Script),
-    OfPrograms(PathBuf),
-}
-
-fn work_of(calls: Calls, config: &Config) -> Result<Work, String> {
-    Ok(match calls {
-        Calls::None => Work::Nothing,
-        Calls::Socket(path) => Work::OfPrograms(path),
-        Calls::Script(path) => {
-            let parsed = Script::parse(&text_of(&path)?, &config.registers);
-            Work::Script(parsed.map_err(|why| format!("{}: {why}", path.display()))?)
-        }
-    })
-}
-
-fn run<F: Front>(config: &Config, work: Work, options: &Options) -> Result<(), Box<dyn Error>> {
-    let mut node = Node::<F>::open(config, options)?;
+/// Runs a node of this front end.
+fn run<F: Front>(given: &Given, config: &Config, script: Option<&Script>) -> Result<(), Box<dyn Error>> {
+    let secret = given.secret.as_deref().map(Key::read_secret).transpose()?;
+    let Given { me, sync, resume, lossy: losses, .. } = *given;
+    let mut node = Node::<F>::open(config, &Options { me, log: given.log.clone(), resume, secret, sync, losses })?;
     let end = Arc::new(AtomicBool::new(false));
     for signal in [SIGTERM, SIGINT] {
         flag::register(signal, Arc::clone(&end))?;
         pipe::register(signal, node.bell()?)?;
     }
-    if !config.sync && !options.sync {
+    if !config.sync && !sync {
         eprintln!(
             "without --sync a crash of the machine may lose entries that others have seen; a crash of this program loses none"
         );
     }
-    let done = match work {
-        Work::Nothing => Ok(()),
-        Work::Script(it) => it.run(&mut node, &mut io::stdout().lock()),
-        Work::OfPrograms(path) => Port::open(&path, node.bell()?)?.serve(&mut node, &end),
+    let done = match (script, &given.socket) {
+        (Some(script), _) => script.run(&mut node, &mut io::stdout().lock()),
+        (_, Some(socket)) => Port::open(socket, node.bell()?)?.serve(&mut node, &end),
+        _ => Ok(()),
     };
     match done {
         Err(Fault::Rung) => {}
@@ -135,36 +100,31 @@ fn run<F: Front>(config: &Config, work: Work, options: &Options) -> Result<(), B
     Ok(())
 }
 
-fn answer(asked: Asked) -> Result<(), Box<dyn Error>> {
-    let (config, calls, secret, mut options) = match asked {
-        Asked::Node { config, calls, secret, options } => (config, calls, secret, options),
-        Asked::Client(path) => {
-            return ask(&path, io::stdin().lock(), io::stdout().lock())
-                .map_err(|why| format!("{}: {why}", path.display()).into());
-        }
-        Asked::Merge { logs, cut } => return Ok(io::stdout().write_all(&merge(&logs, cut)?)?),
-        Asked::Keys(path) => {
-            println!("key = \"{}\"", write_new_keys(&path)?.text()?);
-            return Ok(());
-        }
-    };
-    let config = text_of(&config)?.parse::<Config>().map_err(|why| format!("{}: {why}", config.display()))?;
-    options.secret = secret.map(|it| Key::read_secret(&it)).transpose()?;
-    let work = work_of(calls, &config)?;
+fn run_node(given: &Given) -> Result<(), Box<dyn Error>> {
+    let at = |path: &Path, why: Fault| format!("{}: {why}", path.display());
+    let config: Config = text_of(&given.config)?.parse().map_err(|why| at(&given.config, why))?;
+    let parsed = |path: &PathBuf| Script::parse(&text_of(path)?, &config.registers).map_err(|why| at(path, why));
+    let script = given.script.as_ref().map(parsed).transpose()?;
     match config.front {
-        FrontEnd::Linear => run::<Linear>(&config, work, &options),
-        FrontEnd::LocalRead => run::<LocalRead>(&config, work, &options),
-        FrontEnd::LocalWrite => run::<LocalWrite>(&config, work, &options),
+        FrontEnd::Linear => run::<Linear>(given, &config, script.as_ref()),
+        FrontEnd::LocalRead => run::<LocalRead>(given, &config, script.as_ref()),
+        FrontEnd::LocalWrite => run::<LocalWrite>(given, &config, script.as_ref()),
     }
 }
 
+fn answer(asked: Asked) -> Result<(), Box<dyn Error>> {
+    match asked {
+        Asked::Node(given) => run_node(&given)?,
+        Asked::Client { socket } => ask(&socket, io::stdin().lock(), io::stdout().lock())
+            .map_err(|why| format!("{}: {why}", socket.display()))?,
+        Asked::Merge { logs, cut } => io::stdout().write_all(&merge(&logs, cut)?)?,
+        Asked::Keys { file } => println!("key = \"{}\"", write_new_keys(&file)?.text()),
+    }
+    Ok(())
+}
+
 fn main() -> ExitCode {
-    let words: Vec<String> = std::env::args().skip(1).collect();
-    let Some(asked) = asked(&words) else {
-        eprint!("{USAGE}");
-        return ExitCode::from(2);
-    };
-    match answer(asked) {
+    match answer(Asked::parse()) {
         Ok(()) => ExitCode::SUCCESS,
         Err(why) => {
             eprintln!("{why}");

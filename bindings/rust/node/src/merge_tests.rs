@@ -4,7 +4,7 @@ use std::fs;
 use tellwydar::check;
 
 /// What is done with these logs, each in a file named by its place.
-fn stored<T>(test: &str, logs: &[Vec<u8>], act: impl FnOnce(&[PathBuf]) -> Result<T, MergeFault>) -> Result<T, String> {
+fn stored<T>(test: &str, logs: &[Vec<u8>], act: impl FnOnce(&[PathBuf]) -> Result<T, Fault>) -> Result<T, String> {
     let room = std::env::temp_dir().join(format!("tellwydar-{test}-{}", std::process::id()));
     fs::create_dir_all(&room).expect("a folder");
     let paths: Vec<PathBuf> = (0..logs.len()).map(|at| room.join(format!("{at}.log"))).collect();
@@ -23,7 +23,7 @@ fn merged(test: &str, logs: &[Vec<u8>], cut: bool) -> Result<Vec<u8>, String> {
 
 /// The record of these logs in the order that the library finds, or why there is none.
 fn ordered(test: &str, logs: &[Vec<u8>]) -> Result<String, String> {
-    stored(test, logs, |paths| record(paths, false)).map(|it| shown(&it) + "\n")
+    stored(test, logs, |paths| record(paths, false)).map(|it| String::from_utf8_lossy(&it).into_owned())
 }
 
 /// A log whose lines have another text in place of this one.

@@ -4,26 +4,22 @@
 //! comes in, some messages are taken with one write for all. A thread of its own has the files in hands (`Disk`). While
 //! it writes what something waits for, the node makes no step: it waits on its road, until the disk is done or its
 //! caller's time is up.
-use crate::complaints::{Complaint, Complaints, Kind};
-use crate::config::{Config, ConfigFault};
+use crate::config::{Config, Options};
 use crate::disk::{Disk, Gate, Wait};
 use crate::fault::Fault;
-use crate::message::{Brings, Meeting, Met};
-use crate::options::{Options, road_of};
+use crate::message::{Complaint, Complaints, Kind, Meeting, WIDTH};
 use crate::parcels::Parcels;
-use crate::road::{Arrived, Bell, Road};
-use crate::room::Size;
-use crate::story::Story;
+use crate::road::{Arrived, Bell, Road, road_of};
+use crate::story::{Chapter, Story};
 use std::io;
 use std::marker::PhantomData;
 use std::os::unix::net::UnixStream;
 use std::time::{Duration, Instant};
-use tellwydar::{Answer, Front, FrontEnd, LogHead, Op, Refused};
+use tellwydar::{Answer, Brings, Front, FrontEnd, LogHead, Meets, Met, Op, Refused};
 
 #[cfg(test)]
 mod disk_tests;
-mod looks;
-mod meets;
+mod peers;
 mod turns;
 mod writes;
 
@@ -71,42 +67,30 @@ impl<F: Front> Node<F> {
     ///
     /// Where the road or the log is refused. No log is begun where the road is refused.
     pub fn open(config: &Config, options: &Options) -> Result<Self, Fault> {
-        Self::open_with(config, options, |_| Ok(()))
+        Self::open_with(config, options, Box::new(|_| Ok(())))
     }
 
     /// A node whose disk goes through this gate.
-    fn open_with(config: &Config, options: &Options, gate: impl Gate) -> Result<Self, Fault> {
-        let processes = config.nodes.len() as u8;
-        if F::NAME.parse() != Ok(config.front) {
-            return Err(ConfigFault::new(format!(
-                "the configuration has the front end {}, not {}",
-                config.front,
-                F::NAME
-            ))
-            .into());
+    fn open_with(config: &Config, options: &Options, gate: Gate) -> Result<Self, Fault> {
+        let (front, processes) = (config.front, config.nodes.len() as u8);
+        if front.name() != F::NAME {
+            return Err(Fault::Config(format!("the configuration has the front end {front}, not {}", F::NAME)));
         }
         if options.me >= processes {
-            return Err(ConfigFault::new(format!("the configuration has no process {}", options.me)).into());
+            return Err(Fault::Config(format!("the configuration has no process {}", options.me)));
         }
-        let size = Size { processes: processes.into(), registers: config.registers.len() as u32 };
-        let room = size.room(Some(config.most.operations), Some(config.most.entries))?;
+        let room = config.room()?;
         let (bell, hand) = Bell::new()?;
         let ringer = bell.ringer(&hand)?;
         let road = road_of(config, options, bell)?;
-        let head = LogHead {
-            cluster: config.cluster,
-            chapter: 0,
-            begun: 0,
-            front: config.front,
-            processes,
-            process: options.me,
-            names: config.registers.clone(),
-        };
+        let names = config.registers.clone();
+        let head =
+            LogHead { cluster: config.cluster, chapter: 0, begun: 0, front, processes, process: options.me, names };
         let sync = config.sync || options.sync;
         let story = Story::open(head, options, room, sync, |log| Disk::start(log, ringer, gate))?;
         let mut node = Self {
             front: PhantomData,
-            meeting: Meeting::new(story.head())?,
+            meeting: Meeting::new(&story.chapter.head)?,
             parcels: Parcels::new(processes, road.most_bytes()),
             story,
             road,
@@ -146,36 +130,36 @@ impl<F: Front> Node<F> {
     /// The time-out holds whatever the disk does, but that is given a tenth of a second where nothing else is between
     /// the operation and its answer.
     pub fn perform(&mut self, op: Op, timeout: Option<Duration>) -> Result<Answer, Fault> {
-        let performed = self.performed(op, timeout.map(|it| Instant::now() + it));
-        self.kept(performed)
+        self.run(|it| it.performed(op, timeout.map(|it| Instant::now() + it)))
     }
 
     /// Waits for the answer of the operation that goes on.
     pub fn wait(&mut self, timeout: Option<Duration>) -> Result<Answer, Fault> {
-        let waited = self.waited(timeout.map(|it| Instant::now() + it));
-        self.kept(waited)
+        self.run(|it| it.waited(timeout.map(|it| Instant::now() + it)))
     }
 
     /// Hears the others until something came or the time is up, and tells whether the bell rang. A node that has
     /// nothing to call has to be in here: the others wait for it.
     pub fn serve(&mut self, until: Option<Instant>) -> Result<bool, Fault> {
-        let served = self.served(until);
-        self.kept(served)
+        self.run(|it| it.served(until))
     }
 
     /// How many operations were called, in earlier runs too, and whether one of them goes on or has an answer to be
     /// fetched.
     pub fn so_far(&self) -> (u64, bool) {
-        (self.story.called(), self.story.is_running() && self.story.is_own() || self.answer.is_some())
+        let chapter = &self.story.chapter;
+        let is_own = chapter.is_running && chapter.node.own_calls() > 0;
+        (self.story.called(), is_own || self.answer.is_some())
     }
 
     /// The names of the registers.
     pub fn registers(&self) -> &[String] {
-        &self.story.head().names
+        &self.story.chapter.head.names
     }
 
     /// Behind a fault that isn't of a call alone the node has stopped, and puts nothing more.
-    fn kept<T>(&mut self, result: Result<T, Fault>) -> Result<T, Fault> {
+    fn run<T>(&mut self, act: impl FnOnce(&mut Self) -> Result<T, Fault>) -> Result<T, Fault> {
+        let result = act(self);
         if result.as_ref().is_err_and(|it| !it.is_of_a_call()) {
             self.is_stopped = true;
             self.parcels.clear();
@@ -197,7 +181,7 @@ impl<F: Front> Node<F> {
             self.pass(due, Fault::Paused)?;
         }
         self.unserved += 1;
-        self.waited(if self.story.node().busy() { deadline } else { self.patient(deadline) })
+        self.waited(if self.story.chapter.node.busy() { deadline } else { self.patient(deadline) })
     }
 
     /// When this time is up, where the disk that writes is given a moment.
@@ -208,13 +192,14 @@ impl<F: Front> Node<F> {
     /// Calls an operation, unless a chapter ends or is opened, the disk writes, or the operation needs others that
     /// weren't heard or are far behind.
     fn called(&mut self, op: Op) -> Result<bool, Fault> {
-        if self.story.is_opening() || self.story.is_ending() && !self.story.is_running() && self.answer.is_none() {
+        let (chapter, is_idle) = (&self.story.chapter, !self.story.chapter.is_running && self.answer.is_none());
+        if chapter.is_opening() || is_idle && chapter.node.is_ending() {
             return Ok(false);
         }
-        if self.story.is_running() || self.answer.is_some() {
+        if !is_idle {
             return Err(Fault::Busy);
         }
-        if self.story.is_writing() || !matches!(op, Op::Read { .. }) && self.story.is_far_ahead() {
+        if self.story.is_writing() || !matches!(op, Op::Read { .. }) && chapter.node.is_far_ahead() {
             return Ok(false);
         }
         match self.call(op) {
@@ -228,7 +213,7 @@ impl<F: Front> Node<F> {
             if let Some(answer) = self.answer.take() {
                 return Ok(answer);
             }
-            if !self.story.is_running() {
+            if !self.story.chapter.is_running {
                 return Err(Fault::Nothing);
             }
             self.pass(deadline, Fault::TimedOut)?;
@@ -254,20 +239,19 @@ impl<F: Front> Node<F> {
     /// node waits, or where 64 were gathered, while which are written 64 more are told at most. So a program that is
     /// killed may lose the entries of up to 128 reads. This waits for the disk.
     pub fn keep(&mut self) -> Result<(), Fault> {
-        let kept = self.is_up().and_then(|()| self.write_until(Story::is_kept));
-        self.kept(kept)
+        self.run(|it| it.write_until(Chapter::is_kept))
     }
 
     /// Whether what was told so far is kept.
     pub(crate) fn is_kept(&self) -> bool {
-        self.story.is_kept()
+        self.story.chapter.is_kept()
     }
 
     /// Makes a call, and all that it brings about at once.
     fn call(&mut self, op: Op) -> Result<(), Fault> {
         self.story.call(op)?;
-        if self.story.is_owing() {
-            self.data_due |= !matches!(op, Op::Read { .. }) || self.story.head().front == FrontEnd::Linear;
+        if self.story.chapter.is_owing() {
+            self.data_due |= !matches!(op, Op::Read { .. }) || self.story.chapter.head.front == FrontEnd::Linear;
             self.commit()?;
         } else {
             self.hand_out()?;
@@ -306,53 +290,57 @@ impl<F: Front> Node<F> {
         }
         self.tell_end()?;
         self.turn()?;
-        self.road.pump(now);
         Ok(rang || std::mem::take(&mut self.rang))
     }
 
     /// When something has to be done next, if nothing comes before.
-    fn next_due(&self, until: Option<Instant>) -> Option<Instant> {
-        let is_writing = self.story.is_writing();
+    fn next_due(&mut self, until: Option<Instant>) -> Option<Instant> {
+        let (now, is_writing) = (Instant::now(), self.story.is_writing());
+        let late = self.road.pump(now);
         if self.is_settled || !is_writing && !self.arrived.is_empty() {
-            return Some(Instant::now());
+            return Some(now);
         }
-        if is_writing {
-            return [until, self.road.due()].into_iter().flatten().min();
-        }
-        let node = self.story.node();
+        let Chapter { node, .. } = &self.story.chapter;
         let is_idle =
-            node.pending() == 0 && node.has_heard_all() && !self.story.is_ending() && !self.story.is_opening();
+            node.pending() == 0 && node.has_heard_all() && !node.is_ending() && !self.story.chapter.is_opening();
         let look_at = (!is_idle).then_some(self.look_at);
-        [until, look_at, self.held_till, self.road.due()].into_iter().flatten().min()
+        let own = if is_writing { [None; 2] } else { [look_at, self.held_till] };
+        [until, late].into_iter().chain(own).flatten().min()
     }
 
     fn heard(&mut self, arrived: Arrived, now: Instant) -> Result<(), Fault> {
-        let (key, bytes) = match arrived {
-            Arrived::Message { key, bytes } => (key, bytes),
-            Arrived::Odd(odd) => {
-                self.complaints.say(&odd);
+        let met = arrived.and_then(|it| Ok((self.meeting.met(it.key, &it.bytes)?, it.bytes)));
+        let (Meets { met, sender, .. }, bytes) = match met {
+            Ok(it) => it,
+            Err(odd) => {
+                self.complaints.say(odd);
                 return Ok(());
             }
         };
-        let met = self.meeting.met(key, &bytes);
-        if let Met::Peer { sender, .. } = &met {
-            self.came_at[usize::from(*sender)] = Some(now);
-            self.story.came(*sender);
-        }
         match met {
-            Met::Peer { sender, brings: Brings::Frames, rest } => self.take_all(sender, rest)?,
-            Met::Peer { sender, brings: Brings::State, rest } => match self.story.heard_state(sender, rest) {
+            Met::Peer(brings) => {
+                self.came_at[usize::from(sender)] = Some(now);
+                self.story.chapter.node.came(sender);
+                self.brought(sender, brings, &bytes[WIDTH..])
+            }
+            Met::Late => self.tell_last(sender),
+            _ => Ok(()),
+        }
+    }
+
+    /// Takes what another process brings.
+    fn brought(&mut self, sender: u8, brings: Brings, rest: &[u8]) -> Result<(), Fault> {
+        match brings {
+            Brings::Frames => self.take_all(sender, rest),
+            Brings::Greeting => self.greeted(sender, rest),
+            Brings::State => match self.story.chapter.heard_state(sender, rest) {
                 Err(Refused::NoState) => {
                     self.complain(Kind::State(sender), format!("process {sender}: no state of a node"));
+                    Ok(())
                 }
-                heard => heard?,
+                heard => Ok(heard?),
             },
-            Met::Peer { sender, brings: Brings::Greeting, rest } => self.greeted(sender, rest)?,
-            Met::Late(sender) => self.tell_last(sender)?,
-            Met::Elsewhere => {}
-            Met::Odd(odd) => self.complaints.say(&odd),
         }
-        Ok(())
     }
 
     /// Takes the frames of a message, one after another.
@@ -362,9 +350,9 @@ impl<F: Front> Node<F> {
             // (bytes that end too early are no frame)
             let (frame, rest) = frames.split_at_checked(length.max(1)).unwrap_or((frames, &[]));
             frames = rest;
-            let before = self.story.node().pending();
+            let before = self.story.chapter.node.pending();
             match self.story.step(|node| node.take(from, frame)).map_err(Fault::from) {
-                Ok(()) => self.data_due |= self.story.node().pending() > before,
+                Ok(()) => self.data_due |= self.story.chapter.node.pending() > before,
                 Err(Fault::Refused(why)) => {
                     self.complain(Kind::Frame(from), format!("process {from}: a frame is refused: {why}"));
                 }
@@ -375,13 +363,13 @@ impl<F: Front> Node<F> {
     }
 
     fn complain(&mut self, kind: Kind, text: String) {
-        self.complaints.say(&Complaint { kind, text });
+        self.complaints.say(Complaint { kind, text });
     }
 }
 
 impl<F: Front> Drop for Node<F> {
     /// Writes down all that was called. (There is nobody whom one could tell that it can't be written.)
     fn drop(&mut self) {
-        let _ = self.is_up().and_then(|()| self.write_until(Story::is_written));
+        let _ = self.write_until(Chapter::is_written);
     }
 }

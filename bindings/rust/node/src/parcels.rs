@@ -1,6 +1,7 @@
 //! Frames that wait until the entries of their steps are written.
-use crate::message::{Brings, Meeting, WIDTH, begin};
+use crate::message::{Meeting, WIDTH};
 use crate::road::Road;
+use tellwydar::Brings;
 
 /// The bytes of a frame that counts accepted ones.
 const COUNT: usize = 12;
@@ -14,9 +15,8 @@ fn is_data(frame: &[u8]) -> bool {
 /// The frames to one process.
 #[derive(Clone, Debug, Default)]
 struct Parcel {
-    /// What fills messages.
-    full: Vec<Vec<u8>>,
-    frames: Vec<u8>,
+    /// What each message brings; the last one has room.
+    messages: Vec<Vec<u8>>,
     /// Of several counts the last says all.
     count: Vec<u8>,
 }
@@ -26,59 +26,53 @@ struct Parcel {
 pub struct Parcels {
     parcels: Vec<Parcel>,
     most_bytes: usize,
-    is_empty: bool,
 }
 
 impl Parcels {
     /// No frames to so many processes, by messages of at most so many bytes.
     pub fn new(processes: u8, most_bytes: usize) -> Self {
-        Self { parcels: vec![Parcel::default(); processes.into()], most_bytes, is_empty: true }
-    }
-
-    pub fn is_empty(&self) -> bool {
-        self.is_empty
+        Self { parcels: vec![Parcel::default(); processes.into()], most_bytes }
     }
 
     pub fn add(&mut self, to: u8, frame: &[u8]) {
-        let parcel = &mut self.parcels[usize::from(to)];
-        self.is_empty = false;
+        let Parcel { messages, count } = &mut self.parcels[usize::from(to)];
         if !is_data(frame) {
-            parcel.count.clear();
-            parcel.count.extend_from_slice(frame);
+            count.clear();
+            count.extend_from_slice(frame);
             return;
         }
-        if WIDTH + parcel.frames.len() + frame.len() + COUNT > self.most_bytes {
-            parcel.full.push(std::mem::take(&mut parcel.frames));
+        match messages.last_mut() {
+            Some(last) if WIDTH + last.len() + frame.len() + COUNT <= self.most_bytes => last.extend_from_slice(frame),
+            _ => messages.push(frame.to_vec()),
         }
-        parcel.frames.extend_from_slice(frame);
     }
 
     /// Sends all of it.
     pub fn send(&mut self, meeting: &Meeting, road: &mut dyn Road) {
-        for (to, parcel) in (0..).zip(&mut self.parcels) {
-            let rest = [&parcel.frames[..], &parcel.count].concat();
-            for frames in parcel.full.drain(..).chain((!rest.is_empty()).then_some(rest)) {
-                let mut message = begin(&meeting.start(to), Brings::Frames);
-                message.extend_from_slice(&frames);
-                road.send(to, &message);
+        for (to, Parcel { messages, count }) in (0..).zip(&mut self.parcels) {
+            if messages.is_empty() && !count.is_empty() {
+                messages.push(Vec::new());
             }
-            parcel.frames.clear();
-            parcel.count.clear();
+            if let Some(last) = messages.last_mut() {
+                last.append(count);
+            }
+            for frames in messages.drain(..) {
+                road.send(to, &meeting.message(to, Brings::Frames, &frames));
+            }
         }
-        self.is_empty = true;
     }
 
     /// Forgets all of it.
     pub fn clear(&mut self) {
         self.parcels.fill(Parcel::default());
-        self.is_empty = true;
     }
 }
 
 #[cfg(test)]
 mod tests {
     use super::*;
-    use crate::road::{Arrived, RoadFault};
+    use crate::fault::Fault;
+    use crate::road::Arrived;
     use std::time::Duration;
     use tellwydar::{FrontEnd, LogHead};
 
@@ -95,7 +89,7 @@ mod tests {
             self.0.push((to, message[WIDTH..].to_vec()));
         }
 
-        fn receive(&mut self, _: Option<Duration>, _: &mut Vec<Arrived>) -> Result<bool, RoadFault> {
+        fn receive(&mut self, _: Option<Duration>, _: &mut Vec<Arrived>) -> Result<bool, Fault> {
             Ok(false)
         }
     }
@@ -107,18 +101,19 @@ mod tests {
         let (mut parcels, mut road) = (Parcels::new(3, 108), Kept::default());
         let count = |number: u8| [0, 10, 1, 2, 0, 0, 0, 0, 0, 0, 0, number];
         let body = |number: u8| [&[0, 30, 1, 1, 0, 0, 0, 0, 0, 0, 0, number], [7; 20].as_slice()].concat();
-        assert!(parcels.is_empty());
+        let meeting = Meeting::new(&head).unwrap();
+        parcels.send(&meeting, &mut road);
+        assert!(road.0.is_empty());
         parcels.add(1, &count(1));
         for (to, frame) in [(1, body(0)), (1, count(2).to_vec()), (2, count(5).to_vec()), (1, body(1)), (1, body(2))] {
             parcels.add(to, &frame);
         }
-        parcels.send(&Meeting::new(&head).unwrap(), &mut road);
+        parcels.send(&meeting, &mut road);
         let first = [body(0)].concat();
         // (with a start of 34 bytes two bodies of 32 and a count of 12 are more than 108)
         let wanted = [(1, first), (1, body(1)), (1, [body(2), count(2).to_vec()].concat()), (2, count(5).to_vec())];
         assert_eq!(road.0, wanted);
-        assert!(parcels.is_empty());
-        parcels.send(&Meeting::new(&head).unwrap(), &mut road);
+        parcels.send(&meeting, &mut road);
         assert_eq!(road.0.len(), wanted.len());
     }
 }

@@ -5,14 +5,14 @@
 //! several lines, of which the last is `# EOF` (<https://prometheus.io/docs/instrumenting/exposition_formats>). Programs
 //! take turns, since a process has one operation at a time.
 use crate::calls::{End, Form};
-use crate::fault::Fault;
-use crate::log_file::at_path;
+use crate::fault::{Fault, at_path};
 use crate::node::Node;
 use std::fs::{self, Permissions};
 use std::io::{self, BufRead, BufReader, Read, Write};
 use std::os::unix::fs::{FileTypeExt, PermissionsExt};
 use std::os::unix::net::{UnixListener, UnixStream};
 use std::path::{Path, PathBuf};
+use std::sync::Arc;
 use std::sync::atomic::{AtomicBool, Ordering};
 use std::sync::mpsc::{self, Receiver, Sender};
 use std::thread;
@@ -37,10 +37,6 @@ struct Desk {
 }
 
 impl Desk {
-    fn again(&self) -> io::Result<Self> {
-        Ok(Self { calls: self.calls.clone(), looks: self.looks.clone(), bell: self.bell.try_clone()? })
-    }
-
     /// The answer to a line, None where the node is gone.
     fn ask(&self, line: String) -> Option<String> {
         let (told, answer) = mpsc::channel();
@@ -49,40 +45,25 @@ impl Desk {
         (&self.bell).write_all(&[0]).ok()?;
         answer.recv().ok()
     }
-}
 
-/// Answers a program until it ends.
-fn attend(program: &UnixStream, desk: &Desk) -> io::Result<()> {
-    let mut lines = BufReader::new(program);
-    let mut out = program;
-    loop {
-        let mut line = Vec::new();
-        lines.by_ref().take(LONGEST as u64 + 1).read_until(b'\n', &mut line)?;
-        if line.is_empty() {
-            return Ok(());
+    /// Answers a program until it ends.
+    fn attend(&self, program: &UnixStream) -> io::Result<()> {
+        let (mut lines, mut out) = (BufReader::new(program), program);
+        loop {
+            let mut line = Vec::new();
+            let length = lines.by_ref().take(LONGEST as u64 + 1).read_until(b'\n', &mut line)?;
+            let line = String::from_utf8_lossy(&line).trim_matches([' ', '\t', '\r', '\n']).to_string();
+            if length > LONGEST {
+                return writeln!(out, "{}", Form::of(&line).refusal("a line is too long"));
+            }
+            if !line.is_empty() {
+                let Some(answer) = self.ask(line) else { return Ok(()) };
+                out.write_all(format!("{answer}\n").as_bytes())?;
+            } else if length == 0 {
+                return Ok(());
+            }
         }
-        let is_long = line.len() > LONGEST;
-        let line = String::from_utf8_lossy(&line).trim_matches([' ', '\t', '\r', '\n']).to_string();
-        if is_long {
-            return out.write_all(format!("{}\n", Form::of(&line).refusal("a line is too long")).as_bytes());
-        }
-        if line.is_empty() {
-            continue;
-        }
-        let Some(answer) = desk.ask(line) else {
-            return Ok(());
-        };
-        out.write_all(format!("{answer}\n").as_bytes())?;
     }
-}
-
-fn listen(listener: &UnixListener, desk: &Desk) -> io::Result<()> {
-    for program in listener.incoming() {
-        let (program, desk) = (program?, desk.again()?);
-        // (a program that is gone isn't there to be told)
-        thread::spawn(move || attend(&program, &desk));
-    }
-    Ok(())
 }
 
 /// Removes the socket of a node that is gone.
@@ -110,10 +91,14 @@ impl Port {
         };
         let listener = open().map_err(|why| at_path(path, why))?;
         let ((call, calls), (look, looks)) = (mpsc::channel(), mpsc::channel());
-        let desk = Desk { calls: call, looks: look, bell };
+        let desk = Arc::new(Desk { calls: call, looks: look, bell });
         thread::spawn(move || {
-            if let Err(why) = listen(&listener, &desk) {
-                eprintln!("no program is answered any more: {why}");
+            for program in listener.incoming() {
+                match (program, Arc::clone(&desk)) {
+                    // (a program that is gone isn't there to be told)
+                    (Ok(program), desk) => drop(thread::spawn(move || desk.attend(&program))),
+                    (Err(why), _) => return eprintln!("no program is answered any more: {why}"),
+                }
             }
         });
         Ok(Self { path: path.to_path_buf(), calls, looks })
@@ -153,33 +138,28 @@ impl Port {
     }
 
     /// The answer to a call, and why the node stopped, if it did.
+    ///
+    /// A call that isn't answered surely did nothing if the node counts no operation more: one that it counts is in its
+    /// log, perhaps on the disk, and goes on where the node is resumed.
     fn answer<F: Front>(&self, node: &mut Node<F>, line: &str, end: &AtomicBool) -> (String, Result<(), Fault>) {
-        let form = Form::of(line);
-        match form.call(line, node.registers()) {
-            Ok(op) => {
-                let (ended, up) = self.end_of(node, op, end);
-                (form.answer(op, node.registers(), &ended), up)
+        let (form, called) = (Form::of(line), node.so_far().0);
+        let op = match form.call(line, node.registers()) {
+            Ok(op) => op,
+            Err(why) => return (form.refusal(&why), Ok(())),
+        };
+        let (ended, up) = match self.answered(node, op, end) {
+            Ok(answer) => (End::Answered(answer), Ok(())),
+            Err(why) => {
+                let words = match &why {
+                    Fault::Rung => "the node ends".to_string(),
+                    Fault::Refused(why) | Fault::Failed(why) => why.to_string(),
+                    why => why.to_string(),
+                };
+                let ended = if node.so_far().0 > called { End::Unknown(words) } else { End::Refused(words) };
+                (ended, if why.is_of_a_call() { Ok(()) } else { Err(why) })
             }
-            Err(why) => (form.refusal(&why), Ok(())),
-        }
-    }
-
-    /// Makes a call, and tells how it ended. Where it isn't answered it surely did nothing if the node counts no
-    /// operation more: one that it counts is in its log, perhaps on the disk, and goes on where the node is resumed.
-    fn end_of<F: Front>(&self, node: &mut Node<F>, op: Op, end: &AtomicBool) -> (End, Result<(), Fault>) {
-        let called = node.so_far().0;
-        let answered = self.answered(node, op, end).and_then(|answer| self.kept(node, end).map(|()| answer));
-        let why = match answered {
-            Ok(answer) => return (End::Answered(answer), Ok(())),
-            Err(why) => why,
         };
-        let words = match &why {
-            Fault::Rung => "the node ends".to_string(),
-            Fault::Refused(why) | Fault::Failed(why) => why.to_string(),
-            why => why.to_string(),
-        };
-        let ended = if node.so_far().0 > called { End::Unknown(words) } else { End::Refused(words) };
-        (ended, if why.is_of_a_call() { Ok(()) } else { Err(why) })
+        (form.answer(op, node.registers(), &ended), up)
     }
 
     /// The answer of this operation, unless the end is asked for. One that goes on is answered first, as where the node
@@ -190,8 +170,9 @@ impl Port {
             let answer = if node.so_far().1 { node.wait(None) } else { node.perform(op, None) };
             match answer {
                 Ok(_) if node.so_far().0 == called => {}
+                Ok(answer) => return self.kept(node, end).map(|()| answer),
                 Err(Fault::Rung) => self.tell_looks(node),
-                answer => return answer,
+                Err(why) => return Err(why),
             }
         }
         Err(Fault::Rung)
@@ -222,25 +203,23 @@ impl Drop for Port {
 ///
 /// Where nobody is there, or a stream fails.
 pub fn ask(path: &Path, lines: impl BufRead, mut out: impl Write) -> io::Result<()> {
-    let ended = || io::Error::new(io::ErrorKind::UnexpectedEof, "the node ended");
     let node = UnixStream::connect(path)?;
     let (mut told, mut send) = (BufReader::new(&node), &node);
     for line in lines.lines() {
         let line = line?;
         let line = line.trim();
-        if line.is_empty() {
-            continue;
+        let mut is_last = line.is_empty();
+        if !is_last {
+            send.write_all(format!("{line}\n").as_bytes())?;
         }
-        send.write_all(format!("{line}\n").as_bytes())?;
-        let is_last = |it: &str| line != "metrics" || it == "# EOF\n" || it.starts_with("refused: ");
-        let mut answer = String::new();
-        while answer.is_empty() || !is_last(&answer) {
-            answer.clear();
+        while !is_last {
+            let mut answer = String::new();
             told.read_line(&mut answer)?;
             if !answer.ends_with('\n') {
-                return Err(ended());
+                return Err(io::Error::new(io::ErrorKind::UnexpectedEof, "the node ended"));
             }
             out.write_all(answer.as_bytes())?;
+            is_last = line != "metrics" || answer == "# EOF\n" || answer.starts_with("refused: ");
         }
         out.flush()?;
     }

@@ -1,8 +1,11 @@
 //! Roads between nodes. A road may lose, repeat and reorder what it carries; what it must not do is invent it, and if
 //! it does the judge of the logs says so.
-use crate::complaints::Complaint;
+use crate::config::{Config, Options};
+use crate::fault::Fault;
 use crate::keys::Keys;
-use std::fmt;
+use crate::lossy::LossyRoad;
+use crate::message::Complaint;
+use crate::zeromq::ZeroMq;
 use std::io::{self, Read, Write};
 use std::net::IpAddr;
 use std::os::fd::{AsRawFd, RawFd};
@@ -10,42 +13,20 @@ use std::os::unix::net::UnixStream;
 use std::sync::Arc;
 use std::sync::atomic::{AtomicUsize, Ordering};
 use std::time::{Duration, Instant};
+use zmq::PollItem;
 
 /// How many messages are taken at once.
 pub const BATCH: usize = 64;
 
-/// Why there is no road.
-#[derive(Clone, Debug, PartialEq, Eq)]
-pub struct RoadFault(String);
-
-impl RoadFault {
-    pub(crate) fn new(why: impl Into<String>) -> Self {
-        Self(why.into())
-    }
-}
-
-impl fmt::Display for RoadFault {
-    fn fmt(&self, f: &mut fmt::Formatter<'_>) -> fmt::Result {
-        f.write_str(&self.0)
-    }
-}
-
-impl std::error::Error for RoadFault {}
-
-impl From<zmq::Error> for RoadFault {
-    fn from(why: zmq::Error) -> Self {
-        Self(why.to_string())
-    }
-}
-
-/// What came by a road.
+/// A message, with the process that its key names, where there are keys.
 #[derive(Debug)]
-pub enum Arrived {
-    /// A message, with the process that its key names, where there are keys.
-    Message { key: Option<u8>, bytes: Vec<u8> },
-    /// Something that was dropped.
-    Odd(Complaint),
+pub struct Message {
+    pub key: Option<u8>,
+    pub bytes: Vec<u8>,
 }
+
+/// What came by a road, or what was dropped there.
+pub type Arrived = Result<Message, Complaint>;
 
 /// Carries messages to the other nodes, and from them. Nothing waits on a road: what finds no room or no connection is
 /// dropped, and is put again by a tick.
@@ -57,15 +38,33 @@ pub trait Road {
     fn send(&mut self, to: u8, message: &[u8]);
 
     /// Waits until something comes, the bell rings or the time is up, and tells whether the bell rang.
-    fn receive(&mut self, wait: Option<Duration>, into: &mut Vec<Arrived>) -> Result<bool, RoadFault>;
+    fn receive(&mut self, wait: Option<Duration>, into: &mut Vec<Arrived>) -> Result<bool, Fault>;
 
-    /// When something is due that was kept back.
-    fn due(&self) -> Option<Instant> {
+    /// Sends what was kept back until now, and tells when something is due next.
+    fn pump(&mut self, _now: Instant) -> Option<Instant> {
         None
     }
+}
 
-    /// Sends what was kept back until now.
-    fn pump(&mut self, _now: Instant) {}
+/// The road that the addresses of the configuration name.
+pub fn road_of(config: &Config, options: &Options, bell: Bell) -> Result<Box<dyn Road>, Fault> {
+    let addresses: Vec<String> = config.nodes.iter().map(|it| it.address.clone()).collect();
+    let keys = Keys::of(config, options)?;
+    // (without keys only loopback addresses are taken)
+    if let Some(address) = addresses.iter().find(|it| keys.is_none() && !is_loopback(it)) {
+        return Err(Fault::Road(format!("{address} is no loopback address: between machines give keys")));
+    }
+    let road: Box<dyn Road> = match addresses[usize::from(options.me)].starts_with("udp://") {
+        false => Box::new(ZeroMq::open(options.me, &addresses, keys, bell)?),
+        #[cfg(feature = "datagrams")]
+        true => Box::new(crate::datagrams::Datagrams::open(options.me, &addresses, keys, bell)?),
+        #[cfg(not(feature = "datagrams"))]
+        true => return Err(Fault::Road("this program was built without datagrams".to_string())),
+    };
+    Ok(match options.losses {
+        Some(losses) => Box::new(LossyRoad::new(road, losses, options.me)),
+        None => road,
+    })
 }
 
 /// By it a node is woken that waits on a road.
@@ -119,8 +118,16 @@ impl Ringer {
 }
 
 /// The milliseconds of a poll, rounded up; -1 is for ever.
-pub fn milliseconds(wait: Option<Duration>) -> i64 {
+fn milliseconds(wait: Option<Duration>) -> i64 {
     wait.map_or(-1, |it| i64::try_from(it.as_micros().div_ceil(1000)).unwrap_or(i64::MAX))
+}
+
+/// Waits until one of these is ready, or the time is up.
+pub fn poll(items: &mut [PollItem<'_>], wait: Option<Duration>) -> Result<(), Fault> {
+    match zmq::poll(items, milliseconds(wait)) {
+        Ok(_) | Err(zmq::Error::EINTR) => Ok(()),
+        Err(why) => Err(why.into()),
+    }
 }
 
 fn is_loopback(address: &str) -> bool {
@@ -128,14 +135,6 @@ fn is_loopback(address: &str) -> bool {
     let host = rest.rsplit_once(':').map_or(rest, |(host, _)| host);
     // (a name, or a star, is no number)
     scheme == "ipc" || host.trim_matches(['[', ']']).parse().is_ok_and(|it: IpAddr| it.is_loopback())
-}
-
-/// Without keys only loopback addresses are taken.
-pub fn check_addresses(addresses: &[String], keys: Option<&Keys>) -> Result<(), RoadFault> {
-    match addresses.iter().find(|it| keys.is_none() && !is_loopback(it)) {
-        Some(address) => Err(RoadFault(format!("{address} is no loopback address: between machines give keys"))),
-        None => Ok(()),
-    }
 }
 
 #[cfg(test)]

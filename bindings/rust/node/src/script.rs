@@ -2,7 +2,6 @@
 use crate::calls::{Form, answer_line};
 use crate::fault::Fault;
 use crate::node::Node;
-use std::fmt;
 use std::io::Write;
 use std::time::{Duration, Instant};
 use tellwydar::{Answer, Front, Op};
@@ -18,21 +17,6 @@ enum Line {
 #[derive(Clone, Debug, PartialEq, Eq)]
 pub struct Script(Vec<Line>);
 
-/// The first line that says no call.
-#[derive(Clone, Debug, PartialEq, Eq)]
-pub struct ScriptFault {
-    /// From 1.
-    pub line: usize,
-}
-
-impl fmt::Display for ScriptFault {
-    fn fmt(&self, f: &mut fmt::Formatter<'_>) -> fmt::Result {
-        write!(f, "line {}: no call of a register of this cluster", self.line)
-    }
-}
-
-impl std::error::Error for ScriptFault {}
-
 fn line(text: &str, registers: &[String]) -> Option<Line> {
     if let Ok(op) = Form::Words.call(text, registers) {
         return Some(Line::Call(op));
@@ -43,11 +27,16 @@ fn line(text: &str, registers: &[String]) -> Option<Line> {
 
 impl Script {
     /// The script of this text, over registers of these names. Empty lines, and those that begin with `#`, say nothing.
-    pub fn parse(text: &str, registers: &[String]) -> Result<Self, ScriptFault> {
+    ///
+    /// # Errors
+    ///
+    /// The first line that says no call.
+    pub fn parse(text: &str, registers: &[String]) -> Result<Self, Fault> {
         let is_said = |it: &str| !it.trim().is_empty() && !it.trim_start().starts_with('#');
+        let none = |number| Fault::Config(format!("line {number}: no call of a register of this cluster"));
         let lines = text.lines().zip(1..).filter(|(text, _)| is_said(text));
         lines
-            .map(|(text, number)| line(text, registers).ok_or(ScriptFault { line: number }))
+            .map(|(text, number)| line(text, registers).ok_or_else(|| none(number)))
             .collect::<Result<_, _>>()
             .map(Self)
     }
@@ -111,7 +100,7 @@ mod tests {
             Line::Call(Op::Swap { register: 1, value: u64::MAX }),
             Line::Call(Op::CompareAndSwap { register: 0, expected: 0, value: 7 }),
         ];
-        assert_eq!(script, Ok(Script(calls)));
+        assert_eq!(script.expect("a script"), Script(calls));
         for text in [
             "read z",
             "write x",
@@ -122,7 +111,8 @@ mod tests {
             "add x 1",
             "read x 1",
         ] {
-            assert_eq!(Script::parse(&format!("read x\n{text}\n"), &names), Err(ScriptFault { line: 2 }), "{text}");
+            let told = Script::parse(&format!("read x\n{text}\n"), &names).expect_err(text).to_string();
+            assert_eq!(told, "line 2: no call of a register of this cluster");
         }
     }
 }

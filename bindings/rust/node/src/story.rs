@@ -1,16 +1,14 @@
 //! Where one node is: its chapter with its log, and the chapters before. All that a chapter is, is in its log, so a node
 //! that was killed is made again. It needs the logs of its last two chapters, and no others.
+use crate::config::Options;
 use crate::disk::{Disk, Job, Wait};
 use crate::fault::Fault;
-use crate::log_file::LogFile;
+use crate::log_file::{LogFile, called_up_to, last_chapter, log_of, quiet_of};
 use crate::log_text;
-use crate::options::Options;
-use files::{called_up_to, drawn, last_chapter, log_of, quiet_of};
-use std::io;
+use std::fs::File;
+use std::io::{self, Read};
 use std::path::{Path, PathBuf};
-use tellwydar::{LogHead, LoggedNode, Look, Op, Output, Refused, Room};
-
-mod files;
+use tellwydar::{LogHead, LoggedNode, Op, Output, Refused, Room};
 
 /// So many entries may be unwritten while the disk writes, of reads that were answered at once.
 const MOST_UNWRITTEN: u64 = 128;
@@ -18,15 +16,15 @@ const MOST_UNWRITTEN: u64 = 128;
 /// How a node's last chapter ended, for those who don't know it yet.
 #[derive(Debug)]
 pub struct Ended {
-    pub begun: u64,
+    pub head: LogHead,
     /// The bytes that tell how far it came.
     pub state: Vec<u8>,
 }
 
-/// What a chapter is, up to some entry of its log.
-struct Chapter {
-    head: LogHead,
-    node: LoggedNode,
+/// A chapter up to some entry of its log.
+pub struct Chapter {
+    pub head: LogHead,
+    pub node: LoggedNode,
     /// How many entries there are, how many of them are written, and of how many what went out is handed out.
     entries: u64,
     written: u64,
@@ -35,7 +33,8 @@ struct Chapter {
     durable: u64,
     /// So many have to be, before anything else goes out: behind these are only reads that were answered at once.
     owed: u64,
-    is_running: bool,
+    /// Whether an operation goes on, or its reply isn't handed out yet.
+    pub is_running: bool,
     is_said_quiet: bool,
 }
 
@@ -43,15 +42,14 @@ struct Chapter {
 pub struct Story {
     path: PathBuf,
     room: Room,
-    chapter: Chapter,
+    pub chapter: Chapter,
     sync: bool,
-    /// Entries that weren't given to the disk yet, and room for others while it has these.
+    /// Entries that weren't given to the disk yet.
     lines: Vec<u8>,
-    spare: Vec<u8>,
     disk: Disk,
     /// The chapter whose log is begun.
     next: Option<LogHead>,
-    before: Before,
+    pub before: Before,
 }
 
 /// What the disk has done.
@@ -64,12 +62,12 @@ pub enum Done {
 
 /// What the chapters before have left.
 #[derive(Default)]
-struct Before {
+pub struct Before {
     /// How many operations their callers called.
     called: u64,
     /// The values that the last one ended with.
     values: Vec<u64>,
-    ended: Option<Ended>,
+    pub ended: Option<Ended>,
 }
 
 impl Chapter {
@@ -77,20 +75,76 @@ impl Chapter {
     fn of(head: &LogHead, path: &Path, text: &[u8]) -> Result<Self, Fault> {
         let node = log_text::open(path, text)?;
         let found = log_text::head(path, text)?;
-        if let Some(what) = log_text::differs(&found, head) {
-            return Err(Fault::OtherLog(format!("{} is of {what}", path.display())));
+        if let Some((found, wanted)) = log_text::differs(&found, head) {
+            return Err(Fault::OtherLog(format!("{} is of {found}, and this node of {wanted}", path.display())));
         }
-        Ok(Self {
-            head: found,
-            entries: node.logged(),
-            written: node.logged(),
-            handed: node.logged(),
-            durable: node.logged(),
-            owed: node.logged(),
-            is_running: node.busy(),
-            node,
-            is_said_quiet: false,
-        })
+        let (entries, is_running) = (node.logged(), node.busy());
+        let (written, handed, durable, owed) = (entries, entries, entries, entries);
+        Ok(Self { head: found, node, entries, written, handed, durable, owed, is_running, is_said_quiet: false })
+    }
+
+    /// Whether the operation that goes on has a reply, which isn't handed out yet.
+    pub fn is_answered(&self) -> bool {
+        self.is_running && !self.node.busy()
+    }
+
+    /// Whether all entries are written.
+    pub fn is_written(&self) -> bool {
+        self.written == self.entries
+    }
+
+    /// Whether what went out of all entries is handed out.
+    pub fn is_handed_out(&self) -> bool {
+        self.handed == self.entries
+    }
+
+    /// Whether all entries are written whose frames and answers were handed out.
+    pub fn is_kept(&self) -> bool {
+        self.handed <= self.written
+    }
+
+    /// Whether something has to be durable before anything else goes out.
+    pub fn is_owing(&self) -> bool {
+        self.durable < self.owed
+    }
+
+    /// Whether this node calls nothing more in this chapter, and no operation goes on.
+    pub fn is_quiet(&self) -> bool {
+        self.node.is_quiet(self.is_running)
+    }
+
+    /// Whether the values that the last chapter ended with aren't all written here: then nothing else is called.
+    pub fn is_opening(&self) -> bool {
+        self.node.is_opening(self.is_running)
+    }
+
+    /// The bytes that tell the others how far this node has come.
+    pub fn tell_state(&mut self) -> Result<Vec<u8>, Refused> {
+        let is_quiet = self.is_quiet();
+        self.node.tell_state(is_quiet).map(<[u8]>::to_vec)
+    }
+
+    /// Another node told how far it has come: somebody has little room left.
+    pub fn heard_state(&mut self, sender: u8, bytes: &[u8]) -> Result<(), Refused> {
+        self.node.hear_state(sender, bytes)?;
+        self.node.end();
+        Ok(())
+    }
+
+    /// What goes out of the steps so far may be handed out, as far as they are durable.
+    pub fn let_out(&mut self) -> Result<(), Refused> {
+        self.node.mark_durable(if self.is_owing() { self.durable } else { self.entries })
+    }
+
+    /// What goes out of the next step, if there is one and it may.
+    pub fn hand_out(&mut self) -> Result<Option<Output<'_>>, Refused> {
+        if self.is_handed_out() {
+            return Ok(None);
+        }
+        let output = self.node.hand_out()?;
+        self.handed += u64::from(output.is_some());
+        self.is_running &= output.as_ref().is_none_or(|it| it.reply.is_none());
+        Ok(output)
     }
 }
 
@@ -118,60 +172,7 @@ impl Story {
             chapter.node.end();
         }
         let (path, disk) = (path.to_path_buf(), start(log)?);
-        Ok(Self { path, room, chapter, sync, lines: Vec::new(), spare: Vec::new(), disk, next: None, before })
-    }
-
-    pub fn head(&self) -> &LogHead {
-        &self.chapter.head
-    }
-
-    /// Its node, to look at.
-    pub fn node(&self) -> &LoggedNode {
-        &self.chapter.node
-    }
-
-    /// Whether an operation goes on, or its reply isn't handed out yet.
-    pub fn is_running(&self) -> bool {
-        self.chapter.is_running
-    }
-
-    /// Whether nothing more is called in this chapter.
-    pub fn is_ending(&self) -> bool {
-        self.node().is_ending()
-    }
-
-    /// Whether so many casts of this node are on their way that no other is made.
-    pub fn is_far_ahead(&self) -> bool {
-        self.node().is_far_ahead()
-    }
-
-    /// Whether the operation that goes on has a reply, which isn't handed out yet.
-    pub fn is_answered(&self) -> bool {
-        self.is_running() && !self.node().busy()
-    }
-
-    /// Whether what went out of all entries is handed out.
-    pub fn is_handed_out(&self) -> bool {
-        self.chapter.handed == self.chapter.entries
-    }
-
-    /// Whether the disk has nothing to do, all entries are written, and what went out of them is handed out.
-    pub fn is_done(&self) -> bool {
-        !self.is_busy() && self.is_written() && self.is_handed_out()
-    }
-
-    pub fn is_written(&self) -> bool {
-        self.chapter.written == self.chapter.entries
-    }
-
-    /// Whether all entries are written whose frames and answers were handed out.
-    pub fn is_kept(&self) -> bool {
-        self.chapter.handed <= self.chapter.written
-    }
-
-    /// Whether something has to be durable before anything else goes out.
-    pub fn is_owing(&self) -> bool {
-        self.chapter.durable < self.chapter.owed
+        Ok(Self { path, room, chapter, sync, lines: Vec::new(), disk, next: None, before })
     }
 
     /// Whether the disk has something to do.
@@ -182,15 +183,20 @@ impl Story {
     /// Whether the disk has something to do that is waited for. Until it ends no step is made.
     pub fn is_writing(&self) -> bool {
         let unwritten = self.chapter.entries - self.chapter.written;
-        self.is_busy() && (self.is_owing() || unwritten >= MOST_UNWRITTEN || self.next.is_some())
+        self.is_busy() && (self.chapter.is_owing() || unwritten >= MOST_UNWRITTEN || self.next.is_some())
+    }
+
+    /// Whether the disk has nothing to do, all entries are written, and what went out of them is handed out.
+    pub fn is_done(&self) -> bool {
+        !self.is_busy() && self.chapter.is_written() && self.chapter.is_handed_out()
     }
 
     /// Calls an operation. As of each step, its entry is to be written.
     pub fn call(&mut self, op: Op) -> Result<(), Refused> {
-        let (owed, is_owing) = (self.chapter.owed, self.is_owing());
+        let (owed, is_owing) = (self.chapter.owed, self.chapter.is_owing());
         self.step(|node| node.call(op))?;
         self.chapter.is_running = true;
-        if matches!(op, Op::Read { .. }) && !self.node().busy() && !is_owing {
+        if matches!(op, Op::Read { .. }) && !self.chapter.node.busy() && !is_owing {
             // (it is answered at once and puts no frame, and what it read of is durable: nobody can miss its entry)
             self.chapter.owed = owed;
         }
@@ -207,107 +213,29 @@ impl Story {
 
     /// Has the disk, which has nothing to do, begin to write all entries, and with `force` have them on it.
     pub fn begin_write(&mut self, force: bool) -> io::Result<()> {
-        let lines = std::mem::replace(&mut self.lines, std::mem::take(&mut self.spare));
+        let lines = std::mem::take(&mut self.lines);
         self.disk.begin(Job::Write { lines, entries: self.chapter.entries, force })
     }
 
     /// What the disk is done with, if it is within this time.
     pub fn done(&mut self, wait: Wait) -> Result<Option<Done>, Fault> {
-        let Some(job) = self.disk.end(wait)? else { return Ok(None) };
-        match job {
-            Job::Write { lines, entries, force } => {
-                self.spare = lines;
+        match self.disk.end(wait)? {
+            None => return Ok(None),
+            Some(Job::Write { entries, force, .. }) => {
                 self.chapter.written = entries;
                 if force || !self.sync {
                     self.chapter.durable = entries;
                 }
             }
-            Job::Quiet { .. } => self.chapter.is_said_quiet = true,
-            Job::Turn { path, text } => return self.turned(&path, &text).map(|()| Some(Done::Turned)),
+            Some(Job::Quiet { .. }) => self.chapter.is_said_quiet = true,
+            Some(Job::Turn { path, text }) => return self.turned(&path, &text).map(|()| Some(Done::Turned)),
         }
         Ok(Some(Done::Kept))
     }
 
-    /// What goes out of the steps so far may be handed out, as far as they are durable.
-    pub fn let_out(&mut self) -> Result<(), Refused> {
-        let count = if self.is_owing() { self.chapter.durable } else { self.chapter.entries };
-        self.chapter.node.mark_durable(count)
-    }
-
-    /// What goes out of the next step, if there is one and it may.
-    pub fn hand_out(&mut self) -> Result<Option<Output<'_>>, Refused> {
-        if self.is_handed_out() {
-            return Ok(None);
-        }
-        let output = self.chapter.node.hand_out()?;
-        self.chapter.handed += u64::from(output.is_some());
-        self.chapter.is_running &= output.as_ref().is_none_or(|it| it.reply.is_none());
-        Ok(output)
-    }
-
-    /// Another process accepted so many bodies.
-    pub fn hear(&mut self, process: u8, accepted: u64) -> Result<(), Fault> {
-        self.chapter.node.hear(process, accepted).map_err(|why| match why {
-            Refused::LogLost => {
-                let queued = self.chapter.node.known(process).next;
-                let why = format!("process {process} accepted {accepted} bodies, and it has {queued}");
-                Fault::LogLost(format!("the log was lost: {why}"))
-            }
-            why => why.into(),
-        })
-    }
-
-    /// Looks at another process, and tells what is due.
-    pub fn watch(&mut self, process: u8) -> Look {
-        self.chapter.node.watch(process)
-    }
-
-    /// Something came from another process.
-    pub fn came(&mut self, process: u8) {
-        self.chapter.node.came(process);
-    }
-
-    /// How the last chapter ended.
-    pub fn ended(&self) -> Option<&Ended> {
-        self.before.ended.as_ref()
-    }
-
-    /// Whether this node calls nothing more in this chapter, and no operation goes on.
-    pub fn is_quiet(&self) -> bool {
-        self.node().is_quiet(self.is_running())
-    }
-
-    /// The bytes that tell the others how far this node has come in its chapter.
-    pub fn tell_state(&mut self) -> Result<Vec<u8>, Refused> {
-        let is_quiet = self.is_quiet();
-        self.chapter.node.tell_state(is_quiet).map(<[u8]>::to_vec)
-    }
-
-    /// Whether the values that the last chapter ended with aren't all written here: then nothing else is called.
-    pub fn is_opening(&self) -> bool {
-        self.node().is_opening(self.is_running())
-    }
-
-    /// What this node writes next of what the last chapter ended with.
-    pub fn next_opening(&self) -> Option<Op> {
-        self.node().next_opening()
-    }
-
     /// How many operations its caller has called, in earlier runs too.
     pub fn called(&self) -> u64 {
-        self.before.called + self.node().own_calls()
-    }
-
-    /// Whether the operation that was called last is its caller's.
-    pub fn is_own(&self) -> bool {
-        self.node().own_calls() > 0
-    }
-
-    /// Another node told how far it has come: somebody has little room left.
-    pub fn heard_state(&mut self, sender: u8, bytes: &[u8]) -> Result<(), Refused> {
-        self.chapter.node.hear_state(sender, bytes)?;
-        self.chapter.node.end();
-        Ok(())
+        self.before.called + self.chapter.node.own_calls()
     }
 
     /// Before it is told that this node calls nothing more in this chapter, that is kept for when it is resumed, behind
@@ -316,24 +244,25 @@ impl Story {
         if self.chapter.is_said_quiet {
             return Ok(false);
         }
-        let path = quiet_of(&log_of(&self.path, self.head().chapter));
+        let path = quiet_of(&log_of(&self.path, self.chapter.head.chapter));
         self.disk.begin(Job::Quiet { path, called: self.called() }).map(|()| true)
     }
 
     /// Where this chapter is over the disk begins with what is to be done before the next one begins. Tells whether it
     /// has begun.
     pub fn begin_turn(&mut self) -> Result<bool, Fault> {
-        if !self.is_ending() {
+        if !self.chapter.node.is_ending() {
             return Ok(false);
         }
-        self.tell_state()?;
-        if !self.node().is_over() {
+        self.chapter.tell_state()?;
+        if !self.chapter.node.is_over() {
             return Ok(false);
         }
         if self.begin_quiet()? {
             return Ok(true);
         }
-        let head = LogHead { chapter: self.head().chapter + 1, begun: drawn()?, ..self.head().clone() };
+        let last = &self.chapter.head;
+        let head = LogHead { chapter: last.chapter + 1, begun: drawn()?, ..last.clone() };
         let (path, text) = (log_of(&self.path, head.chapter), LoggedNode::begin(&head)?);
         self.next = Some(head);
         self.disk.begin(Job::Turn { path, text })?;
@@ -362,13 +291,18 @@ impl Before {
     }
 
     /// A chapter is over: what the next one begins with, and what is told to those who don't know it yet.
-    fn end(&mut self, chapter: &mut Chapter) -> Result<(), Refused> {
-        self.called += chapter.node.own_calls();
-        let state = chapter.node.tell_state(true)?.to_vec();
-        self.ended = Some(Ended { begun: chapter.head.begun, state });
-        self.values = (0..chapter.head.names.len() as u16).map(|it| chapter.node.register(it)).collect();
+    fn end(&mut self, Chapter { head, node, .. }: &mut Chapter) -> Result<(), Refused> {
+        self.called += node.own_calls();
+        self.ended = Some(Ended { head: head.clone(), state: node.tell_state(true)?.to_vec() });
+        self.values = (0..head.names.len() as u16).map(|it| node.register(it)).collect();
         Ok(())
     }
+}
+
+fn drawn() -> Result<u64, Fault> {
+    let mut bytes = [0; 8];
+    File::open("/dev/urandom")?.read_exact(&mut bytes)?;
+    Ok(u64::from_be_bytes(bytes))
 }
 
 /// Begins a chapter in a file of its own.

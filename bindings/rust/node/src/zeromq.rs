@@ -2,11 +2,12 @@
 //!
 //! With keys (CURVE) both ends are known: the listener lets in only keys of its list, and the key says which process a
 //! message is from; the sender talks only to the key that it was told.
-use crate::complaints::{Complaint, Kind};
+use crate::fault::Fault;
 use crate::keys::Keys;
-use crate::road::{Arrived, BATCH, Bell, Road, RoadFault, check_addresses, milliseconds};
+use crate::message::{Complaint, Kind};
+use crate::road::{Arrived, BATCH, Bell, Message, Road, poll};
 use std::time::Duration;
-use zmq::{Context, DONTWAIT, POLLIN, PollItem, Socket};
+use zmq::{Context, DONTWAIT, POLLIN, PollItem, Socket, SocketType};
 
 const MOST_BYTES: usize = 4096;
 /// Messages to or from one peer.
@@ -25,7 +26,17 @@ pub struct ZeroMq {
     unpolled: u32,
 }
 
-fn limit(socket: &Socket, is_ipv6: bool) -> Result<(), zmq::Error> {
+/// What is received, if there is something.
+fn there<T>(received: Result<T, zmq::Error>) -> Result<Option<T>, zmq::Error> {
+    match received {
+        Err(zmq::Error::EAGAIN) => Ok(None),
+        received => received.map(Some),
+    }
+}
+
+/// A socket within its limits.
+fn socket(context: &Context, kind: SocketType, is_ipv6: bool) -> Result<Socket, zmq::Error> {
+    let socket = context.socket(kind)?;
     socket.set_linger(0)?;
     socket.set_maxmsgsize(MOST_BYTES as i64)?;
     socket.set_sndhwm(MOST_QUEUED)?;
@@ -35,7 +46,8 @@ fn limit(socket: &Socket, is_ipv6: bool) -> Result<(), zmq::Error> {
     socket.set_heartbeat_timeout(6000)?;
     socket.set_reconnect_ivl(50)?;
     socket.set_reconnect_ivl_max(2000)?;
-    socket.set_ipv6(is_ipv6)
+    socket.set_ipv6(is_ipv6)?;
+    Ok(socket)
 }
 
 impl ZeroMq {
@@ -43,111 +55,79 @@ impl ZeroMq {
     ///
     /// # Errors
     ///
-    /// Without keys where an address isn't of loopback; and where the own one can't be listened to.
-    pub fn open(me: u8, addresses: &[String], keys: Option<Keys>, bell: Bell) -> Result<Self, RoadFault> {
-        check_addresses(addresses, keys.as_ref())?;
+    /// Where the own address can't be listened to, or another one is none.
+    pub fn open(me: u8, addresses: &[String], keys: Option<Keys>, bell: Bell) -> Result<Self, Fault> {
         let is_ipv6 = addresses.iter().any(|it| it.contains('['));
-        let context = Context::new();
+        let (context, own) = (Context::new(), usize::from(me));
+        let failed = |at: usize| move |why| Fault::Road(format!("{}: {why}", addresses[at]));
         let door = context.socket(zmq::REP)?;
         door.set_linger(0)?;
         door.bind("inproc://zeromq.zap.01")?;
-        let pull = listener(&context, &addresses[usize::from(me)], keys.as_ref(), is_ipv6)?;
+        let pull = socket(&context, zmq::PULL, is_ipv6)?;
+        pull.set_zap_domain("tellwydar")?;
+        if let Some(keys) = &keys {
+            pull.set_curve_server(true)?;
+            pull.set_curve_secretkey(&keys.secret.0)?;
+        }
+        pull.bind(&addresses[own]).map_err(failed(own))?;
         let mut push = Vec::new();
-        for (at, address) in addresses.iter().enumerate() {
-            let is_other = at != usize::from(me);
-            push.push(
-                is_other.then(|| sender(&context, address, keys.as_ref(), (me.into(), at), is_ipv6)).transpose()?,
-            );
+        for at in 0..addresses.len() {
+            if at == own {
+                push.push(None);
+                continue;
+            }
+            let sender = socket(&context, zmq::PUSH, is_ipv6)?;
+            // (nothing is kept for a peer that isn't there)
+            sender.set_immediate(true)?;
+            if let Some(keys) = &keys {
+                sender.set_curve_secretkey(&keys.secret.0)?;
+                sender.set_curve_publickey(&keys.known[own].0)?;
+                sender.set_curve_serverkey(&keys.known[at].0)?;
+            }
+            sender.connect(&addresses[at]).map_err(failed(at))?;
+            push.push(Some(sender));
         }
         Ok(Self { pull, door, push, keys, bell, unpolled: 0 })
     }
 
     /// Takes what is there, and tells whether that was anything.
-    fn take(&mut self, into: &mut Vec<Arrived>) -> Result<bool, RoadFault> {
+    fn take(&mut self, into: &mut Vec<Arrived>) -> Result<bool, Fault> {
         let before = into.len();
         while into.len() < before + BATCH {
-            let mut message = match self.pull.recv_msg(DONTWAIT) {
-                Ok(message) => message,
-                Err(zmq::Error::EAGAIN) => break,
-                Err(why) => return Err(why.into()),
-            };
+            let Some(mut message) = there(self.pull.recv_msg(DONTWAIT))? else { break };
             if message.get_more() {
-                into.push(Arrived::Odd(Complaint {
-                    kind: Kind::Parts,
-                    text: "a message of several parts is dropped".to_string(),
-                }));
+                let text = "a message of several parts is dropped".to_string();
+                into.push(Err(Complaint { kind: Kind::Parts, text }));
                 while self.pull.get_rcvmore()? {
                     self.pull.recv_msg(DONTWAIT)?;
                 }
                 continue;
             }
-            let key = match self.keys {
-                Some(_) => message.gets("User-Id").and_then(|it| it.parse().ok()),
-                None => None,
-            };
+            let key = self.keys.as_ref().and_then(|_| message.gets("User-Id")?.parse().ok());
             if self.keys.is_none() || key.is_some() {
-                into.push(Arrived::Message { key, bytes: message.to_vec() });
+                into.push(Ok(Message { key, bytes: message.to_vec() }));
             }
         }
         Ok(into.len() > before)
     }
 
     /// Says who may come in.
-    fn answer(&mut self, into: &mut Vec<Arrived>) -> Result<(), RoadFault> {
-        let parts = match self.door.recv_multipart(DONTWAIT) {
-            Ok(parts) => parts,
-            Err(zmq::Error::EAGAIN) => return Ok(()),
-            Err(why) => return Err(why.into()),
-        };
+    fn answer(&mut self, into: &mut Vec<Arrived>) -> Result<(), Fault> {
+        let Some(parts) = there(self.door.recv_multipart(DONTWAIT))? else { return Ok(()) };
         let part = |at: usize| parts.get(at).map_or(b"".as_slice(), Vec::as_slice);
         let who = match (&self.keys, part(5)) {
             (None, b"NULL") => Some("-".to_string()),
-            (Some(keys), b"CURVE") => {
-                keys.known.iter().position(|it| it.0.as_slice() == part(6)).map(|it| it.to_string())
-            }
+            (Some(keys), b"CURVE") => keys.known.iter().position(|it| it.0 == part(6)).map(|it| it.to_string()),
             _ => None,
         };
         let (code, word) = if who.is_some() { ("200", "") } else { ("400", "unknown") };
         if who.is_none() {
             let text = format!("{}: no known key; refused", String::from_utf8_lossy(part(3)));
-            into.push(Arrived::Odd(Complaint { kind: Kind::Key, text }));
+            into.push(Err(Complaint { kind: Kind::Key, text }));
         }
         let who = who.unwrap_or_default();
         Ok(self.door.send_multipart([part(0), part(1), code.as_bytes(), word.as_bytes(), who.as_bytes(), b""], 0)?)
     }
-}
-
-fn listener(context: &Context, address: &str, keys: Option<&Keys>, is_ipv6: bool) -> Result<Socket, RoadFault> {
-    let pull = context.socket(zmq::PULL)?;
-    limit(&pull, is_ipv6)?;
-    pull.set_zap_domain("tellwydar")?;
-    if let Some(keys) = keys {
-        pull.set_curve_server(true)?;
-        pull.set_curve_secretkey(&keys.secret.0)?;
-    }
-    pull.bind(address).map_err(|why| RoadFault::new(format!("{address}: {why}")))?;
-    Ok(pull)
-}
-
-/// From the process `ends.0` to `ends.1`.
-fn sender(
-    context: &Context,
-    address: &str,
-    keys: Option<&Keys>,
-    ends: (usize, usize),
-    is_ipv6: bool,
-) -> Result<Socket, RoadFault> {
-    let push = context.socket(zmq::PUSH)?;
-    limit(&push, is_ipv6)?;
-    // (nothing is kept for a peer that isn't there)
-    push.set_immediate(true)?;
-    if let Some(keys) = keys {
-        push.set_curve_secretkey(&keys.secret.0)?;
-        push.set_curve_publickey(&keys.known[ends.0].0)?;
-        push.set_curve_serverkey(&keys.known[ends.1].0)?;
-    }
-    push.connect(address).map_err(|why| RoadFault::new(format!("{address}: {why}")))?;
-    Ok(push)
 }
 
 impl Road for ZeroMq {
@@ -162,7 +142,7 @@ impl Road for ZeroMq {
         }
     }
 
-    fn receive(&mut self, wait: Option<Duration>, into: &mut Vec<Arrived>) -> Result<bool, RoadFault> {
+    fn receive(&mut self, wait: Option<Duration>, into: &mut Vec<Arrived>) -> Result<bool, Fault> {
         let has_some = self.take(into)?;
         if has_some && self.unpolled < MOST_UNPOLLED {
             self.unpolled += 1;
@@ -174,11 +154,7 @@ impl Road for ZeroMq {
             self.door.as_poll_item(POLLIN),
             PollItem::from_fd(self.bell.descriptor(), POLLIN),
         ];
-        let wait = if has_some { Some(Duration::ZERO) } else { wait };
-        match zmq::poll(&mut items, milliseconds(wait)) {
-            Ok(_) | Err(zmq::Error::EINTR) => {}
-            Err(why) => return Err(why.into()),
-        }
+        poll(&mut items, if has_some { Some(Duration::ZERO) } else { wait })?;
         let [pull, door, bell] = items.map(|it| it.is_readable());
         if door {
             self.answer(into)?;

@@ -2,7 +2,7 @@
 use super::*;
 use crate::disk::Act;
 use crate::port::Port;
-use crate::road::RoadFault;
+use crate::road::Message;
 use cluster::*;
 use std::fs;
 use std::io::{BufRead, BufReader, Write};
@@ -241,8 +241,8 @@ impl Road for Flood {
 
     fn send(&mut self, _: u8, _: &[u8]) {}
 
-    fn receive(&mut self, _: Option<Duration>, into: &mut Vec<Arrived>) -> Result<bool, RoadFault> {
-        into.extend((0..64).map(|_| Arrived::Message { key: None, bytes: vec![0; 100] }));
+    fn receive(&mut self, _: Option<Duration>, into: &mut Vec<Arrived>) -> Result<bool, Fault> {
+        into.extend((0..64).map(|_| Ok(Message { key: None, bytes: vec![0; 100] })));
         Ok(false)
     }
 }

@@ -2,34 +2,36 @@
 use super::Node;
 use crate::disk::Wait;
 use crate::fault::Fault;
-use crate::message::{Brings, Meeting, begin};
-use tellwydar::{Front, Refused};
+use crate::message::{Meeting, message};
+use crate::story::Ended;
+use tellwydar::{Brings, Front, Refused, message_start};
 
 impl<F: Front> Node<F> {
     /// Tells the others at once that this chapter ends, and that this node is at rest: what it tells, it knows too when
     /// it is resumed.
     pub(super) fn tell_end(&mut self) -> Result<(), Fault> {
-        if !self.story.is_ending() || !self.story.is_handed_out() {
+        if !self.story.chapter.node.is_ending() || !self.story.chapter.is_handed_out() {
             return Ok(());
         }
         self.commit()?;
         // (the next chapter may have begun)
-        if !self.story.is_ending() || !self.story.is_done() {
+        if !self.story.chapter.node.is_ending() || !self.story.is_done() {
             return Ok(());
         }
-        let state = self.story.tell_state()?;
-        let is_end = self.story.is_quiet() && self.story.node().pending() == 0;
+        let chapter = &mut self.story.chapter;
+        let state = chapter.tell_state()?;
+        let is_end = chapter.is_quiet() && chapter.node.pending() == 0;
         let is_new = self.told.is_none() || is_end && self.told.as_ref() != Some(&state);
         if is_new { self.tell_state(state) } else { Ok(()) }
     }
 
     /// Tells all others how far this node has come, once the disk has what is kept of that.
     fn tell_state(&mut self, state: Vec<u8>) -> Result<(), Fault> {
-        if self.story.is_quiet() && self.story.begin_quiet()? && !self.settle(Wait::Briefly)? {
+        if self.story.chapter.is_quiet() && self.story.begin_quiet()? && !self.settle(Wait::Briefly)? {
             return Ok(());
         }
         for to in self.others() {
-            self.road.send(to, &[&begin(&self.meeting.start(to), Brings::State)[..], &state].concat());
+            self.road.send(to, &self.meeting.message(to, Brings::State, &state));
         }
         self.told = Some(state);
         Ok(())
@@ -37,9 +39,8 @@ impl<F: Front> Node<F> {
 
     /// Tells one that is still in the last chapter how far this node came there.
     pub(super) fn tell_last(&mut self, to: u8) -> Result<(), Fault> {
-        if let Some(ended) = self.story.ended() {
-            let start = self.meeting.start_of(to, ended.begun, self.story.head().chapter - 1)?;
-            self.road.send(to, &[&begin(&start, Brings::State)[..], &ended.state].concat());
+        if let Some(Ended { head, state }) = &self.story.before.ended {
+            self.road.send(to, &message(&message_start(head, to)?, Brings::State, state));
         }
         Ok(())
     }
@@ -50,7 +51,7 @@ impl<F: Front> Node<F> {
         if self.story.is_writing() {
             return Ok(());
         }
-        while let Some(op) = self.story.next_opening().filter(|_| !self.story.is_running()) {
+        while let Some(op) = self.story.chapter.node.next_opening().filter(|_| !self.story.chapter.is_running) {
             match self.call(op) {
                 Err(Fault::Refused(Refused::Unheard)) => break,
                 called => called?,
@@ -61,7 +62,7 @@ impl<F: Front> Node<F> {
 
     /// The next chapter has begun.
     pub(super) fn turned(&mut self) -> Result<(), Fault> {
-        self.meeting = Meeting::new(self.story.head())?;
+        self.meeting = Meeting::new(&self.story.chapter.head)?;
         // (a count that was held is of the last chapter)
         self.parcels.clear();
         self.held_till = None;

@@ -2,7 +2,7 @@
 use super::Node;
 use crate::disk::Wait;
 use crate::fault::Fault;
-use crate::story::{Done, Story};
+use crate::story::{Chapter, Done};
 use std::time::{Duration, Instant};
 use tellwydar::{Front, Output};
 
@@ -18,11 +18,12 @@ impl<F: Front> Node<F> {
         if self.story.is_busy() || self.story.is_done() && !self.data_due {
             return Ok(());
         }
-        let is_held = self.sync && !self.data_due && !self.story.is_answered();
-        if is_held && !self.story.is_handed_out() {
+        let chapter = &self.story.chapter;
+        let is_held = self.sync && !self.data_due && !chapter.is_answered();
+        if is_held && !chapter.is_handed_out() {
             self.held_till.get_or_insert_with(|| Instant::now() + HOLD);
         }
-        if is_held && self.story.is_written() {
+        if is_held && chapter.is_written() {
             return Ok(());
         }
         if !is_held {
@@ -30,42 +31,39 @@ impl<F: Front> Node<F> {
             self.held_till = None;
         }
         self.story.begin_write(self.sync && !is_held)?;
-        self.settle(self.brief()).map(|_| ())
+        self.settle(self.brief()).map(drop)
     }
 
     /// Nothing waits for the disk where only reads are written that were answered at once.
     fn brief(&self) -> Wait {
-        if self.story.is_owing() || self.story.is_ending() { Wait::Briefly } else { Wait::Not }
+        let chapter = &self.story.chapter;
+        if chapter.is_owing() || chapter.node.is_ending() { Wait::Briefly } else { Wait::Not }
     }
 
     /// Goes on with what waited for the disk, if it is done within this time, and tells whether it is.
     pub(super) fn settle(&mut self, wait: Wait) -> Result<bool, Fault> {
         match self.story.done(wait)? {
             None => return Ok(false),
-            Some(Done::Kept) => self.let_go()?,
+            Some(Done::Kept) => {
+                self.hand_out()?;
+                self.parcels.send(&self.meeting, &mut *self.road);
+            }
             Some(Done::Turned) => self.turned()?,
         }
         self.is_settled = true;
         Ok(true)
     }
 
-    /// What the entries put that are durable goes out, and an answer is told.
-    fn let_go(&mut self) -> Result<(), Fault> {
-        self.hand_out()?;
-        if !self.parcels.is_empty() {
-            self.parcels.send(&self.meeting, &mut *self.road);
-        }
-        Ok(())
-    }
-
-    /// Gathers the frames of the steps so far, and tells an answer.
+    /// Gathers what the steps put whose entries are durable, and tells an answer.
     pub(super) fn hand_out(&mut self) -> Result<(), Fault> {
-        self.story.let_out()?;
-        while let Some(Output { frames, reply }) = self.story.hand_out()? {
+        let chapter = &mut self.story.chapter;
+        chapter.let_out()?;
+        let is_own = chapter.node.own_calls() > 0;
+        while let Some(Output { frames, reply }) = chapter.hand_out()? {
             for (to, frame) in frames {
                 self.parcels.add(to, frame);
             }
-            if let Some(reply) = reply.filter(|_| self.story.is_own()) {
+            if let Some(reply) = reply.filter(|_| is_own) {
                 self.answer = Some(reply.answer);
             }
         }
@@ -73,8 +71,9 @@ impl<F: Front> Node<F> {
     }
 
     /// Has entries written until this is so, however long that takes.
-    pub(super) fn write_until(&mut self, is_so: impl Fn(&Story) -> bool) -> Result<(), Fault> {
-        while !is_so(&self.story) {
+    pub(super) fn write_until(&mut self, is_so: impl Fn(&Chapter) -> bool) -> Result<(), Fault> {
+        self.is_up()?;
+        while !is_so(&self.story.chapter) {
             self.commit()?;
             self.settle(Wait::Long)?;
         }

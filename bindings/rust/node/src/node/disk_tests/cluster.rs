@@ -84,7 +84,7 @@ impl Room {
             }
             Ok(())
         };
-        Node::open_with(&self.config, options, gate).expect("a node")
+        Node::open_with(&self.config, options, Box::new(gate)).expect("a node")
     }
 
     pub fn disk_is(&self, how: u8) {
@@ -164,7 +164,7 @@ pub fn rest<F: Front>(node: &mut Node<F>) {
     let mut quiet = 0;
     while quiet < 5 {
         serve(node);
-        let is_quiet = node.story.is_done() && node.story.node().pending() == 0;
+        let is_quiet = node.story.is_done() && node.story.chapter.node.pending() == 0;
         quiet = if is_quiet { quiet + 1 } else { 0 };
     }
 }
