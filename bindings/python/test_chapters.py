@@ -187,6 +187,17 @@ class Stories(unittest.TestCase):
     def test_a_register_that_is_0_is_not_written(self):
         self.accepted(report(("x", 5), ("x", 0), ("y", 6)), report(("y", 6)))
 
+    def test_what_comes_before_the_opening_is_refused(self):
+        history = "       0  p0    #0       call    write x 5\n       1  p0    #0       answer  done\n"
+        other = "       2  p1    #0       call    write y 1\n       3  p1    #0       answer  done\n"
+        of_two = lambda count, history, order, ids: REPORT.format(count=count, history=history, order=order, ids=ids, points="").replace(
+            "processes 1", "processes 2").replace(f"points {order}\n", "").encode()
+        first = of_two(2, history, 1, "p0 #0\n")
+        self.accepted(first, of_two(4, history + other, 2, "p0 #0\np1 #0\n"))
+        text = of_two(4, history + other, 2, "p1 #0\np0 #0\n")
+        self.assertEqual(check(text).answer, b"serial yes\n")
+        self.refused("report 1: p0 #0 should be number 0 of the order", first, text)
+
     def test_what_check_refuses_is_no_chapter(self):
         text = report(("x", 5), ("y", 6)).replace(b"p0 #0\np0 #1\n", b"p0 #1\np0 #0\n")
         self.refused("report 1: serial no: own order", report(("x", 5)), text)
