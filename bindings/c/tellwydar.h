@@ -59,7 +59,7 @@ uint8_t tellwydar_verify(const uint8_t *text, size_t text_length, uint8_t *outpu
 uint8_t tellwydar_merge(const uint8_t *text, size_t text_length, uint8_t *output, size_t output_length, uint8_t *errors,
                         size_t errors_length, struct tellwydar_lengths *lengths);
 /* The reports of chapters, one behind another, as `awshow story` reads them: with status 0 they are one story. The answer says so, or names
- * the first report with which they go wrong (status 1). */
+ * the first report with which they go wrong (status 1); where they weren't judged, the line says why. */
 uint8_t tellwydar_story(const uint8_t *text, size_t text_length, uint8_t *output, size_t output_length, uint8_t *errors,
                         size_t errors_length, struct tellwydar_lengths *lengths);
 /* What any system answered its clients, as lines of JSON, EDN or a report: `awshow judge` reads it, and docs/JUDGE.md says how. The answer

@@ -153,7 +153,7 @@ def merge(record: bytes) -> Told:
 
 def story(reports: bytes) -> Told:
     """Judges the reports of chapters, one behind another: status 0 where they are one story, and else the answer names the first report with
-    which they go wrong."""
+    which they go wrong, or the line says why they weren't judged."""
     return _tell("story", reports)
 
 

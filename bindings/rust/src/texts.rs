@@ -78,7 +78,7 @@ pub fn verify(record: &[u8]) -> Told {
 }
 
 /// Judges the reports of chapters, one behind another: status 0 where they are one story, and else the answer names the
-/// first report with which they go wrong.
+/// first report with which they go wrong, or the line says why they weren't judged.
 pub fn story(reports: &[u8]) -> Told {
     tell(foreign::tellwydar_story, reports)
 }

@@ -19,6 +19,17 @@ fn texts() {
     assert_eq!(verify(b"").line, b"line 1: end\n");
 }
 
+#[test]
+fn chapters_in_a_row_are_one_story() {
+    // (it writes 5 first, and ends with 5)
+    let chapter = replay(&example("one-process.sched")).answer;
+    let told = story(&[&chapter[..], &chapter].concat());
+    assert_eq!((told.status, &told.answer[..], told.line.len()), (0, &b"one story of 2 chapters\n"[..], 0));
+    let told = story(&[&chapter[..], &example("stale-read.report")].concat());
+    assert_eq!((told.status, &told.answer[..]), (1, &b"report 1: another front end\n"[..]));
+    assert_eq!(story(b"").line, b"line 1: end\n");
+}
+
 fn row(process: i32, call: Call, end: Option<End>) -> Row {
     Row { process: process.into(), key: "x".into(), call, end }
 }
