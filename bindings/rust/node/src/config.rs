@@ -130,7 +130,7 @@ impl FromStr for Config {
         let look = given(&table, "look_ms", "a number of milliseconds", milliseconds)?;
         let operations = given(&table, "chapter_operations", "a number", number)?;
         let entries = given(&table, "chapter_entries", "a number", number)?;
-        let room = room([nodes.len(), registers.len()], operations, entries)?;
+        let room = room(nodes.len(), registers.len(), operations, entries)?;
         Ok(Self {
             front,
             sync: given(&table, "sync", "true or false", Value::as_bool)?.unwrap_or(false),
@@ -146,12 +146,12 @@ impl FromStr for Config {
 impl Config {
     /// What a node has of a chapter.
     pub(crate) fn room(&self) -> Result<Room, Fault> {
-        room([self.nodes.len(), self.registers.len()], Some(self.most.operations), Some(self.most.entries))
+        room(self.nodes.len(), self.registers.len(), Some(self.most.operations), Some(self.most.entries))
     }
 }
 
 /// The room in chapters of so many processes and registers that end at these numbers, or else as usual.
-fn room([processes, registers]: [usize; 2], operations: Option<u32>, entries: Option<u32>) -> Result<Room, Fault> {
+fn room(processes: usize, registers: usize, operations: Option<u32>, entries: Option<u32>) -> Result<Room, Fault> {
     let of = format!("with {processes} processes and {registers} registers");
     let room = tellwydar::room(processes as u32, registers as u32, operations.map(u64::from), entries.map(u64::from));
     room.map_err(|why| {
@@ -226,7 +226,7 @@ mod tests {
 
     /// The room, or why there is none.
     fn room_of(processes: usize, registers: usize, most: [Option<u32>; 2]) -> Result<Room, String> {
-        room([processes, registers], most[0], most[1]).map_err(|why| why.to_string())
+        room(processes, registers, most[0], most[1]).map_err(|why| why.to_string())
     }
 
     #[test]
