@@ -11,7 +11,7 @@ import threading
 import time
 from typing import Callable, Dict, List, Optional, Sequence, Tuple, Type, Union
 
-from .. import Answer, CompareAndSwap, LogHead, Op, Read, Refused, Reply, Swap, Write
+from .. import _CALLS, Answer, CompareAndSwap, LogHead, Op, Read, Refused, Reply, Swap, Write
 from .. import Node as ProvedNode
 from ..messages import START, Met
 from . import core
@@ -67,9 +67,9 @@ class Node:
             road.close()
             raise
         self._road = road if lossy is None else lossy(road)
-        self._lock = threading.Lock()
+        self._lock = threading.RLock()  # (unlike a `Lock`, it is taken again behind a wait whatever a signal raises)
         self._answered = threading.Condition(self._lock)
-        self._failed, self._closed, self._is_opening = "", False, True
+        self._failed, self._closed, self._is_over, self._is_opening = "", False, False, True
         self._is_held_back = False  # a caller waits until others have come nearer
         self._held_till: Optional[float] = None
         self._peers = Peers(self._story, self._road, self._complain)
@@ -176,14 +176,15 @@ class Node:
     # --- the caller's side
 
     def _register(self, name: Union[str, int]) -> int:
-        register = self._names.get(name) if isinstance(name, str) else name
-        if type(register) is not int or not 0 <= register < 2**16:
-            raise Refused("no register")
-        return register
+        return self._names.get(name, -1) if isinstance(name, str) else name
 
     def perform(self, op: Op, timeout: Optional[float] = None) -> Answer:
         """Makes a call, and gives its answer: None where it is done, `UNEQUAL`, or a value. `TimedOut` says that the
         operation goes on, and `Paused` that it wasn't made."""
+        if type(op) not in _CALLS:
+            raise TypeError(f"{op!r} is no operation")
+        if type(op.register) is not int or not 0 <= op.register < 2**16:
+            raise Refused("no register")
         for value in (getattr(op, "value", 0), getattr(op, "expected", 0)):
             if type(value) is not int or not 0 <= value < 2**64:
                 raise ValueError(f"{value!r} is no number of 64 bits")
@@ -205,8 +206,8 @@ class Node:
             return False
         if not is_idle:
             raise Busy()
-        self._is_held_back = not isinstance(op, Read) and story.node.is_far_ahead
-        if self._is_held_back:
+        if not isinstance(op, Read) and story.node.is_far_ahead:
+            self._is_held_back = True
             return False
         try:
             story.call(op)
@@ -224,7 +225,7 @@ class Node:
 
     def _sleep(self, end: Optional[float], late: Type[Exception]) -> None:
         """Waits until something changes, while the caller has time."""
-        left = None if end is None else end - time.monotonic()
+        left = None if end is None else min(end - time.monotonic(), threading.TIMEOUT_MAX)
         if left is not None and left <= 0:
             raise late()
         self._answered.wait(left)
@@ -265,7 +266,7 @@ class Node:
         with self._lock:
             if self._is_awaited:
                 raise Busy()
-            if not self._story.running and self._answer is None:
+            if not self.so_far()[1]:
                 raise ValueError("no operation goes on")
             return self._wait(end)
 
@@ -290,14 +291,11 @@ class Node:
     def close(self) -> None:
         """Ends the node. Others that need its acknowledgements wait from then on: close it when all are done."""
         with self._lock:
-            if self._closed:
-                return
             self._closed = True
             self._answered.notify_all()
-        self._road.wake()
-        self._thread.join()
-        self._road.close()
-        self._story.close()
+            while not self._is_over:
+                self._road.wake()
+                self._answered.wait()
 
     def __enter__(self) -> "Node":
         return self
@@ -328,6 +326,7 @@ class Node:
                     self._write_opening()
                 with self._lock:
                     if self._is_held_back and not self._story.node.is_far_ahead:
+                        self._is_held_back = False
                         self._answered.notify_all()
                     ends = [self._held_till, self._road.pump(now), None if self._is_at_rest() else look_at]
                 messages = self._receive(min((it for it in ends if it is not None), default=None))
@@ -337,6 +336,12 @@ class Node:
         except Exception as why:  # one of core.STOPS, or what nobody thought of: stop, before anything goes out
             with self._lock:
                 self._fail(str(why) or repr(why))
+        finally:
+            with self._lock:
+                self._is_over = True
+                self._answered.notify_all()
+                self._road.close()
+                self._story.close()
 
     def _receive(self, until: Optional[float]) -> Arrived:
         try:

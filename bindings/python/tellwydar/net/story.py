@@ -1,14 +1,31 @@
 """Where one node is: its proved node, the file of its log, and the chapters before. All that a chapter is, is in its
 log, so a node that was killed goes on. It needs the logs of its last two chapters, and no others."""
+import functools
 import os
 import re
 import secrets
-from typing import Callable, Iterator, List, Tuple
+from typing import Any, Callable, Iterator, List, Tuple, TypeVar, cast
 
 from .. import LogHead, Node, Op, Output, Read
 from .core import NodeFailed
 from .logfile import LogFault, LogFile, differs, head_of, keep, open_log, say_cut
 from .room import Room
+
+
+_Act = TypeVar("_Act", bound=Callable[..., Any])
+
+
+def _on_disk(act: _Act) -> _Act:
+    """What has to do with the disk, where its fault is that of the node."""
+
+    @functools.wraps(act)
+    def acting(*given: Any) -> Any:
+        try:
+            return act(*given)
+        except OSError as why:
+            raise NodeFailed(f"the log can't be written: {why}") from None
+
+    return cast(_Act, acting)
 
 
 class Story:
@@ -77,8 +94,10 @@ class Story:
             if Node.is_headless(text, cluster=head.cluster, process=head.process, chapter=head.chapter):
                 text = Node.begin(**head._replace(begun=secrets.randbits(64))._asdict())
                 file.begin(text)
-        except BaseException:
+        except BaseException as why:
             file.close()
+            if isinstance(why, OSError):
+                raise OSError(f"{path}: {why.strerror}") from None
             raise
         self.file = file
         return text
@@ -133,12 +152,10 @@ class Story:
         self.is_owed &= not force
         return b"".join(lines), force, self.node.logged
 
+    @_on_disk
     def write(self, lines: bytes, force: bool) -> None:
         """Writes entries down, and with `force` has the log on the disk."""
-        try:
-            self.file.append(lines, force)
-        except OSError as why:
-            raise NodeFailed(f"the log can't be written: {why}") from None
+        self.file.append(lines, force)
 
     def outputs(self, logged: int) -> Iterator[Output]:
         """What goes out now that so many entries are durable."""
@@ -157,6 +174,7 @@ class Story:
         """The bytes that tell the others how far this node has come in its chapter."""
         return self.node.tell_state(self.node.is_quiet(self.running))
 
+    @_on_disk
     def say_quiet(self, called: int) -> None:
         """Before it is told that this node calls nothing more in this chapter, that is kept for when it is resumed, and
         how many operations were called."""
@@ -170,6 +188,7 @@ class Story:
         self.last_head, self.last_state = self.head, self.node.tell_state(True)
         self._ended_with = [self.node.register(r) for r in range(len(self.head.names))]
 
+    @_on_disk
     def begin_next(self) -> Tuple[LogHead, bytes]:
         """The chapter is over, and the log of the next one begins."""
         last = self.file

@@ -1,0 +1,120 @@
+"""Tests of what goes wrong around nodes: python3 -m unittest, with TELLWYDAR_LIB set."""
+import os
+import signal
+import time
+import unittest
+from unittest import mock
+
+from tellwydar import CompareAndSwap, Read, Swap, Write
+from tellwydar import Node as CoreNode
+from tellwydar.net import NodeFailed, Refused, TimedOut, story
+from tellwydar.net.logfile import LogFile
+from test_disk import Disk, Hanging
+from test_net import entries_of
+
+
+class Calls(Hanging, unittest.TestCase):
+    """What a caller does leaves its node up."""
+
+    def test_what_is_no_operation_is_refused_and_nothing_has_changed(self):
+        a, = self.begin(1)
+        for op in (Read("x"), Read(True), Read(-1), Read(2**16), Write("x", 1), Swap(None, 1), CompareAndSwap(0.0, 1, 2),
+                   "read x", None, 5):
+            with self.subTest(op), self.assertRaises((Refused, TypeError)):
+                a.perform(op, 5)
+        a.write("x", 5, 5)
+        a.close()
+        self.assertEqual(entries_of(self.path(0)), ["0 call write x 5 = done 0"])
+
+    def test_a_time_may_have_no_end(self):
+        a, = self.begin(1)
+        for time_ in (1e10, float("inf")):
+            a.write("x", 5, time_)
+        self.assertEqual(a.so_far(), (2, False))
+
+    def test_a_disk_that_is_full_where_a_chapter_ends_is_told(self):
+        full = OSError(28, "No space left on device")
+        for patched in (mock.patch.object(story, "keep", side_effect=full), mock.patch.object(LogFile, "begin", side_effect=full)):
+            a, = self.begin(1, chapter_operations=3)
+            with patched:
+                for value in range(1, 4):
+                    a.write("x", value, 5)
+                with self.assertRaisesRegex(NodeFailed, "^the log can't be written: .*No space left on device$"):
+                    a.write("x", 4, 5)
+            self.clear()
+
+    def test_a_call_that_is_held_back_goes_on_whatever_others_ask_for(self):
+        a, = self.begin(1)
+        with mock.patch.object(CoreNode, "is_far_ahead", new_callable=mock.PropertyMock, return_value=True) as is_far_ahead:
+            call = self.programs.submit(a.write, "x", 1, 20)
+            self.until(lambda: a._is_held_back)
+            with self.assertRaises(Refused):
+                a.read(5, 1)
+            is_far_ahead.return_value = False
+            a._road.wake()  # (as where something comes)
+            with self.soon():
+                self.assertIsNone(call.result())
+
+    def test_nobody_waits_for_what_a_chapter_begins_with(self):
+        (a,), disk = self.begin(1, chapter_operations=3), Disk()
+        append = disk.around(LogFile.append, lambda _, data, force: b" write x 3" in data)
+        for value in (1, 2):
+            a.write("x", value, 5)
+        with mock.patch.object(LogFile, "append", append):
+            self.assertEqual(a.swap("x", 3, 5), 2)
+            self.assertTrue(disk.hangs.wait(5))
+            self.late(ValueError, a.wait, 0.2)
+            disk.go_on()
+            self.assertEqual(a.swap("x", 5, 5), 3)
+
+    def test_what_two_signals_raise_takes_no_lock_from_another_thread(self):
+        class Alarm(Exception):
+            pass
+
+        def ring(*_):
+            raise Alarm()
+
+        self.addCleanup(signal.signal, signal.SIGALRM, signal.signal(signal.SIGALRM, ring))
+        a, = self.begin(1)
+        disk = self.hang(a)
+
+        def hold():
+            self.until(lambda: a.so_far()[1])
+            time.sleep(0.1)  # (its caller waits)
+            with a._lock:
+                for _ in range(2):
+                    os.kill(os.getpid(), signal.SIGALRM)
+                    time.sleep(0.2)
+
+        holder = self.programs.submit(hold)
+        self.late(Alarm, a.write, "x", 2)
+        self.assertIsNone(holder.result(5))
+        disk.go_on()
+        self.assertIsNone(a.wait(5))
+
+    def test_an_end_that_a_signal_interrupts_is_gone_on_with(self):
+        class Alarm(Exception):
+            pass
+
+        def ring(*_):
+            raise Alarm()
+
+        self.addCleanup(signal.signal, signal.SIGALRM, signal.signal(signal.SIGALRM, ring))
+        a, = self.begin(1)
+        disk = self.hang(a)
+        self.late(TimedOut, a.write, "x", 2, 0.2)
+        signal.setitimer(signal.ITIMER_REAL, 0.2)
+        self.late(Alarm, a.close)
+        end = self.programs.submit(a.close)
+        time.sleep(0.2)
+        self.assertFalse(end.done())
+        disk.go_on()
+        end.result(5)
+        a.close()
+        # (nobody has the log in hands any more)
+        LogFile(self.path(0), False).close()
+        self.assertEqual(entries_of(self.path(0)), ["0 call write x 2 = done 0"])
+
+
+if __name__ == "__main__":
+    unittest.main()
