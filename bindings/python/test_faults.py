@@ -1,16 +1,19 @@
 """Tests of what goes wrong around nodes: python3 -m unittest, with TELLWYDAR_LIB set."""
 import os
 import signal
+import socket
+import tempfile
 import time
 import unittest
 from unittest import mock
 
 from tellwydar import CompareAndSwap, Read, Swap, Write
 from tellwydar import Node as CoreNode
-from tellwydar.net import NodeFailed, Refused, TimedOut, story
+from tellwydar.net import Node, NodeFailed, Refused, TimedOut, story
 from tellwydar.net.logfile import LogFile
+from tellwydar.net.port import Port
 from test_disk import Disk, Hanging
-from test_net import entries_of
+from test_net import CLUSTER, entries_of, free_addresses
 
 
 class Calls(Hanging, unittest.TestCase):
@@ -114,6 +117,39 @@ class Calls(Hanging, unittest.TestCase):
         # (nobody has the log in hands any more)
         LogFile(self.path(0), False).close()
         self.assertEqual(entries_of(self.path(0)), ["0 call write x 2 = done 0"])
+
+
+class Ports(unittest.TestCase):
+    def setUp(self):
+        self.folder = tempfile.TemporaryDirectory()
+        self.addCleanup(self.folder.cleanup)
+        self.path = os.path.join(self.folder.name, "0.socket")
+        log = os.path.join(self.folder.name, "0.log")
+        self.node = Node("linear", ["x"], 0, free_addresses(1), None, log, cluster=CLUSTER, say=lambda _: None)
+        self.addCleanup(self.node.close)
+
+    def test_the_socket_is_removed_while_it_is_its_own(self):
+        port, found = Port(self.node, self.path), []
+        close = port.server_close
+
+        def closing():
+            found.append(os.path.exists(self.path))  # (from here on another node may have the path)
+            close()
+
+        port.server_close = closing
+        port.close()
+        self.assertEqual(found, [False])
+
+    def test_where_no_program_can_be_let_in_for_now_the_port_waits_and_goes_on(self):
+        with Port(self.node, self.path), socket.socket(socket.AF_UNIX) as program:
+            full = OSError(24, "Too many open files")
+            with mock.patch.object(socket.socket, "accept", side_effect=full) as accept:
+                program.connect(self.path)
+                time.sleep(0.5)
+                self.assertLess(accept.call_count, 50)
+            program.sendall(b"health\n")
+            program.settimeout(5)
+            self.assertEqual(program.recv(10), b"ok\n")
 
 
 if __name__ == "__main__":

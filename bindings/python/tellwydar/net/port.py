@@ -11,7 +11,8 @@ import socket
 import socketserver
 import stat
 import threading
-from typing import Any, BinaryIO, Iterable, Iterator
+import time
+from typing import Any, BinaryIO, Iterable, Iterator, Tuple
 
 from .. import Op
 from .calls import WORDS, End, form_of
@@ -20,6 +21,7 @@ from .node import Node
 from .status import Status
 
 _LONGEST = 4096  # bytes of a line
+_PAUSE = 0.1  # seconds, before it is looked again whether there is room for a program
 _STATUS = {"status": Status.json, "metrics": Status.metrics, "health": Status.health}
 
 
@@ -111,6 +113,13 @@ class Port(socketserver.ThreadingUnixStreamServer):
                 self.node.wait()
             self._goes_on = False
 
+    def get_request(self) -> Tuple[Any, Any]:
+        try:
+            return super().get_request()
+        except OSError:  # there is no room for a program now
+            time.sleep(_PAUSE)
+            raise
+
     def handle_error(self, request: Any, client_address: Any) -> None:
         """A program that is gone isn't there to be told."""
 
@@ -120,9 +129,9 @@ class Port(socketserver.ThreadingUnixStreamServer):
     def close(self) -> None:
         """Ends it. A call that goes on goes on."""
         self.shutdown()
-        self.server_close()
         with contextlib.suppress(FileNotFoundError):
-            os.unlink(self._path)
+            os.unlink(self._path)  # (while it answers, nobody else takes the path)
+        self.server_close()
 
 
 def answers(path: str, lines: Iterable[bytes]) -> Iterator[bytes]:

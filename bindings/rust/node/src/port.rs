@@ -16,10 +16,13 @@ use std::sync::Arc;
 use std::sync::atomic::{AtomicBool, Ordering};
 use std::sync::mpsc::{self, Receiver, Sender};
 use std::thread;
+use std::time::Duration;
 use tellwydar::{Answer, Front, Op};
 
 /// Bytes of a line.
 const LONGEST: usize = 4096;
+/// Before it is looked again whether there is room for a program.
+const PAUSE: Duration = Duration::from_millis(100);
 const LOOKS: [&str; 3] = ["health", "status", "metrics"];
 
 /// A line of a program, and where its answer goes.
@@ -42,7 +45,8 @@ impl Desk {
         let (told, answer) = mpsc::channel();
         let requests = if LOOKS.contains(&line.as_str()) { &self.looks } else { &self.calls };
         requests.send(Request { line, told }).ok()?;
-        (&self.bell).write_all(&[0]).ok()?;
+        // (where there is no room, it has rung)
+        let _ = (&self.bell).write(&[0]);
         answer.recv().ok()
     }
 
@@ -76,6 +80,7 @@ fn remove_stale(path: &Path) -> io::Result<()> {
 /// A port that is open until it is dropped.
 pub struct Port {
     path: PathBuf,
+    is_over: Arc<AtomicBool>,
     calls: Receiver<Request>,
     looks: Receiver<Request>,
 }
@@ -92,16 +97,24 @@ impl Port {
         let listener = open().map_err(|why| at_path(path, why))?;
         let ((call, calls), (look, looks)) = (mpsc::channel(), mpsc::channel());
         let desk = Arc::new(Desk { calls: call, looks: look, bell });
-        thread::spawn(move || {
+        let is_over = Arc::new(AtomicBool::new(false));
+        let over = Arc::clone(&is_over);
+        let serve = move || {
             for program in listener.incoming() {
-                match (program, Arc::clone(&desk)) {
-                    // (a program that is gone isn't there to be told)
-                    (Ok(program), desk) => drop(thread::spawn(move || desk.attend(&program))),
-                    (Err(why), _) => return eprintln!("no program is answered any more: {why}"),
+                if over.load(Ordering::Relaxed) {
+                    return;
+                }
+                let desk = Arc::clone(&desk);
+                match program {
+                    // (a program that is gone isn't there to be told, nor is one for which there is no thread)
+                    Ok(program) => drop(thread::Builder::new().spawn(move || desk.attend(&program))),
+                    // (there is no room for it now)
+                    Err(_) => thread::sleep(PAUSE),
                 }
             }
-        });
-        Ok(Self { path: path.to_path_buf(), calls, looks })
+        };
+        thread::Builder::new().name("tellwydar-port".to_string()).spawn(serve)?;
+        Ok(Self { path: path.to_path_buf(), is_over, calls, looks })
     }
 
     /// Answers programs until the end is asked for.
@@ -192,7 +205,10 @@ impl Port {
 }
 
 impl Drop for Port {
+    /// (Who lets programs in is woken by one more.)
     fn drop(&mut self) {
+        self.is_over.store(true, Ordering::Relaxed);
+        let _ = UnixStream::connect(&self.path);
         let _ = fs::remove_file(&self.path);
     }
 }
@@ -205,21 +221,21 @@ impl Drop for Port {
 pub fn ask(path: &Path, lines: impl BufRead, mut out: impl Write) -> io::Result<()> {
     let node = UnixStream::connect(path)?;
     let (mut told, mut send) = (BufReader::new(&node), &node);
-    for line in lines.lines() {
+    for line in lines.split(b'\n') {
         let line = line?;
-        let line = line.trim();
+        let line = line.trim_ascii();
         let mut is_last = line.is_empty();
         if !is_last {
-            send.write_all(format!("{line}\n").as_bytes())?;
+            send.write_all(&[line, b"\n"].concat())?;
         }
         while !is_last {
-            let mut answer = String::new();
-            told.read_line(&mut answer)?;
-            if !answer.ends_with('\n') {
+            let mut answer = Vec::new();
+            told.read_until(b'\n', &mut answer)?;
+            if !answer.ends_with(b"\n") {
                 return Err(io::Error::new(io::ErrorKind::UnexpectedEof, "the node ended"));
             }
-            out.write_all(answer.as_bytes())?;
-            is_last = line != "metrics" || answer == "# EOF\n" || answer.starts_with("refused: ");
+            out.write_all(&answer)?;
+            is_last = line != b"metrics" || answer == b"# EOF\n" || answer.starts_with(b"refused: ");
         }
         out.flush()?;
     }

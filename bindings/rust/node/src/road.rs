@@ -83,10 +83,11 @@ pub struct Ringer {
 }
 
 impl Bell {
-    /// A bell, and what one writes a byte to for it to ring.
+    /// A bell, and what one writes a byte to for it to ring. (Where there is no room for the byte, it has rung.)
     pub fn new() -> io::Result<(Self, UnixStream)> {
         let (ear, hand) = UnixStream::pair()?;
         ear.set_nonblocking(true)?;
+        hand.set_nonblocking(true)?;
         Ok((Self { ear, own: Arc::default() }, hand))
     }
 
@@ -112,8 +113,10 @@ impl Bell {
 impl Ringer {
     pub fn ring(&self) {
         self.own.fetch_add(1, Ordering::Release);
-        // (where nobody hears, the node is gone)
-        let _ = (&self.hand).write_all(&[0]);
+        if (&self.hand).write(&[0]).is_err() {
+            // (where there is no room, it has rung, and where nobody hears, the node is gone)
+            let _ = self.own.fetch_update(Ordering::AcqRel, Ordering::Acquire, |it| it.checked_sub(1));
+        }
     }
 }
 
@@ -178,6 +181,28 @@ mod tests {
         (0..100).for_each(|_| ringer.ring());
         ring();
         assert!(!bell.rang() && bell.rang() && !bell.rang());
+    }
+
+    #[test]
+    fn nobody_who_rings_waits_for_a_node_that_does_not_hear() {
+        let (mut bell, hand) = Bell::new().expect("a bell");
+        let (ringer, other) = (bell.ringer(&hand).expect("a bell"), hand.try_clone().expect("a hand"));
+        let ringing = std::thread::spawn(move || {
+            for _ in 0..10_000 {
+                ringer.ring();
+                // (where it finds no room the bell has rung)
+                let _ = (&other).write(&[0]);
+            }
+        });
+        let end = Instant::now() + Duration::from_secs(10);
+        while !ringing.is_finished() && Instant::now() < end {
+            std::thread::sleep(Duration::from_millis(1));
+        }
+        assert!(ringing.is_finished());
+        assert!((0..10_000).any(|_| bell.rang()));
+        (0..10_000).for_each(|_| _ = bell.rang());
+        (&hand).write_all(&[0]).expect("a bell");
+        assert!(bell.rang());
     }
 
     #[test]

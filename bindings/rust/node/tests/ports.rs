@@ -373,3 +373,21 @@ fn a_socket_that_is_taken_is_refused_and_one_that_was_left_is_not() -> Told<()> 
     node.end()?;
     Ok(fs::remove_dir_all(room)?)
 }
+
+#[test]
+fn a_port_that_is_dropped_lets_nobody_in() -> Told<()> {
+    let room = room("dropped")?;
+    let (socket, other) = (room.join("0.socket"), room.join("other.socket"));
+    let (bell, _ear) = UnixStream::pair()?;
+    let port = Port::open(&socket, bell)?;
+    fs::hard_link(&socket, &other)?;
+    drop(port);
+    assert!(!socket.exists());
+    let end = Instant::now() + Duration::from_secs(5);
+    while UnixStream::connect(&other).is_ok() && Instant::now() < end {
+        thread::sleep(Duration::from_millis(10));
+    }
+    let refused = UnixStream::connect(&other).expect_err("nobody is there");
+    assert_eq!(refused.kind(), io::ErrorKind::ConnectionRefused);
+    Ok(fs::remove_dir_all(room)?)
+}
