@@ -67,6 +67,13 @@ fn is_gone() -> io::Error {
     io::Error::other("the thread that writes the log is gone")
 }
 
+fn of_log(why: Fault) -> Fault {
+    match why {
+        Fault::Io(why) => io::Error::new(why.kind(), format!("the log can't be written: {why}")).into(),
+        why => why,
+    }
+}
+
 /// Does a job, and gives it back.
 fn done(job: Job, log: &mut LogFile, gate: &mut Gate) -> Result<Job, Fault> {
     match &job {
@@ -104,7 +111,7 @@ impl Disk {
         let is_awaited = Arc::clone(&rings);
         let serve = move || {
             for job in given {
-                if tell.send(done(job, &mut log, &mut gate)).is_err() {
+                if tell.send(done(job, &mut log, &mut gate).map_err(of_log)).is_err() {
                     return;
                 }
                 // (either this is seen to be awaited, or what was told just now is seen)

@@ -1,6 +1,6 @@
 //! Why a node refuses a call, doesn't start, or stopped.
 use std::fmt;
-use std::io;
+use std::io::{self, Write};
 use std::path::Path;
 use tellwydar::Refused;
 
@@ -48,6 +48,11 @@ impl Fault {
     }
 }
 
+/// Says a line on the error stream, if anybody reads that.
+pub fn say(line: impl fmt::Display) {
+    let _ = io::stderr().write_all(format!("{line}\n").as_bytes());
+}
+
 /// The same fault, with the path at which it came up.
 pub fn at_path(path: &Path, why: io::Error) -> io::Error {
     io::Error::new(why.kind(), format!("{}: {why}", path.display()))
@@ -83,7 +88,8 @@ impl From<Refused> for Fault {
             | Refused::ClockFull
             | Refused::Stopped
             | Refused::Unspelled
-            | Refused::LogLost => Self::Failed(why),
+            | Refused::LogLost
+            | Refused::LogFull => Self::Failed(why),
             _ => Self::Refused(why),
         }
     }
@@ -98,5 +104,29 @@ impl From<zmq::Error> for Fault {
 impl From<io::Error> for Fault {
     fn from(why: io::Error) -> Self {
         Self::Io(why)
+    }
+}
+
+#[cfg(test)]
+mod tests {
+    use super::*;
+
+    #[test]
+    fn a_node_stops_behind_the_refusals_behind_which_one_in_python_does() {
+        // (core.STOPS of the package)
+        for why in [
+            Refused::Failed,
+            Refused::OutOfMemory,
+            Refused::ClockFull,
+            Refused::Stopped,
+            Refused::Unspelled,
+            Refused::LogLost,
+            Refused::LogFull,
+        ] {
+            assert!(!Fault::from(why).is_of_a_call(), "{why}");
+        }
+        for why in [Refused::Busy, Refused::NoRegister, Refused::Unheard, Refused::Ahead] {
+            assert!(Fault::from(why).is_of_a_call(), "{why}");
+        }
     }
 }

@@ -38,7 +38,7 @@ mod story;
 mod zeromq;
 
 pub use config::{Config, Most, Options, Peer};
-pub use fault::Fault;
+pub use fault::{Fault, say};
 pub use keys::{Key, Keys, write_new_keys};
 pub use lossy::Losses;
 pub use merge::merge;

@@ -79,7 +79,7 @@ fn a_log_is_read_as_it_was_written() {
     file.begin(&log).expect("room");
     drop(file);
     let text = read(&room.log()).expect("a log");
-    let node = open(&room.log(), &text).expect("a node");
+    let node = open(&room.log(), &text, 0).expect("a node");
     assert_eq!((node.whole(), node.logged(), node.calls()), (log.len(), 5, 4));
     assert_eq!(head(&room.log(), &text).expect("a head"), worked_head());
     assert_eq!(entries(&text), ENTRIES);
@@ -92,7 +92,7 @@ fn a_cut_entry_is_dropped_and_the_log_goes_on_before_it() {
     fs::write(room.log(), &log[..log.len() - 3]).expect("room");
     let (mut file, text) = LogFile::reopen(&room.log()).expect("a log");
     assert!(LogFile::reopen(&room.log()).is_err());
-    let mut node = open(&room.log(), &text).expect("a node");
+    let mut node = open(&room.log(), &text, 0).expect("a node");
     assert_eq!((entries(&text[..node.whole()]), node.logged()), (ENTRIES.replace("0 tick\n", ""), 4));
     file.go_on(node.whole() as u64).expect("room");
     file.write(node.tick().expect("an entry"), true).expect("room");
@@ -146,7 +146,7 @@ fn other_spellings_are_refused() {
     ];
     let told = |text: &str| {
         let log = sealed(&format!("{HEAD_LINES}{text}\n").replace("processes 1", "processes 2"));
-        open(path, &log).expect_err(text).to_string()
+        open(path, &log, 0).expect_err(text).to_string()
     };
     for text in texts {
         assert_eq!(told(text), "0.log: line 10: no line of a log", "{text}");

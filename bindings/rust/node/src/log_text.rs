@@ -1,5 +1,5 @@
 //! The text of a log, and whose it is, as the library tells it.
-use crate::fault::{Fault, at_path};
+use crate::fault::{Fault, at_path, say};
 use std::fs;
 use std::path::Path;
 use tellwydar::{LogFault, LogHead, LoggedNode};
@@ -25,13 +25,18 @@ pub fn without_room(mut text: Vec<u8>) -> Vec<u8> {
 /// Says how many bytes behind a log are none of it, if there are some.
 pub fn say_cut(path: &Path, count: usize) {
     if count > 0 {
-        eprintln!("{}: the last {count} bytes are no whole entries; dropped", path.display());
+        say(format_args!("{}: the last {count} bytes are no whole entries; dropped", path.display()));
     }
 }
 
-/// A node that goes on after the log at a path.
-pub fn open(path: &Path, text: &[u8]) -> Result<LoggedNode, Fault> {
-    LoggedNode::open(text, 0).map_err(|why| fault(path, why))
+/// How many entries the lines of a log are.
+pub fn entries(text: &[u8]) -> u64 {
+    (text.iter().filter(|&&it| it == b'\n').count() as u64).saturating_sub(HEAD)
+}
+
+/// A node that goes on after the log at a path, of which so many entries are not to be lost.
+pub fn open(path: &Path, text: &[u8], durable: u64) -> Result<LoggedNode, Fault> {
+    LoggedNode::open(text, durable).map_err(|why| fault(path, why))
 }
 
 /// A fault of an entry, by its line.

@@ -1,5 +1,5 @@
 //! The run that logs are. That the library finds: it puts all entries into one order, and judges that.
-use crate::fault::Fault;
+use crate::fault::{Fault, say};
 use crate::log_text::{self, at_entry};
 use std::path::{Path, PathBuf};
 use tellwydar::{LogHead, LogsFault, first_entries, merge_logs, verify};
@@ -16,7 +16,7 @@ struct Log<'a> {
 impl<'a> Log<'a> {
     fn read(path: &'a PathBuf) -> Result<Self, Fault> {
         let text = log_text::read(path)?;
-        let dropped = text.len() - log_text::open(path, &text)?.whole();
+        let dropped = text.len() - log_text::open(path, &text, 0)?.whole();
         Ok(Self { path, head: log_text::head(path, &text)?, text, dropped })
     }
 }
@@ -52,7 +52,7 @@ fn record(paths: &[PathBuf], cut: bool) -> Result<Vec<u8>, Fault> {
                 return Ok(record);
             }
             Err(LogsFault::Unfaithful { log, entry }) if cut => {
-                eprintln!("cut: {}", told(&logs, LogsFault::Unfaithful { log, entry }));
+                say(format_args!("cut: {}", told(&logs, LogsFault::Unfaithful { log, entry })));
                 let length = first_entries(&logs[log].text, entry).len();
                 logs[log].text.truncate(length);
             }

@@ -1,5 +1,6 @@
 //! Messages: how they begin, who they are from, and what they bring, as the library tells it; and what is said of those
 //! that aren't of this cluster. Their form is told in docs/FORMATS.md.
+use crate::fault::say;
 use std::collections::HashMap;
 use tellwydar::{Brings, FrontEnd, LogHead, MESSAGE_START, Meets, Met, Refused, message_start};
 
@@ -96,7 +97,7 @@ impl Complaints {
     /// Says this complaint on the error stream, or counts it alone.
     pub fn say(&mut self, it: Complaint) {
         if let Some(line) = self.line(it) {
-            eprintln!("{line}");
+            say(line);
         }
     }
 

@@ -30,6 +30,11 @@ const MOST_KEPT: usize = 1024;
 /// So long a caller gives the disk at least, where nothing else is between it and its call or its answer.
 const MOMENT: Duration = Duration::from_millis(100);
 
+/// When this time is up, if that ever is.
+fn end_of(timeout: Option<Duration>) -> Option<Instant> {
+    timeout.and_then(|it| Instant::now().checked_add(it))
+}
+
 /// One process of a cluster on a machine of its own. It is for one thread, and works while that is in one of its
 /// functions.
 pub struct Node<F: Front> {
@@ -130,17 +135,19 @@ impl<F: Front> Node<F> {
     /// The time-out holds whatever the disk does, but that is given a tenth of a second where nothing else is between
     /// the operation and its answer.
     pub fn perform(&mut self, op: Op, timeout: Option<Duration>) -> Result<Answer, Fault> {
-        self.run(|it| it.performed(op, timeout.map(|it| Instant::now() + it)))
+        self.run(|it| it.performed(op, end_of(timeout)))
     }
 
     /// Waits for the answer of the operation that goes on.
     pub fn wait(&mut self, timeout: Option<Duration>) -> Result<Answer, Fault> {
-        self.run(|it| it.waited(timeout.map(|it| Instant::now() + it)))
+        self.run(|it| it.waited(end_of(timeout)))
     }
 
     /// Hears the others until something came or the time is up, and tells whether the bell rang. A node that has
     /// nothing to call has to be in here: the others wait for it.
     pub fn serve(&mut self, until: Option<Instant>) -> Result<bool, Fault> {
+        // (it may have rung in a call that was answered all the same)
+        let until = if self.rang { Some(Instant::now()) } else { until };
         self.run(|it| it.served(until))
     }
 
@@ -290,7 +297,7 @@ impl<F: Front> Node<F> {
         }
         self.tell_end()?;
         self.turn()?;
-        Ok(rang || std::mem::take(&mut self.rang))
+        Ok(std::mem::take(&mut self.rang) || rang)
     }
 
     /// When something has to be done next, if nothing comes before.

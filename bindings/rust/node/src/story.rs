@@ -2,7 +2,7 @@
 //! that was killed is made again. It needs the logs of its last two chapters, and no others.
 use crate::config::Options;
 use crate::disk::{Disk, Job, Wait};
-use crate::fault::Fault;
+use crate::fault::{Fault, at_path, say};
 use crate::log_file::{LogFile, called_up_to, last_chapter, log_of, quiet_of};
 use crate::log_text;
 use std::fs::File;
@@ -72,8 +72,9 @@ pub struct Before {
 
 impl Chapter {
     /// The chapter of the log at this path, whose text this is. Its head is as this one, but for what was drawn.
-    fn of(head: &LogHead, path: &Path, text: &[u8]) -> Result<Self, Fault> {
-        let node = log_text::open(path, text)?;
+    /// So many entries are not to be lost.
+    fn of(head: &LogHead, path: &Path, text: &[u8], durable: u64) -> Result<Self, Fault> {
+        let node = log_text::open(path, text, durable)?;
         let found = log_text::head(path, text)?;
         if let Some((found, wanted)) = log_text::differs(&found, head) {
             return Err(Fault::OtherLog(format!("{} is of {found}, and this node of {wanted}", path.display())));
@@ -273,9 +274,9 @@ impl Story {
     fn turned(&mut self, path: &Path, text: &[u8]) -> Result<(), Fault> {
         if let Some(head) = self.next.take() {
             self.before.end(&mut self.chapter)?;
-            self.chapter = Chapter::of(&head, path, text)?;
+            self.chapter = Chapter::of(&head, path, text, 0)?;
             self.chapter.node.follow(self.room, &self.before.values)?;
-            eprintln!("chapter {} begins, in {}", head.chapter, path.display());
+            say(format_args!("chapter {} begins, in {}", head.chapter, path.display()));
         }
         Ok(())
     }
@@ -284,8 +285,9 @@ impl Story {
 impl Before {
     /// What the chapter of the log at this path has left, which was over before the node was killed.
     fn of(head: &LogHead, log: &Path) -> Result<Self, Fault> {
-        let mut before = Self::default();
-        before.end(&mut Chapter::of(head, log, &log_text::read(log)?)?)?;
+        let (mut before, text) = (Self::default(), log_text::read(log)?);
+        // (no whole line of it may be lost)
+        before.end(&mut Chapter::of(head, log, &text, log_text::entries(&text))?)?;
         before.called = called_up_to(log)?;
         Ok(before)
     }
@@ -309,8 +311,8 @@ fn drawn() -> Result<u64, Fault> {
 fn begun(head: LogHead, path: &Path, mut log: LogFile) -> Result<(Chapter, LogFile), Fault> {
     let head = LogHead { begun: drawn()?, ..head };
     let text = LoggedNode::begin(&head)?;
-    let chapter = Chapter::of(&head, path, &text)?;
-    log.begin(&text)?;
+    let chapter = Chapter::of(&head, path, &text, 0)?;
+    log.begin(&text).map_err(|why| at_path(path, why))?;
     Ok((chapter, log))
 }
 
@@ -321,9 +323,10 @@ fn resumed(head: &LogHead, path: &Path) -> Result<(Chapter, LogFile), Fault> {
     if LoggedNode::is_headless(&text, head)? {
         return begun(head.clone(), path, log);
     }
-    let chapter = Chapter::of(head, path, &text)?;
+    let chapter = Chapter::of(head, path, &text, 0)?;
     let whole = chapter.node.whole();
     log_text::say_cut(path, text.len() - whole);
-    log.go_on(whole as u64)?;
+    // (all its entries count as durable)
+    log.go_on(whole as u64).and_then(|()| log.force()).map_err(|why| at_path(path, why))?;
     Ok((chapter, log))
 }

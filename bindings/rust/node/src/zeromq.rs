@@ -7,7 +7,7 @@ use crate::keys::Keys;
 use crate::message::{Complaint, Kind};
 use crate::road::{Arrived, BATCH, Bell, Message, Road, poll};
 use std::time::Duration;
-use zmq::{Context, DONTWAIT, POLLIN, PollItem, Socket, SocketType};
+use zmq::{Context, DONTWAIT, POLLIN, PollItem, SNDMORE, Socket, SocketType};
 
 const MOST_BYTES: usize = 4096;
 /// Messages to or from one peer.
@@ -26,10 +26,10 @@ pub struct ZeroMq {
     unpolled: u32,
 }
 
-/// What is received, if there is something.
+/// What is received or sent, unless there is nothing or a signal came between.
 fn there<T>(received: Result<T, zmq::Error>) -> Result<Option<T>, zmq::Error> {
     match received {
-        Err(zmq::Error::EAGAIN) => Ok(None),
+        Err(zmq::Error::EAGAIN | zmq::Error::EINTR) => Ok(None),
         received => received.map(Some),
     }
 }
@@ -99,7 +99,7 @@ impl ZeroMq {
                 let text = "a message of several parts is dropped".to_string();
                 into.push(Err(Complaint { kind: Kind::Parts, text }));
                 while self.pull.get_rcvmore()? {
-                    self.pull.recv_msg(DONTWAIT)?;
+                    there(self.pull.recv_msg(DONTWAIT))?;
                 }
                 continue;
             }
@@ -126,7 +126,11 @@ impl ZeroMq {
             into.push(Err(Complaint { kind: Kind::Key, text }));
         }
         let who = who.unwrap_or_default();
-        Ok(self.door.send_multipart([part(0), part(1), code.as_bytes(), word.as_bytes(), who.as_bytes(), b""], 0)?)
+        for it in [part(0), part(1), code.as_bytes(), word.as_bytes(), who.as_bytes()] {
+            while there(self.door.send(it, SNDMORE))?.is_none() {}
+        }
+        while there(self.door.send("", 0))?.is_none() {}
+        Ok(())
     }
 }
 
@@ -163,5 +167,19 @@ impl Road for ZeroMq {
             self.take(into)?;
         }
         Ok(bell && self.bell.rang())
+    }
+}
+
+#[cfg(test)]
+mod tests {
+    use super::*;
+
+    #[test]
+    fn a_signal_is_no_fault_of_a_road() {
+        for why in [zmq::Error::EAGAIN, zmq::Error::EINTR] {
+            assert_eq!(there::<()>(Err(why)), Ok(None));
+        }
+        assert_eq!(there(Ok(5)), Ok(Some(5)));
+        assert_eq!(there::<()>(Err(zmq::Error::ETERM)), Err(zmq::Error::ETERM));
     }
 }

@@ -297,3 +297,60 @@ fn a_chapter_that_never_began_is_begun_anew() -> Ended {
     assert_eq!(refused.to_string(), format!("{}: line 1: no line of a log", next.display()));
     Ok(fs::remove_dir_all(room)?)
 }
+
+#[test]
+fn the_log_of_a_chapter_that_is_over_lost_nothing() -> Ended {
+    let room = room("damaged")?;
+    let (mut config, log) = (config("linear", 1)?, room.join("0.log"));
+    config.most.operations = 3;
+    let mut node = Node::<Linear>::open(&config, &Options::new(0, &log))?;
+    for value in 1..=3 {
+        assert_eq!(node.perform(Op::Write { register: 0, value }, TIME)?, Answer::Done);
+    }
+    assert_eq!(node.perform(READ, TIME)?, Answer::Value(3));
+    assert_eq!(node.status().chapter, 1);
+    drop(node);
+    let good = fs::read(&log)?;
+    // (the head has nine lines, and the last entry stands on line 12)
+    let at = |line: usize| good.split_inclusive(|&it| it == b'\n').take(line - 1).map(<[u8]>::len).sum::<usize>();
+    for line in [10, 11, 12] {
+        let mut changed = good.clone();
+        changed[at(line) + 20] ^= 1;
+        fs::write(&log, changed)?;
+        let refused = Node::<Linear>::open(&config, &resuming(0, &log)).map(|_| ()).expect_err("a damaged log");
+        let why = format!("{}: line {line}: changed, or a line before it is missing", log.display());
+        assert_eq!(refused.to_string(), why);
+    }
+    fs::write(&log, good)?;
+    let mut node = Node::<Linear>::open(&config, &resuming(0, &log))?;
+    assert_eq!(node.perform(READ, TIME)?, Answer::Value(3));
+    Ok(fs::remove_dir_all(room)?)
+}
+
+#[test]
+fn a_bell_that_rang_in_a_call_is_heard_behind_it() -> Ended {
+    let room = room("rang")?;
+    let mut node = Node::<LocalRead>::open(&config("local-read", 1)?, &Options::new(0, room.join("0.log")))?;
+    // (so many calls are made before anybody is heard)
+    for _ in 0..64 {
+        assert_eq!(node.perform(READ, TIME)?, Answer::Value(0));
+    }
+    node.bell()?.write_all(&[0])?;
+    assert_eq!(node.perform(READ, TIME)?, Answer::Value(0));
+    node.keep()?;
+    let start = Instant::now();
+    let is_soon = |start: Instant| start.elapsed() < Duration::from_secs(3);
+    assert!(node.serve(Some(start + Duration::from_secs(6)))? && is_soon(start));
+    // (and once)
+    assert!(!node.serve(Some(Instant::now() + Duration::from_millis(50)))?);
+    Ok(fs::remove_dir_all(room)?)
+}
+
+#[test]
+fn a_time_may_have_no_end() -> Ended {
+    let room = room("endless")?;
+    let mut node = Node::<Linear>::open(&config("linear", 1)?, &Options::new(0, room.join("0.log")))?;
+    assert_eq!(node.perform(WRITE, Some(Duration::MAX))?, Answer::Done);
+    assert!(matches!(node.wait(Some(Duration::MAX)), Err(Fault::Nothing)));
+    Ok(fs::remove_dir_all(room)?)
+}

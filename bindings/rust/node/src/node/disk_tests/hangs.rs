@@ -102,7 +102,8 @@ fn a_full_disk_stops_the_node_wherever_it_hung() {
         room.disk_is(IS_FULL);
         let fault = node.wait(TIME);
         assert!(is_full(&fault), "{fault:?}");
-        assert_eq!(fault.map_err(|it| it.to_string()), Err("No space left on device (os error 28)".to_string()));
+        let told = "the log can't be written: No space left on device (os error 28)";
+        assert_eq!(fault.map_err(|it| it.to_string()), Err(told.to_string()));
         assert!(matches!(node.perform(READ, TIME), Err(Fault::Stopped)));
         drop(node);
         other.end();
