@@ -2,6 +2,7 @@
 import os
 import signal
 import socket
+import sys
 import tempfile
 import time
 import unittest
@@ -9,9 +10,11 @@ from unittest import mock
 
 from tellwydar import CompareAndSwap, Read, Swap, Write
 from tellwydar import Node as CoreNode
-from tellwydar.net import Node, NodeFailed, Refused, TimedOut, story
+from tellwydar.net import Keys, Node, NodeFailed, Refused, TimedOut, road, story
+from tellwydar.net.datagrams import DatagramRoad
 from tellwydar.net.logfile import LogFile
 from tellwydar.net.port import Port
+from tellwydar.net.road import RoadFault
 from test_disk import Disk, Hanging
 from test_net import CLUSTER, entries_of, free_addresses
 
@@ -150,6 +153,22 @@ class Ports(unittest.TestCase):
             program.sendall(b"health\n")
             program.settimeout(5)
             self.assertEqual(program.recv(10), b"ok\n")
+
+
+class Roads(unittest.TestCase):
+    def test_what_the_road_needs_and_is_not_there_is_told(self):
+        pairs = [road.new_keys() for _ in range(2)]
+        keys = Keys(pairs[0][1], tuple(key for key, _ in pairs))
+        with mock.patch.dict(sys.modules, {"nacl.public": None}), self.assertRaisesRegex(RoadFault, "python3-nacl"):
+            DatagramRoad(0, free_addresses(2, "udp"), keys, print).close()
+
+    def test_a_port_that_is_none_is_refused(self):
+        for addresses in (["udp://127.0.0.1:99999", "udp://127.0.0.1:7102"], ["udp://127.0.0.1:7101", "udp://127.0.0.1:99999"]):
+            with self.assertRaises(RoadFault):
+                DatagramRoad(0, addresses, None, print).close()
+        for address in ("tcp://127.0.0.1:x", "udp://127.0.0.1:7102"):
+            with self.assertRaisesRegex(RoadFault, f"^{address}: "):
+                road.Road(0, [*free_addresses(1), address], None, print).close()
 
 
 if __name__ == "__main__":

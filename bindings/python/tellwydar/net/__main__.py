@@ -10,33 +10,30 @@ import signal
 import sys
 import threading
 import time
-import tomllib
-from typing import List, TextIO
+from typing import List, Optional, TextIO
 
 from .. import Refused, story
 from . import judge, port, road
 from .calls import WORDS
+from .config import read_config
 from .core import Closed, NodeFailed, answer_text, say
 from .datagrams import AnyRoad
 from .logfile import LogFault
 from .node import Node
 from .road import Keys, LossyRoad, RoadFault
 
+ENDS = signal.SIGTERM, signal.SIGINT  # of a node
 # (each ends with one line that says why)
-FAULTS = (Closed, LogFault, NodeFailed, OSError, Refused, RoadFault, TypeError, ValueError)
+FAULTS = (Closed, LogFault, NodeFailed, OSError, OverflowError, Refused, RoadFault, TypeError, ValueError)
 
 
 def node_of(a: argparse.Namespace) -> Node:
-    with open(a.config, "rb") as file:
-        config = tomllib.load(file)
-    for key in ("cluster", "front", "registers", "node"):
-        if key not in config:
-            raise RoadFault(f"{a.config}: no {key}")
+    config = read_config(a.config)
     nodes = config["node"]
     keys = None
     if any("key" in n for n in nodes):
         if not a.secret:
-            raise RoadFault("cluster.toml has keys: give --secret FILE")
+            raise RoadFault(f"{a.config} has keys: give --secret FILE")
         keys = Keys(road.read_secret(a.secret), tuple(n["key"].encode() for n in nodes))
     lossy = None
     if a.lossy:
@@ -71,7 +68,7 @@ def run_script(node: Node, lines: List[str], out: TextIO) -> None:
                 time.sleep(float(words[1]))
                 continue
             answer = node.perform(WORDS.call(line, node.registers))
-        except (ValueError, IndexError, Refused) as why:
+        except (ValueError, IndexError, OverflowError, Refused) as why:
             raise ValueError(f"line {number}: {line.strip()}: {why}") from None
         print(answer_text(answer), file=out, flush=True)
     print("end", file=out, flush=True)
@@ -91,31 +88,37 @@ def tell_story(paths: List[str]) -> int:
     return 0
 
 
+def lines_of(path: str) -> List[str]:
+    with open(path) as file:
+        return file.read().splitlines()
+
+
 def run_node(a: argparse.Namespace) -> None:
     """Runs a node until it is ended, or its script fails."""
-    end, faults = threading.Event(), []
+    faults: List[Exception] = []
 
     def run(node: Node, lines: List[str]) -> None:
         try:
             run_script(node, lines, sys.stdout)
-        except FAULTS as why:
+        except Closed:
+            pass  # the end was asked for
+        except Exception as why:
             faults.append(why)
-            end.set()
+            os.kill(os.getpid(), signal.SIGTERM)
 
-    for number in (signal.SIGTERM, signal.SIGINT):
-        signal.signal(number, lambda *_: end.set())
+    signal.pthread_sigmask(signal.SIG_BLOCK, ENDS)  # (by all threads: they are waited for below)
+    lines = lines_of(a.script) if a.script else []
     with node_of(a) as node, contextlib.ExitStack() as opened:
         if a.socket:
             opened.enter_context(port.Port(node, a.socket))
         if not node.sync:
             say("without --sync a crash of the machine may lose entries that others have seen; a crash of this program loses none")
         if a.script:
-            with open(a.script) as file:
-                lines = file.read().splitlines()
             threading.Thread(target=run, args=(node, lines), daemon=True).start()
-        end.wait()
-    if faults:
-        raise faults[0]
+        signal.sigwait(ENDS)
+        if faults:
+            raise faults[0]
+        node.status()  # (one that has stopped says why)
 
 
 def ask(a: argparse.Namespace) -> None:
@@ -170,14 +173,31 @@ def parser() -> argparse.ArgumentParser:
     return whole
 
 
+def let_go(stream: Optional[TextIO], number: int) -> None:
+    """What couldn't be written isn't tried again at the end, where it would leave a trace and a status of its own."""
+    try:
+        if stream is not None:
+            stream.flush()
+    except OSError:
+        os.dup2(os.open(os.devnull, os.O_WRONLY), number)
+
+
 def main(words: List[str]) -> int:
     a = parser().parse_args(words)
+    if sys.stdout is None:
+        sys.stdout = open(os.devnull, "w")
     try:
-        return a.run(a) or 0
+        status: int = a.run(a) or 0
+        sys.stdout.flush()
     except FAULTS as why:
         say(str(why))
-        return 1
+        status = 1
+    let_go(sys.stdout, 1)
+    let_go(sys.stderr, 2)
+    return status
 
 
 if __name__ == "__main__":
+    if signal.getsignal(signal.SIGINT) is signal.default_int_handler:
+        signal.signal(signal.SIGINT, signal.SIG_DFL)  # (a client or a merge that is interrupted ends without a trace)
     sys.exit(main(sys.argv[1:]))

@@ -5,6 +5,7 @@ what went over a port can be judged: `{"f": "write", "key": "x", "value": 5}`.
 """
 import dataclasses
 import json
+import re
 from typing import Any, Dict, List, NamedTuple, Optional, Sequence, Tuple, Type, Union
 
 from .. import UNEQUAL, Answer, CompareAndSwap, Op, Read, Swap, Write
@@ -27,6 +28,12 @@ class End(NamedTuple):
     error: str = ""  # why it wasn't answered
 
 
+def _number(word: str) -> int:
+    if not re.fullmatch("[+-]?[0-9]+", word):
+        raise ValueError("no number")
+    return int(word)
+
+
 class Words:
     """Calls that are spelled as words."""
 
@@ -37,7 +44,7 @@ class Words:
             raise ValueError("no call")
         if words[0] not in names:
             raise ValueError("no register")
-        return _OPS[f](names.index(words[0]), *map(int, words[1:]))
+        return _OPS[f](names.index(words[0]), *map(_number, words[1:]))
 
     def answer(self, op: Op, names: Sequence[str], end: End) -> str:
         """The line that tells how a call ended."""

@@ -17,6 +17,8 @@ FEW = 16  # datagrams of strangers that are opened at once
 
 def _place_of(address: str) -> Tuple[str, int]:
     host, _, port = address.removeprefix("udp://").rpartition(":")
+    if not port.isdecimal() or int(port) >= 2**16:
+        raise RoadFault(f"{address}: no port")
     return host.strip("[]"), int(port)
 
 
@@ -39,7 +41,10 @@ class DatagramRoad(Bell):
         check_keys(me, addresses, keys)
         self.boxes: Optional[Dict[int, Any]] = None
         if keys is not None:
-            from nacl.public import Box, PrivateKey, PublicKey
+            try:
+                from nacl.public import Box, PrivateKey, PublicKey
+            except ImportError:
+                raise RoadFault("datagrams with keys need PyNaCl: python3-nacl") from None
 
             secret = PrivateKey(of_z85(keys.secret))
             self.boxes = {p: Box(secret, PublicKey(of_z85(key))) for p, key in enumerate(keys.known) if p != me}

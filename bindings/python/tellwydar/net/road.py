@@ -9,6 +9,7 @@ import ipaddress
 import os
 import random
 import select
+import struct
 import time
 from typing import Any, Callable, Dict, List, NamedTuple, Optional, Sequence, Tuple
 
@@ -22,6 +23,7 @@ BATCH = 64  # messages taken at once
 # (type checkers know neither of them whole)
 _os: Any = os
 of_z85: Callable[[bytes], bytes] = getattr(z85, "decode")
+to_z85: Callable[[bytes], bytes] = getattr(z85, "encode")
 
 
 class RoadFault(Exception):
@@ -64,6 +66,13 @@ def is_loopback(address: str) -> bool:
         return False  # a name, or a star
 
 
+def _is_key(key: bytes) -> bool:
+    try:
+        return len(key) == 40 and to_z85(of_z85(key)) == key
+    except (KeyError, struct.error):
+        return False
+
+
 def check_keys(me: int, addresses: Sequence[str], keys: Optional[Keys]) -> None:
     """Each process has a key of its own, and this one the secret to its own. Without keys only loopback addresses are
     taken."""
@@ -72,6 +81,8 @@ def check_keys(me: int, addresses: Sequence[str], keys: Optional[Keys]) -> None:
             if not is_loopback(address):
                 raise RoadFault(f"{address} is no loopback address: between machines give keys")
         return
+    if not all(map(_is_key, (keys.secret, *keys.known))):
+        raise RoadFault("a key has 40 characters of Z85")
     if len(keys.known) != len(addresses) or len(set(keys.known)) != len(addresses):
         raise RoadFault("each process needs a key of its own")
     if zmq.curve_public(keys.secret) != keys.known[me]:
@@ -122,6 +133,13 @@ class Bell:
         os.close(self.bell)
 
 
+def _at(address: str, act: Callable[[str], Any]) -> None:
+    try:
+        act(address)
+    except zmq.ZMQError as why:
+        raise RoadFault(f"{address}: {why}") from None
+
+
 class Road(Bell):
     """The road of ZeroMQ."""
 
@@ -135,8 +153,10 @@ class Road(Bell):
         self.context = zmq.Context()
         try:
             self._open(me, addresses, keys)
-        except BaseException:
+        except BaseException as why:
             self.context.destroy(0)
+            if isinstance(why, zmq.ZMQError):
+                raise RoadFault(f"{addresses[me]}: {why}") from None
             raise
         super().__init__(complain, zmq.Poller(), [self.pull, self.door])
 
@@ -161,16 +181,13 @@ class Road(Bell):
         self.pull.set(zmq.ZAP_DOMAIN, b"tellwydar")
         if keys is not None:
             self.pull.curve_server, self.pull.curve_secretkey = True, keys.secret
-        try:
-            self.pull.bind(addresses[me])
-        except zmq.ZMQError as why:
-            raise RoadFault(f"{addresses[me]}: {why}") from None
+        _at(addresses[me], self.pull.bind)
         self.push = {p: self._socket(zmq.PUSH, is_ipv6) for p in range(len(addresses)) if p != me}
         for p, socket in self.push.items():
             socket.set(zmq.IMMEDIATE, 1)  # nothing is kept for a peer that isn't there
             if keys is not None:
                 socket.curve_secretkey, socket.curve_publickey, socket.curve_serverkey = keys.secret, keys.known[me], keys.known[p]
-            socket.connect(addresses[p])
+            _at(addresses[p], socket.connect)
 
     def send(self, to: int, message: bytes) -> None:
         try:

@@ -92,7 +92,7 @@ fn cluster(it: &Value) -> Option<u64> {
 
 fn milliseconds(it: &Value) -> Option<Duration> {
     let time = it.as_float().or_else(|| number(it).map(f64::from))?;
-    Duration::try_from_secs_f64(time / 1000.0).ok()
+    (0.1..=60_000.0).contains(&time).then(|| Duration::from_secs_f64(time / 1000.0))
 }
 
 /// Whether a log can have a register of this name.
@@ -127,7 +127,7 @@ impl FromStr for Config {
         }
         let front = needed(&table, "front", "linear, local-read or local-write", |it| it.as_str()?.parse().ok())?;
         let registers = needed(&table, "registers", "different names of 1 to 16 letters from a to z", names)?;
-        let look = given(&table, "look_ms", "a number of milliseconds", milliseconds)?;
+        let look = given(&table, "look_ms", "a number of milliseconds from 0.1 to 60000", milliseconds)?;
         let operations = given(&table, "chapter_operations", "a number", number)?;
         let entries = given(&table, "chapter_entries", "a number", number)?;
         let room = room(nodes.len(), registers.len(), operations, entries)?;

@@ -11,7 +11,9 @@ use std::process::ExitCode;
 use std::sync::Arc;
 use std::sync::atomic::{AtomicBool, Ordering};
 use tellwydar::{Front, Linear, LocalRead, LocalWrite};
-use tellwydar_node::{Config, Fault, FrontEnd, Key, Losses, Node, Options, Port, Script, ask, merge, write_new_keys};
+use tellwydar_node::{
+    Config, Fault, FrontEnd, Key, Losses, Node, Options, Port, Script, ask, merge, say, write_new_keys,
+};
 
 /// A node of a cluster: one process on a machine of its own
 #[derive(Parser)]
@@ -81,8 +83,8 @@ fn run<F: Front>(given: &Given, config: &Config, script: Option<&Script>) -> Res
         pipe::register(signal, node.bell()?)?;
     }
     if !config.sync && !sync {
-        eprintln!(
-            "without --sync a crash of the machine may lose entries that others have seen; a crash of this program loses none"
+        say(
+            "without --sync a crash of the machine may lose entries that others have seen; a crash of this program loses none",
         );
     }
     let done = match (script, &given.socket) {
@@ -118,7 +120,7 @@ fn answer(asked: Asked) -> Result<(), Box<dyn Error>> {
         Asked::Client { socket } => ask(&socket, io::stdin().lock(), io::stdout().lock())
             .map_err(|why| format!("{}: {why}", socket.display()))?,
         Asked::Merge { logs, cut } => io::stdout().write_all(&merge(&logs, cut)?)?,
-        Asked::Keys { file } => println!("key = \"{}\"", write_new_keys(&file)?.text()),
+        Asked::Keys { file } => writeln!(io::stdout(), "key = \"{}\"", write_new_keys(&file)?.text())?,
     }
     Ok(())
 }
@@ -127,7 +129,7 @@ fn main() -> ExitCode {
     match answer(Asked::parse()) {
         Ok(()) => ExitCode::SUCCESS,
         Err(why) => {
-            eprintln!("{why}");
+            say(why);
             ExitCode::FAILURE
         }
     }

@@ -22,7 +22,8 @@ fn line(text: &str, registers: &[String]) -> Option<Line> {
         return Some(Line::Call(op));
     }
     let seconds = text.trim().strip_prefix("sleep ")?.trim().parse().ok()?;
-    Duration::try_from_secs_f64(seconds).ok().map(Line::Sleep)
+    let time = Duration::try_from_secs_f64(seconds).ok()?;
+    Instant::now().checked_add(time).map(|_| Line::Sleep(time))
 }
 
 impl Script {
@@ -108,6 +109,7 @@ mod tests {
             "write x -1",
             "sleep -1",
             "sleep x",
+            "sleep 1e19",
             "add x 1",
             "read x 1",
         ] {
