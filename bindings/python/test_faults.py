@@ -45,7 +45,7 @@ class Calls(Hanging, unittest.TestCase):
             with patched:
                 for value in range(1, 4):
                     a.write("x", value, 5)
-                with self.assertRaisesRegex(NodeFailed, "^the log can't be written: .*No space left on device$"):
+                with self.assertRaisesRegex(NodeFailed, "^the log can't be written: .*No space left on device"):
                     a.write("x", 4, 5)
             self.clear()
 

@@ -22,6 +22,12 @@ ENVIRONMENT = {name: value for name, value in os.environ.items() if name != "PYT
 TRACES = ("Traceback", "Exception ignored", "panicked")
 
 
+def is_open(path):
+    """Whether a node answers at this socket."""
+    with socket.socket(socket.AF_UNIX) as one:
+        return one.connect_ex(path) == 0
+
+
 class Programs(unittest.TestCase):
     """The program of each language ends with one line that says why, and with status 1."""
 
@@ -102,7 +108,8 @@ class Programs(unittest.TestCase):
         self.config()
         for k, program in enumerate(PROGRAMS):
             line = self.refused(program, self.words(program, f"{k}.log"), shell='ulimit -f 0; trap "" XFSZ; exec "$@"')
-            self.assertRegex(line, f"{k}.log: .*File too large")
+            self.assertRegex(line, f"{k}.log.*File too large|File too large.*{k}.log")
+            self.assertFalse(os.path.exists(self.at(f"{k}.log")))
 
     def test_keys_that_are_none_are_refused_and_no_log_is_begun(self):
         public, secret = (it.decode() for it in road.new_keys())
@@ -173,7 +180,7 @@ class Programs(unittest.TestCase):
             path = self.at(f"{k}.socket")
             # (the log has no more than 1,024 bytes)
             node = self.start(self.words(program, f"{k}.log", "--socket", path), shell='ulimit -f 1; trap "" XFSZ; exec "$@"')
-            self.assertTrue(wait_until(lambda: os.path.exists(path)))
+            self.assertTrue(wait_until(lambda: is_open(path)))
             for value in range(100):
                 answer, = told(path, f"write x {value}")
                 if answer != "done":
@@ -190,7 +197,7 @@ class Programs(unittest.TestCase):
         for k, program in enumerate(PROGRAMS):
             path = self.at(f"{k}.socket")
             node = self.start(self.words(program, f"{k}.log", "--socket", path))
-            self.assertTrue(wait_until(lambda: os.path.exists(path)))
+            self.assertTrue(wait_until(lambda: is_open(path)))
             for line in ("write x 1_000", "write x \u0663", "write x \uff15", "write x 1e3", "write x 5.0", "write x 0x5", "write x --5"):
                 self.assertRegex(told(path, line)[0], "^refused: ", line)
             self.assertEqual(told(path, "write x +7", "swap x 007", "read x"), ["done", "value 7", "value 7"])
@@ -207,7 +214,7 @@ class Programs(unittest.TestCase):
         for k, program in enumerate(PROGRAMS):
             path = self.at(f"{k}.socket")
             node = self.start(self.words(program, f"{k}.log", "--socket", path), shell='ulimit -n 64; exec "$@"')
-            self.assertTrue(wait_until(lambda: os.path.exists(path)))
+            self.assertTrue(wait_until(lambda: is_open(path)))
             programs = [socket.socket(socket.AF_UNIX) for _ in range(80)]
             for it in programs:
                 it.setblocking(False)
@@ -225,6 +232,29 @@ class Programs(unittest.TestCase):
             self.assertEqual(found, ["ok"])
             node.terminate()
             self.assertEqual(self.ended(node)[0], 0)
+
+    def test_strangers_who_take_all_descriptors_stop_no_node(self):
+        self.config("chapter_operations = 5\n")
+        self.write("script", "sleep 2\n" + "".join(f"write x {value}\n" for value in range(1, 21)))
+        host, _, port = self.addresses[0].removeprefix("tcp://").rpartition(":")
+        for k, program in enumerate(PROGRAMS):
+            words = self.words(program, f"{k}.log", "--script", self.at("script"))
+            node = self.start(words, shell='ulimit -n 40; exec "$@"')
+            self.assertTrue(wait_until(lambda: os.path.exists(self.at(f"{k}.log"))))
+            time.sleep(0.5)  # (it has begun)
+            strangers = [socket.socket() for _ in range(60)]
+            for it in strangers:
+                it.setblocking(False)
+                it.connect_ex((host, int(port)))
+            time.sleep(3)
+            self.assertIsNone(node.poll())
+            self.assertFalse(os.path.exists(self.at(f"{k}.log.2")))  # (it waits)
+            for it in strangers:
+                it.close()
+            self.assertTrue(wait_until(lambda: os.path.exists(self.at(f"{k}.log.4")), 20))
+            node.terminate()
+            status, out, lines = self.ended(node)
+            self.assertEqual((status, out), (0, "done\n" * 20 + "end\n"))
 
     def test_a_client_that_is_interrupted_says_nothing(self):
         with socket.socket(socket.AF_UNIX) as silent:
@@ -272,7 +302,7 @@ class Programs(unittest.TestCase):
             for more in ([], ["--resume"]):
                 words = self.words(program, log, "--socket", path, *more)
                 node = self.start(["strace", "-f", "-y", "-qq", "-o", calls, "-e", "trace=fsync,fdatasync", *words])
-                self.assertTrue(wait_until(lambda: os.path.exists(path)))
+                self.assertTrue(wait_until(lambda: is_open(path)))
                 with open(calls) as file:
                     self.assertIn(f"<{log}>", file.read())
                 for it in subprocess.run(["pgrep", "-P", str(node.pid)], capture_output=True, text=True).stdout.split():

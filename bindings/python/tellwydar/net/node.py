@@ -107,9 +107,12 @@ class Node:
                 return
             story.tell_state()
             is_quiet, is_over, called = story.node.is_quiet(story.running), story.node.is_over, story.called()
-        if is_quiet:
-            story.say_quiet(called)
-        following = story.begin_next() if is_over else None
+        try:
+            if is_quiet:
+                story.say_quiet(called)
+            following = story.begin_next() if is_over else None
+        except OSError:
+            return  # at the next look it is tried again
         with self._lock:
             if is_look:
                 self._peers.tell_own()

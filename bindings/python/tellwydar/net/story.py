@@ -1,5 +1,6 @@
 """Where one node is: its proved node, the file of its log, and the chapters before. All that a chapter is, is in its
 log, so a node that was killed goes on. It needs the logs of its last two chapters, and no others."""
+import errno
 import functools
 import os
 import re
@@ -16,13 +17,16 @@ _Act = TypeVar("_Act", bound=Callable[..., Any])
 
 
 def _on_disk(act: _Act) -> _Act:
-    """What has to do with the disk, where its fault is that of the node."""
+    """What has to do with the disk, whose fault is that of the node, but where no file can be opened since there are too
+    many: strangers who connect have some, and lose them soon. Then it can be done again."""
 
     @functools.wraps(act)
     def acting(*given: Any) -> Any:
         try:
             return act(*given)
         except OSError as why:
+            if why.errno in (errno.EMFILE, errno.ENFILE):
+                raise
             raise NodeFailed(f"the log can't be written: {why}") from None
 
     return cast(_Act, acting)
@@ -95,9 +99,11 @@ class Story:
                 text = Node.begin(**head._replace(begun=secrets.randbits(64))._asdict())
                 file.begin(text)
         except BaseException as why:
+            if is_new:
+                os.unlink(path)
             file.close()
             if isinstance(why, OSError):
-                raise OSError(f"{path}: {why.strerror}") from None
+                raise OSError(why.errno, why.strerror, path) from None
             raise
         self.file = file
         return text

@@ -1,8 +1,9 @@
 //! The disk of a node: one thread has all that is written in hands, so that the node's thread waits for the disk for no
 //! longer than its caller wants to.
-use crate::fault::Fault;
+use crate::fault::{Fault, is_of_too_many};
 use crate::log_file::{LogFile, keep};
 use crate::road::Ringer;
+use std::fs;
 use std::io;
 use std::path::PathBuf;
 use std::sync::Arc;
@@ -54,7 +55,7 @@ pub type Gate = Box<dyn FnMut(Act) -> io::Result<()> + Send>;
 pub struct Disk {
     /// It ends where there is nobody who could give it one.
     jobs: Option<SyncSender<Job>>,
-    done: Receiver<Result<Job, Fault>>,
+    done: Receiver<Result<Option<Job>, Fault>>,
     thread: Option<JoinHandle<()>>,
     /// Whether it rings once it is done.
     rings: Arc<AtomicBool>,
@@ -67,10 +68,13 @@ fn is_gone() -> io::Error {
     io::Error::other("the thread that writes the log is gone")
 }
 
-fn of_log(why: Fault) -> Fault {
-    match why {
-        Fault::Io(why) => io::Error::new(why.kind(), format!("the log can't be written: {why}")).into(),
-        why => why,
+/// What is told of a job: none where no file can be opened now, since strangers who connect have too many. They lose
+/// them soon, and it can be done again.
+fn told(done: Result<Job, Fault>) -> Result<Option<Job>, Fault> {
+    match done {
+        Err(Fault::Io(why)) if is_of_too_many(&why) => Ok(None),
+        Err(Fault::Io(why)) => Err(io::Error::new(why.kind(), format!("the log can't be written: {why}")).into()),
+        done => done.map(Some),
     }
 }
 
@@ -96,7 +100,11 @@ fn done(job: Job, log: &mut LogFile, gate: &mut Gate) -> Result<Job, Fault> {
             gate(Act::Create)?;
             let mut next = LogFile::create(path)?;
             gate(Act::Begin)?;
-            next.begin(text)?;
+            if let Err(why) = next.begin(text) {
+                // (it is begun whole, or not at all)
+                let _ = fs::remove_file(path);
+                return Err(why.into());
+            }
             *log = next;
         }
     }
@@ -111,7 +119,7 @@ impl Disk {
         let is_awaited = Arc::clone(&rings);
         let serve = move || {
             for job in given {
-                if tell.send(done(job, &mut log, &mut gate).map_err(of_log)).is_err() {
+                if tell.send(told(done(job, &mut log, &mut gate))).is_err() {
                     return;
                 }
                 // (either this is seen to be awaited, or what was told just now is seen)
@@ -136,7 +144,7 @@ impl Disk {
         self.jobs.as_ref().and_then(|it| it.try_send(job).ok()).ok_or_else(is_gone)
     }
 
-    /// The job that it has, if it is done with it within this time; where that was brief, it rings else once it is. For a
+    /// The job that it has, if it is done with it within this time, and none where it isn't busy any more all the same; where that was brief, it rings else once it is. For a
     /// job one waits briefly once.
     pub fn end(&mut self, wait: Wait) -> Result<Option<Job>, Fault> {
         if !self.is_busy {
@@ -157,7 +165,7 @@ impl Disk {
         match done {
             Ok(done) => {
                 self.is_busy = false;
-                done.map(Some)
+                done
             }
             Err(TryRecvError::Empty) => Ok(None),
             Err(TryRecvError::Disconnected) => Err(is_gone().into()),

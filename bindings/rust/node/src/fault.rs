@@ -1,7 +1,7 @@
 //! Why a node refuses a call, doesn't start, or stopped.
 use std::fmt;
 use std::io::{self, Write};
-use std::path::Path;
+use std::path::{Path, PathBuf};
 use tellwydar::Refused;
 
 /// Why a call isn't answered, why there is no node, or why logs have no report. Only after `Stopped` and what comes
@@ -53,9 +53,29 @@ pub fn say(line: impl fmt::Display) {
     let _ = io::stderr().write_all(format!("{line}\n").as_bytes());
 }
 
+/// A fault, and the path at which it came up.
+#[derive(Debug)]
+struct AtPath(PathBuf, io::Error);
+
+impl fmt::Display for AtPath {
+    fn fmt(&self, f: &mut fmt::Formatter<'_>) -> fmt::Result {
+        write!(f, "{}: {}", self.0.display(), self.1)
+    }
+}
+
+impl std::error::Error for AtPath {}
+
 /// The same fault, with the path at which it came up.
 pub fn at_path(path: &Path, why: io::Error) -> io::Error {
-    io::Error::new(why.kind(), format!("{}: {why}", path.display()))
+    io::Error::new(why.kind(), AtPath(path.to_path_buf(), why))
+}
+
+/// Whether no file can be opened since there are too many.
+pub fn is_of_too_many(why: &io::Error) -> bool {
+    const ENFILE: i32 = 23;
+    const EMFILE: i32 = 24;
+    let at_path = why.get_ref().and_then(|it| it.downcast_ref::<AtPath>());
+    matches!(at_path.map_or(why, |it| &it.1).raw_os_error(), Some(ENFILE | EMFILE))
 }
 
 impl fmt::Display for Fault {

@@ -5,7 +5,7 @@ use crate::disk::{Disk, Job, Wait};
 use crate::fault::{Fault, at_path, say};
 use crate::log_file::{LogFile, called_up_to, last_chapter, log_of, quiet_of};
 use crate::log_text;
-use std::fs::File;
+use std::fs::{self, File};
 use std::io::{self, Read};
 use std::path::{Path, PathBuf};
 use tellwydar::{LogHead, LoggedNode, Op, Output, Refused, Room};
@@ -166,7 +166,9 @@ impl Story {
             }
             resumed(&LogHead { chapter: last, ..head }, &log_of(path, last))?
         } else {
-            begun(head, path, LogFile::create(path)?)?
+            let log = LogFile::create(path)?;
+            // (it is begun whole, or not at all)
+            begun(head, path, log).inspect_err(|_| drop(fs::remove_file(path)))?
         };
         chapter.node.follow(room, &before.values)?;
         if quiet_of(&log_of(path, chapter.head.chapter)).exists() {
