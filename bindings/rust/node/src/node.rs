@@ -220,7 +220,7 @@ impl<F: Front> Node<F> {
             if let Some(answer) = self.answer.take() {
                 return Ok(answer);
             }
-            if !self.story.chapter.is_running {
+            if !self.so_far().1 {
                 return Err(Fault::Nothing);
             }
             self.pass(deadline, Fault::TimedOut)?;

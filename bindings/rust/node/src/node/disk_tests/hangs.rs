@@ -272,6 +272,8 @@ fn calls_are_paused_while_a_chapter_turns_and_the_disk_hangs() {
             soon(|| {
                 assert!(is_paused(&node.perform(write(4), SHORT)));
                 assert!(is_paused(&node.perform(READ, SHORT)));
+                // (what a chapter begins with is nobody's operation)
+                assert!(matches!(node.wait(SHORT), Err(Fault::Nothing)));
                 assert!(!node.serve(Some(Instant::now() + Duration::from_millis(50))).expect("a node"));
             });
             assert_eq!((node.so_far(), node.status().operations), ((3, false), 3));
