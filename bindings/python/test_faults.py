@@ -61,6 +61,16 @@ class Calls(Hanging, unittest.TestCase):
             with self.soon():
                 self.assertIsNone(call.result())
 
+    def test_a_new_log_is_none_beside_those_of_later_chapters(self):
+        a, = self.begin(1, chapter_operations=3)
+        for value in range(1, 5):
+            a.write("x", value, 5)
+        a.close()
+        os.unlink(self.path(0))
+        with self.assertRaisesRegex(NodeFailed, r"0\.log\.1 is there already: resume it, or take a new one for a new cluster$"):
+            self.start(0)
+        self.assertFalse(os.path.exists(self.path(0)))
+
     def test_nobody_waits_for_what_a_chapter_begins_with(self):
         (a,), disk = self.begin(1, chapter_operations=3), Disk()
         append = disk.around(LogFile.append, lambda _, data, force: b" write x 3" in data)

@@ -32,6 +32,10 @@ def _on_disk(act: _Act) -> _Act:
     return cast(_Act, acting)
 
 
+def _is_there(path: str) -> NodeFailed:
+    return NodeFailed(f"{path} is there already: resume it, or take a new one for a new cluster")
+
+
 class Story:
     """The chapters of a node up to the one that goes on.
 
@@ -42,7 +46,9 @@ class Story:
         self._path, self._room, self._say = path, room, say
         self._called_before, self._ended_with = 0, []  # type: int, List[int]
         self.last_head, self.last_state = head, b""
-        chapter = self._last_chapter() if resume else 0
+        chapter = self._last_chapter()
+        if chapter > 0 and not resume:
+            raise _is_there(self.log_of(chapter))
         if chapter > 0:
             self._end_again(head._replace(chapter=chapter - 1))
         head = head._replace(chapter=chapter)
@@ -92,7 +98,7 @@ class Story:
         try:
             file = LogFile(path, is_new)
         except FileExistsError:
-            raise NodeFailed(f"{path} is there already: resume it, or take a new one for a new cluster") from None
+            raise _is_there(path) from None
         try:
             text = file.read()
             if Node.is_headless(text, cluster=head.cluster, process=head.process, chapter=head.chapter):

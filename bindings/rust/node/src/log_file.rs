@@ -37,6 +37,12 @@ pub fn keep(path: &Path, bytes: &[u8]) -> io::Result<()> {
     sync_folder(path)
 }
 
+/// A log is there where a new one is begun.
+pub fn is_there(path: &Path) -> Fault {
+    let what = "is there already: resume it, or take a new one for a new cluster";
+    Fault::OtherLog(format!("{} {what}", path.display()))
+}
+
 impl LogFile {
     fn of(path: &Path, options: &OpenOptions) -> Result<Self, Fault> {
         let file = options.open(path).map_err(|why| at_path(path, why))?;
@@ -56,10 +62,7 @@ impl LogFile {
     /// Where there is one at this path already, or none can be made.
     pub fn create(path: &Path) -> Result<Self, Fault> {
         Self::of(path, OpenOptions::new().write(true).create_new(true).mode(0o600)).map_err(|why| match why {
-            Fault::Io(it) if it.kind() == io::ErrorKind::AlreadyExists => Fault::OtherLog(format!(
-                "{} is there already: resume it, or take a new one for a new cluster",
-                path.display()
-            )),
+            Fault::Io(it) if it.kind() == io::ErrorKind::AlreadyExists => is_there(path),
             why => why,
         })
     }

@@ -3,7 +3,7 @@
 use crate::config::Options;
 use crate::disk::{Disk, Job, Wait};
 use crate::fault::{Fault, at_path, say};
-use crate::log_file::{LogFile, called_up_to, last_chapter, log_of, quiet_of};
+use crate::log_file::{LogFile, called_up_to, is_there, last_chapter, log_of, quiet_of};
 use crate::log_text;
 use std::fs::{self, File};
 use std::io::{self, Read};
@@ -159,12 +159,14 @@ impl Story {
         start: impl FnOnce(LogFile) -> io::Result<Disk>,
     ) -> Result<Self, Fault> {
         let (path, mut before) = (options.log.as_path(), Before::default());
+        let last = last_chapter(path)?;
         let (mut chapter, log) = if options.resume {
-            let last = last_chapter(path)?;
             if last > 0 {
                 before = Before::of(&LogHead { chapter: last - 1, ..head.clone() }, &log_of(path, last - 1))?;
             }
             resumed(&LogHead { chapter: last, ..head }, &log_of(path, last))?
+        } else if last > 0 {
+            return Err(is_there(&log_of(path, last)));
         } else {
             let log = LogFile::create(path)?;
             // (it is begun whole, or not at all)

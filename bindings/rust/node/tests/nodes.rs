@@ -347,6 +347,17 @@ fn a_bell_that_rang_in_a_call_is_heard_behind_it() -> Ended {
 }
 
 #[test]
+fn a_new_log_is_none_beside_those_of_later_chapters() -> Ended {
+    let room = room("later")?;
+    let (config, log, later) = (config("linear", 1)?, room.join("0.log"), room.join("0.log.1"));
+    fs::write(&later, "")?;
+    let refused = Node::<Linear>::open(&config, &Options::new(0, &log)).map(|_| ()).expect_err("a later log");
+    let why = format!("{} is there already: resume it, or take a new one for a new cluster", later.display());
+    assert_eq!((refused.to_string(), log.exists()), (why, false));
+    Ok(fs::remove_dir_all(room)?)
+}
+
+#[test]
 fn a_time_may_have_no_end() -> Ended {
     let room = room("endless")?;
     let mut node = Node::<Linear>::open(&config("linear", 1)?, &Options::new(0, room.join("0.log")))?;
