@@ -5,8 +5,8 @@
  *
  * Duties of the caller. No pointer is null, not even where its length is 0. A length is that of its room. Rooms don't
  * overlap. A handle is one that `tellwydar_world_new`, `tellwydar_process_new` or `tellwydar_node_new` gave to that kind
- * of function, it is in one call at a time, on the thread that made it, and in none after it was freed. No function is
- * called from a signal handler. A command keeps some 64 KiB on the stack.
+ * of function, it is in one call at a time, and in none after it was freed; threads that share one take turns under a lock
+ * of theirs. No function is called from a signal handler. A command keeps some 64 KiB on the stack.
  *
  * The library starts no thread and takes no lock. It takes memory by malloc, realloc and free.
  */
@@ -18,11 +18,12 @@
 
 #define TELLWYDAR_VERSION "0.1.0"
 
-/* Which functions and numbers there are. 2 adds compare-and-swaps, 3 nodes, 4 the judge of histories, 6 chapters and looks
- * at the peers of a node, 7 how one chapter follows another, and 8 the merge of logs, what the head of one says, whether one
- * never began, who a message is from, and whether chapters are one story: all functions and numbers of those before are there, and mean
- * what they did. */
-#define TELLWYDAR_ABI 8
+/* Which functions and numbers there are. 2 adds compare-and-swaps, 3 nodes, 4 the judge of histories, 5 the merge of
+ * records and a first value for the judge, 6 chapters and looks at the peers of a node, 7 how one chapter follows another,
+ * and 8 the merge of logs, what the head of one says, whether one never began, who a message is from, and whether chapters
+ * are one story. In 9 the result of `tellwydar_node_came` tells whether a tick is due, and of no node it is 0. Else all
+ * functions and numbers of those before are there, and mean what they did. */
+#define TELLWYDAR_ABI 9
 
 #ifdef __cplusplus
 extern "C" {
@@ -409,8 +410,10 @@ enum {
     TELLWYDAR_TICKS = 2
 };
 uint32_t tellwydar_node_watch(struct tellwydar_node *handle, uint8_t peer);
-/* Tells that something came from another process: where it was silent for long, looks are counted anew. The result is 0,
- * or TELLWYDAR_CLOSED. */
+/* Tells that the node took what came from another process: where that was silent for long, looks are counted anew. The
+ * result is TELLWYDAR_TICKS where the node is to tick at once: the last tick that was due for that process put frames
+ * again, and it has acknowledged just these, though it hasn't acknowledged more. So what it dropped, since a frame before
+ * was lost, is put again as fast as it acknowledges it. Else, and where no node was opened, the result is 0. */
 uint32_t tellwydar_node_came(struct tellwydar_node *handle, uint8_t peer);
 
 /* A cluster that doesn't end runs in chapters, each with logs of its own. Where one is to end, all nodes call nothing

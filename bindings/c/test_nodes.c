@@ -189,7 +189,7 @@ static void torn(struct written *it) {
 static void looks(struct written *it) {
     struct tellwydar_log log = of_process(0);
     expect("a handle with nothing behind it",
-           tellwydar_node_new(&it->node) == 0 && tellwydar_node_came(it->node, 1) == TELLWYDAR_CLOSED &&
+           tellwydar_node_new(&it->node) == 0 && tellwydar_node_came(it->node, 1) == 0 &&
                tellwydar_node_watch(it->node, 1) == 0);
     expect("a log", begun(&log, "x", it) == 0 && reopened(it, it->length, 0) == 0);
     for (uint32_t look = 1; look <= 126; look++) {
@@ -207,6 +207,23 @@ static void looks(struct written *it) {
     expect("a call", tellwydar_node_call(it->node, TELLWYDAR_WRITE, 0, 5) == 0 && write_down(it) > 0);
     expect("the frame is seen", tellwydar_node_watch(it->node, 1) == 0);
     expect("the frame is unacknowledged", tellwydar_node_watch(it->node, 1) == TELLWYDAR_TICKS);
+    tellwydar_node_free(it->node);
+}
+
+/* A node that writes at once, whose first frame was lost: the others are put again as the peer acknowledges them. */
+static void dropped(struct written *it) {
+    const uint8_t put_again[] = {0, 10, 1, 2, 0, 0, 0, 0, 0, 0, 0, 16};
+    struct tellwydar_log log = of_process(0);
+    log.front = TELLWYDAR_LOCAL_WRITE;
+    expect("a log", tellwydar_node_new(&it->node) == 0 && begun(&log, "x", it) == 0 && reopened(it, it->length, 0) == 0);
+    expect("it hears the other", tellwydar_node_hear(it->node, 1, 0) == 0);
+    for (int write = 0; write < 20; write++)
+        expect("a write", tellwydar_node_call(it->node, TELLWYDAR_WRITE, 0, 5) == 0);
+    expect("a look", tellwydar_node_watch(it->node, 1) == 0 && tellwydar_node_watch(it->node, 1) == TELLWYDAR_TICKS);
+    expect("nothing is acknowledged", tellwydar_node_came(it->node, 1) == 0);
+    expect("what was put again is acknowledged", tellwydar_node_take(it->node, 1, put_again, sizeof put_again) == 0);
+    expect("a tick is due", tellwydar_node_came(it->node, 1) == TELLWYDAR_TICKS);
+    expect("once", tellwydar_node_came(it->node, 1) == 0);
     tellwydar_node_free(it->node);
 }
 
@@ -397,6 +414,7 @@ int main(void) {
     torn(&writer);
     tellwydar_node_free(writer.node);
     looks(&other);
+    dropped(&other);
     other_node(&other);
     write_and_read(&writer, &other);
     chapters(&other);

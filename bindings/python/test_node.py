@@ -45,6 +45,20 @@ def looked(node, looks=500):
     return [it for it, look in made if look.greets], [it for it, look in made if look.ticks]
 
 
+def frames_of(node):
+    """All frames that go out of its steps."""
+    node.mark_durable(node.logged)
+    return [frame for output in iter(node.hand_out, None) for _, frame in output.frames]
+
+
+def exchange(one, other, lost=0):
+    """Process 1 takes what process 0 put, but for the first frames, which are lost; and process 0 what then comes back."""
+    for frame in frames_of(one)[lost:]:
+        other.take(0, frame)
+    for frame in frames_of(other):
+        one.take(1, frame)
+
+
 class OneNode(unittest.TestCase):
     def test_the_head(self):
         for behind in (b"", CALLED, b"fb", b"\0\0"):
@@ -143,12 +157,30 @@ class OneNode(unittest.TestCase):
         node.hear(1, 0)
         node.call(Write(0, 5))
         self.assertEqual(looked(node)[0], [128, 228, 328, 428])
-        node.came(1)
+        self.assertFalse(node.came(1))
         self.assertEqual(looked(node, 126), ([], [1, 3, 7, 15, 31, 63]))
-        node.came(1)  # it isn't silent for long yet
+        self.assertFalse(node.came(1))  # it isn't silent for long yet
         self.assertEqual(looked(node, 1), ([1], []))
         node.take(1, GOT)
         self.assertEqual(looked(node), ([], []))
+
+    def test_what_was_dropped_behind_a_lost_frame_is_put_again_as_it_is_acknowledged(self):
+        about = {**OF_WRITER, "front": Front.LOCAL_WRITE}
+        writer, other = (Node.open(Node.begin(**{**about, "process": it}), 0) for it in range(2))
+        writer.hear(1, 0)
+        other.hear(0, 0)
+        for value in range(50):
+            writer.call(Write(0, value))
+        exchange(writer, other, lost=1)
+        self.assertEqual((writer.came(1), writer.pending), (False, 50))
+        self.assertEqual(looked(writer, 2), ([], [2]))
+        left, is_due = [], True
+        while is_due:
+            writer.tick()
+            exchange(writer, other)
+            is_due = writer.came(1)
+            left.append(writer.pending)
+        self.assertEqual(left, [34, 18, 2, 0])
 
     def test_a_node_has_one_owner(self):
         node = Node.open(HEAD, 0)

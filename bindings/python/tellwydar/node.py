@@ -367,9 +367,11 @@ class Node(_Progress):
         code = self._asked(_library.tellwydar_node_watch, _ranged(peer, 8))
         return Look(code & 1 != 0, code & 2 != 0)
 
-    def came(self, peer: int) -> None:
-        """Notes that something came from another process: where it was silent for long, looks are counted anew."""
-        self._told(self._asked(_library.tellwydar_node_came, _ranged(peer, 8)))
+    def came(self, peer: int) -> bool:
+        """Notes that it took what came from another process: where that was silent for long, looks are counted anew.
+        Tells whether to tick at once: where the last tick that was due for that process put frames again, and it has
+        acknowledged just these, though it hasn't acknowledged more."""
+        return self._asked(_library.tellwydar_node_came, _ranged(peer, 8)) != 0
 
     def accepted(self, peer: int) -> int:
         """How many bodies it accepted from another process, which that one is to hear when they meet."""

@@ -460,10 +460,13 @@ impl LoggedNode {
         Look { greets: code & 1 != 0, ticks: code & 2 != 0 }
     }
 
-    /// Notes that something came from another process: where it was silent for long, looks are counted anew.
-    pub fn came(&mut self, peer: u8) {
-        // SAFETY: as in `call`. (A node that is open takes note.)
-        unsafe { foreign::tellwydar_node_came(self.handle.as_ptr(), peer) };
+    /// Notes that it took what came from another process: where that was silent for long, looks are counted anew.
+    ///
+    /// Tells whether to tick at once: where the last tick that was due for that process put frames again, and it has
+    /// acknowledged just these, though it hasn't acknowledged more.
+    pub fn came(&mut self, peer: u8) -> bool {
+        // SAFETY: as in `call`.
+        unsafe { foreign::tellwydar_node_came(self.handle.as_ptr(), peer) != 0 }
     }
 
     fn stepped(&mut self, code: u32) -> Result<&[u8], Refused> {

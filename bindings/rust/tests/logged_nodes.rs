@@ -171,12 +171,29 @@ fn who_was_silent_for_long_is_looked_at_anew_once_something_came() -> Result<(),
     node.hear(1, 0)?;
     node.call(WRITE)?;
     assert_eq!(looked(&mut node, 500).0, [128, 228, 328, 428]);
-    node.came(1);
+    assert!(!node.came(1));
     assert_eq!(looked(&mut node, 126), (vec![], vec![1, 3, 7, 15, 31, 63]));
-    node.came(1); // (it isn't silent for long yet)
+    assert!(!node.came(1)); // (it isn't silent for long yet)
     assert_eq!(looked(&mut node, 1), (vec![1], vec![]));
     node.take(1, &GOT)?;
     assert_eq!(looked(&mut node, 500), (vec![], vec![]));
+    Ok(())
+}
+
+#[test]
+fn what_was_dropped_behind_a_lost_frame_is_put_again_as_it_is_acknowledged() -> Result<(), Refused> {
+    let log = LoggedNode::begin(&LogHead { front: FrontEnd::LocalWrite, ..head(0) })?;
+    let mut node = LoggedNode::open(&log, 0).expect("a log");
+    node.hear(1, 0)?;
+    for _ in 0..20 {
+        node.call(WRITE)?;
+    }
+    assert_eq!(looked(&mut node, 2), (vec![], vec![2]));
+    let put_again = [0, 0x0a, 1, 2, 0, 0, 0, 0, 0, 0, 0, 16];
+    assert!(!node.came(1));
+    node.take(1, &put_again)?;
+    assert!(node.came(1));
+    assert!(!node.came(1));
     Ok(())
 }
 

@@ -1,13 +1,12 @@
 -- What a node that a caller holds knows of the silence of its peers. Promises cite it.
-use Rattle.std.specs.Prelude.{ℕ, ◌≡◌, ◌+◌, ◌*◌, List, Option, None, Some}
-use Rattle.reg_links.specs.declared.beats.Beat.{Beat}
+use Rattle.std.specs.Prelude.{ℕ, ◌≡◌, ◌+◌, ◌*◌, Bool, false, List, Option, None, Some}
 use Rattle.reg_node.specs.declared.peers.Look.{Look}
+use Rattle.reg_node.specs.declared.peers.Watched.{Watched}
 use Rattle.reg_node.specs.Meetings.{MeetingState}
-use Rattle.reg_node.specs.Peers.{LooksAt, has_heard, is_long_at, no_look, with_woken}
+use Rattle.reg_node.specs.Peers.{HearsOf, LooksAt, has_heard, is_long_at, no_look}
 use Rattle.reg_c.specs.declared.nodes.HeldNode.{HeldNode}
 use Rattle.reg_c.specs.declared.nodes.KeptNode.{KeptNode}
 use Rattle.reg_c.specs.declared.nodes.KeptNode.TheVariants.{Linear, LocalRead, LocalWrite, Closed}
-use Rattle.reg_c.specs.Events.{no_world}
 use Rattle.reg_c.specs.Nodes.{flag, node_state_in}
 use Rattle.reg_c.specs.Processes.{TellsKnown}
 use Rattle.reg_c.specs.Worlds.{seen}
@@ -23,24 +22,30 @@ abbrev pub look_code : Look → ℕ
 look_code look = flag look.greets + 2 * flag look.ticks
 
 -- a look at a peer of the node, if there is one
-abbrev pub LooksIn : Option MeetingState → ℕ → List Beat → Look → List Beat → Type 0
+abbrev pub LooksIn : Option MeetingState → ℕ → List Watched → Look → List Watched → Type 0
 LooksIn None peer old look new = (look ≡ no_look) × (new ≡ old)
 LooksIn (Some m) peer old look new = LooksAt m peer old look new
 
-abbrev pub WatchesBy : HeldNode → ℕ → Option (List Beat) → HeldNode → ℕ → Type 0
+abbrev pub WatchesBy : HeldNode → ℕ → Option (List Watched) → HeldNode → ℕ → Type 0
 WatchesBy old peer None new code = (code ≡ 0) × (new ≡ old)
-WatchesBy old peer (Some beats) new code =
-    (look : Look) × (after : List Beat) × LooksIn (meeting_in old.node) peer beats look after × (code ≡ look_code look) × (new ≡ record old { peers = Some after })
+WatchesBy old peer (Some all) new code =
+    (look : Look) × (after : List Watched) × LooksIn (meeting_in old.node) peer all look after × (code ≡ look_code look) × (new ≡ record old { peers = Some after })
 
 -- the node that is held looks at a peer, and what is due is told; nothing is where no node was opened
 abbrev pub NodeWatches : ℕ → HeldNode → HeldNode → ℕ → Type 0
 NodeWatches peer old new code = WatchesBy old peer old.peers new code
 
-abbrev pub CameBy : HeldNode → ℕ → Option (List Beat) → HeldNode → ℕ → Type 0
-CameBy old peer None new code = (code ≡ no_world) × (new ≡ old)
-CameBy old peer (Some beats) new code = (code ≡ 0) × (new ≡ record old { peers = Some (with_woken beats peer) })
+-- something came from a peer of the node, if there is one, and whether it is to tick
+abbrev pub HearsIn : Option MeetingState → ℕ → List Watched → Bool → List Watched → Type 0
+HearsIn None peer old ticks new = (ticks ≡ false) × (new ≡ old)
+HearsIn (Some m) peer old ticks new = HearsOf m peer old ticks new
 
--- something came from a peer of the node that is held, if one was opened
+abbrev pub CameBy : HeldNode → ℕ → Option (List Watched) → HeldNode → ℕ → Type 0
+CameBy old peer None new code = (code ≡ 0) × (new ≡ old)
+CameBy old peer (Some all) new code =
+    (ticks : Bool) × (after : List Watched) × HearsIn (meeting_in old.node) peer all ticks after × (code ≡ 2 * flag ticks) × (new ≡ record old { peers = Some after })
+
+-- something came from a peer of the node that is held: 2 where it is to tick, and 0 where no node was opened
 abbrev pub CameFrom : ℕ → HeldNode → HeldNode → ℕ → Type 0
 CameFrom peer old new code = CameBy old peer old.peers new code
 
@@ -48,5 +53,5 @@ CameFrom peer old new code = CameBy old peer old.peers new code
 -- as of a process.
 pub record NodeTells (h : HeldNode) (what peer n : ℕ) : Type 0 where
   pub heard : what ≡ 4 → n ≡ seen (λ m. flag (has_heard m peer)) (meeting_in h.node)
-  pub silent : what ≡ 5 → n ≡ seen (λ beats. flag (is_long_at beats peer)) h.peers
+  pub silent : what ≡ 5 → n ≡ seen (λ all. flag (is_long_at all peer)) h.peers
   pub known : (what ≡ 4 → ⊥) → (what ≡ 5 → ⊥) → TellsKnown (node_state_in h.node) what peer n

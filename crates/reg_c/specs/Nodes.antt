@@ -23,7 +23,7 @@ use Rattle.reg_node.specs.Logs.{Outgoing, first_state}
 use Rattle.reg_node.specs.Meetings.{Hears, HearsNothing, all_heard, heard_at_first}
 use Rattle.reg_node.specs.Nodes.{marked}
 use Rattle.reg_node.specs.Opening.{IsOpened, IsOpenFault, opened_with}
-use Rattle.reg_node.specs.Peers.{first_beats}
+use Rattle.reg_node.specs.Peers.{first_watched}
 use Rattle.reg_commands.specs.Lent.{filled}
 use Rattle.reg_c.specs.declared.nodes.HeldNode.{HeldNode}
 use Rattle.reg_c.specs.declared.nodes.KeptNode.{KeptNode}
@@ -80,7 +80,7 @@ pub record OpensNode (text : List ℕ) (durable : ℕ) (h : HeldNode) : Type 0 w
   pub bytes : h.bytes.items ≡ []
   pub output : h.output ≡ None
   pub chapter : h.chapter ≡ Some (first_chapter journal)
-  pub peers : h.peers ≡ Some (first_beats journal.shape.processes)
+  pub peers : h.peers ≡ Some (first_watched journal.shape.processes)
   pub course : h.course ≡ None
 
 -- no log is read, for this fault

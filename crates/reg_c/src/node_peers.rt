@@ -4,12 +4,11 @@ ghost use Rattle.reg_node.specs.Peers.{has_heard, is_long_at};
 ghost use Rattle.reg_process.specs.Known.{IsNoPeer, known_of};
 ghost use Rattle.reg_process.specs.Process.{peer_at};
 ghost use Rattle.reg_c.specs.Nodes.{flag, node_state_in};
-ghost use Rattle.reg_c.specs.NodePeers.{CameFrom, LooksIn, NodeTells, NodeWatches, look_code, meeting_in};
+ghost use Rattle.reg_c.specs.NodePeers.{CameFrom, HearsIn, LooksIn, NodeTells, NodeWatches, look_code, meeting_in};
 ghost use Rattle.reg_c.specs.Processes.{TellsKnown};
 ghost use Rattle.reg_c.specs.Worlds.{seen};
 
 use crate::choosing::of_kept;
-use crate::codes::CLOSED;
 use crate::node_parts::flag_of;
 use crate::nodes::{HeldNode, KeptNode};
 use crate::parts::{of_known, peer_look};
@@ -47,16 +46,19 @@ pub fn watch(held: &mut HeldNode, peer: u8) -> u32
     }
 }
 
-/// Notes that something came from a peer.
+fn hear_in(kept: &KeptNode, peers: &mut Peers, peer: u8) -> bool
+    ensures { HearsIn (meeting_in kept.now) peer peers.old result peers.new }
+{
+    of_kept!(kept, KeptNode, node => peers.hear(node.meeting(), peer), false)
+}
+
+/// Notes that the node took what came from a peer, and tells what is due: 2 where it is to tick.
 pub fn came(held: &mut HeldNode, peer: u8) -> u32
     ensures { CameFrom peer held.old held.new result }
 {
     match &mut held.peers {
-        Some(peers) => {
-            peers.hear(peer);
-            0
-        }
-        None => CLOSED,
+        Some(peers) => 2 * u32::from(hear_in(&held.node, peers, peer)),
+        None => 0,
     }
 }
 
@@ -69,7 +71,7 @@ fn heard_in(kept: &KeptNode, peer: u8) -> u64
 
 /// 1 if a peer is silent for long.
 fn silent_in(peers: &Option<Peers>, peer: u8) -> u64
-    ensures { result ≡ seen (λ beats. flag (is_long_at beats peer)) peers.now }
+    ensures { result ≡ seen (λ all. flag (is_long_at all peer)) peers.now }
 {
     match peers {
         Some(peers) => flag_of(peers.is_long(peer)),

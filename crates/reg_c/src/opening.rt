@@ -3,7 +3,7 @@ ghost use Rattle.std.specs.Prelude.{◌≡◌, ◌<◌, ◌⊎◌, length, IfErr
 ghost use Rattle.reg_front.specs.Table.{start_of};
 ghost use Rattle.reg_node.specs.LogTexts.{Journal, log_crc, log_text};
 ghost use Rattle.reg_node.specs.Opening.{IsOpenFault};
-ghost use Rattle.reg_node.specs.Peers.{first_beats};
+ghost use Rattle.reg_node.specs.Peers.{first_watched};
 ghost use Rattle.reg_c.specs.Nodes.{IsReadAs, IsUnopened, IsUnread, KeptAfter, Opens, first_chapter};
 
 use crate::choosing::kept_under;
@@ -43,7 +43,7 @@ struct Begun {
 }
 
 fn begin(alloc: Global, text: &[u8], durable: u64) -> Result<Begun, LogRefusal>
-    ensures begun { IfOk result (λ b. (j : Journal) × IsReadAs text.now durable j × KeptAfter j b.node × (b.chapter ≡ first_chapter j) × (b.peers ≡ first_beats j.shape.processes) × (b.whole ≡ length (log_text j))) }
+    ensures begun { IfOk result (λ b. (j : Journal) × IsReadAs text.now durable j × KeptAfter j b.node × (b.chapter ≡ first_chapter j) × (b.peers ≡ first_watched j.shape.processes) × (b.whole ≡ length (log_text j))) }
     ensures why { IfErr result (λ w. (0 < w.code) × (IsUnread text.now durable w.code w.place ⊎ IsUnopened text.now durable w.code w.place)) }
 {
     let read = read(alloc, text, durable)?;

@@ -317,9 +317,9 @@ class Node:
                 with self._lock:
                     if self._closed or self._failed:
                         break
-                    for key, message in messages:
-                        self._heard(key, message, now)
                     must = self._held_till is not None and now >= self._held_till
+                    for key, message in messages:
+                        must |= self._heard(key, message, now)
                     if is_look:
                         must |= self._look()
                         look_at = now + self._look_every
@@ -360,19 +360,21 @@ class Node:
 
     def _look(self) -> bool:
         """Looks at the links, and tells whether all entries are to be durable then."""
-        tick = self._peers.look()
-        if tick:
-            self._story.step(self._story.node.tick)
-        return tick or self._story.node.is_ending
+        return self._tick(self._peers.look()) or self._story.node.is_ending
 
-    def _heard(self, key: Optional[int], message: bytes, now: float) -> None:
+    def _tick(self, is_due: bool) -> bool:
+        if is_due:
+            self._story.step(self._story.node.tick)
+        return is_due
+
+    def _heard(self, key: Optional[int], message: bytes, now: float) -> bool:
+        """Hears a message, and tells whether all entries are to be durable then."""
         it = self._peers.post.met(key, message)
         if it is None:
-            return
+            return False
         if it.met is Met.LATE:
             self._peers.tell_last(it.sender)
-            return
-        self._peers.came(it.sender, now)
+            return False
         brings, rest = message[START : START + 1], message[START + 1 :]
         if brings == FRAMES:
             self._take(it.sender, rest)
@@ -382,6 +384,7 @@ class Node:
                 self._answered.notify_all()
         else:
             self._peers.heard_state(it.sender, rest)
+        return self._tick(self._peers.came(it.sender, now))
 
     def _take(self, sender: int, frames: bytes) -> None:
         at = 0

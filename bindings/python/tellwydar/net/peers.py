@@ -55,10 +55,10 @@ class Peers:
         for p in self.came_at:
             self._greet(p)
 
-    def came(self, sender: int, now: float) -> None:
-        """Something came from another node."""
+    def came(self, sender: int, now: float) -> bool:
+        """What came from another node was taken. Tells whether there is to be a tick at once."""
         self.came_at[sender] = now
-        self._story.node.came(sender)
+        return self._story.node.came(sender)
 
     def _greet(self, to: int) -> None:
         node = self._story.node

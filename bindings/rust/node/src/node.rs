@@ -327,8 +327,9 @@ impl<F: Front> Node<F> {
         match met {
             Met::Peer(brings) => {
                 self.came_at[usize::from(sender)] = Some(now);
-                self.story.chapter.node.came(sender);
-                self.brought(sender, brings, &bytes[WIDTH..])
+                self.brought(sender, brings, &bytes[WIDTH..])?;
+                let is_tick_due = self.story.chapter.node.came(sender);
+                self.tick_where(is_tick_due)
             }
             Met::Late => self.tell_last(sender),
             _ => Ok(()),

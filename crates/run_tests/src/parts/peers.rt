@@ -1,8 +1,9 @@
 //! When a node greets a peer that is silent, and when it ticks, as worked by hand.
 use crate::demands::{demand, shape_of};
 use crate::parts::nodes::{CALL_WRITE, TAKE_ACK};
+use reg_base::Op;
 use reg_frames::Frame;
-use reg_front::Linear;
+use reg_front::{FrontEnd, Linear, LocalWrite};
 use reg_node::{Look, MeetingNode, Peers, Step};
 use std::process::Abort;
 
@@ -12,8 +13,15 @@ enum Deed {
     /// It hears how many of its bodies the other one accepted.
     Greeted,
     Make(Step),
-    /// Something came from the other one.
+    /// It makes so many writes, none of which waits for another.
+    Write(u64),
+    /// Something came from the other one, at which it isn't to tick.
     Came,
+    /// The other one acknowledges so many bodies, and it is to tick or isn't.
+    Got {
+        count: u64,
+        ticks: bool,
+    },
     /// Looks at a process: those at which it is to be greeted, and those at which the node is to tick.
     Looks {
         peer: u8,
@@ -35,6 +43,15 @@ macro_rules! looks {
             count: $count,
             greets: &$greets,
             ticks: &$ticks,
+        }
+    };
+}
+
+macro_rules! got {
+    ($count:expr, $ticks:expr) => {
+        Deed::Got {
+            count: $count,
+            ticks: $ticks,
         }
     };
 }
@@ -69,10 +86,40 @@ const ANEW: &[Deed] = &[
     looks!(1, 500, [], []),
 ];
 
+/// What was dropped behind a frame that was lost is put again as fast as it is acknowledged, 16 at a time: until a tick
+/// puts all again that is left.
+const DROPPED: &[Deed] = &[
+    Deed::Greeted,
+    Deed::Write(50),
+    looks!(1, 2, [], [2]),
+    got!(15, false),
+    got!(16, true),
+    got!(16, false),
+    got!(32, true),
+    Deed::Write(10),
+    got!(48, true),
+    got!(60, false),
+    looks!(1, 500, [], []),
+];
+
+/// A peer that acknowledges more than was put again takes frames as they come.
+const IN_STEP: &[Deed] = &[
+    Deed::Greeted,
+    Deed::Write(50),
+    looks!(1, 2, [], [2]),
+    got!(17, false),
+    got!(32, false),
+    looks!(1, 2, [], [2]),
+    looks!(1, 1, [], []),
+    got!(47, false),
+    got!(48, true),
+    got!(49, false),
+];
+
 /// Whether the looks find this.
-fn find(
+fn find<F: FrontEnd>(
     peers: &mut Peers,
-    node: &MeetingNode<Linear>,
+    node: &MeetingNode<F>,
     peer: u8,
     count: u32,
     due: (&[u32], &[u32]),
@@ -88,7 +135,7 @@ fn find(
 }
 
 /// Whether the step is made.
-fn makes(node: &mut MeetingNode<Linear>, step: &Step) -> bool {
+fn makes<F: FrontEnd>(node: &mut MeetingNode<F>, step: &Step) -> bool {
     match step {
         Step::Call { op } => node.call(*op).is_ok(),
         Step::Take { from, frame } => node.take(*from, frame).is_ok(),
@@ -96,14 +143,21 @@ fn makes(node: &mut MeetingNode<Linear>, step: &Step) -> bool {
     }
 }
 
+/// Whether so many writes are made, each at once.
+fn writes<F: FrontEnd>(node: &mut MeetingNode<F>, count: u64) -> bool {
+    (0..count).all(|value| node.call(Op::Write { register: 0, value }).is_ok())
+}
+
 /// Whether the deed goes as it says.
-fn goes(node: &mut MeetingNode<Linear>, peers: &mut Peers, deed: &Deed) -> bool {
+fn goes<F: FrontEnd>(node: &mut MeetingNode<F>, peers: &mut Peers, deed: &Deed) -> bool {
     match deed {
         Deed::Greeted => node.hear(1, 0).is_ok(),
         Deed::Make(step) => makes(node, step),
-        Deed::Came => {
-            peers.hear(1);
-            true
+        Deed::Write(count) => writes(node, *count),
+        Deed::Came => !peers.hear(node, 1),
+        Deed::Got { count, ticks } => {
+            let frame = Frame::Got { count: *count };
+            node.take(1, &frame).is_ok() && peers.hear(node, 1) == *ticks
         }
         Deed::Looks {
             peer,
@@ -114,8 +168,8 @@ fn goes(node: &mut MeetingNode<Linear>, peers: &mut Peers, deed: &Deed) -> bool 
     }
 }
 
-fn follow(rt: &(impl Abort + AllocGlobal), deeds: &[Deed]) {
-    let node = MeetingNode::open(rt.alloc(), shape_of(rt, 2), 0, &[]);
+fn follow<F: FrontEnd>(rt: &(impl Abort + AllocGlobal), deeds: &[Deed]) {
+    let node = MeetingNode::<F>::open(rt.alloc(), shape_of(rt, 2), 0, &[]);
     let (mut node, peers) = (node.expect(rt, "a node"), Peers::new(rt.alloc(), 2));
     let mut peers = peers.expect(rt, "memory");
     for deed in deeds {
@@ -125,12 +179,18 @@ fn follow(rt: &(impl Abort + AllocGlobal), deeds: &[Deed]) {
 
 #[test]
 fn pauses_grow(rt: HostRuntime) {
-    follow(&rt, PAUSES);
+    follow::<Linear>(&rt, PAUSES);
 }
 
 #[test]
 fn who_was_silent_for_long_is_looked_at_anew_once_something_came(rt: HostRuntime) {
-    follow(&rt, ANEW);
+    follow::<Linear>(&rt, ANEW);
+}
+
+#[test]
+fn what_was_dropped_behind_a_lost_frame_is_put_again_as_it_is_acknowledged(rt: HostRuntime) {
+    follow::<LocalWrite>(&rt, DROPPED);
+    follow::<LocalWrite>(&rt, IN_STEP);
 }
 
 #[test]
@@ -143,10 +203,9 @@ fn a_peer_is_silent_for_long_after_127_looks(rt: HostRuntime) {
         assert!(rt; peers.is_long(1) == (look == 127), "{look}");
     }
     assert!(rt; !peers.is_long(2) && !peers.is_long(3));
-    peers.hear(2);
-    assert!(rt; peers.is_long(1));
-    peers.hear(1);
-    assert!(rt; !peers.is_long(1));
+    assert!(rt; !peers.hear(&node, 2) && peers.is_long(1));
+    assert!(rt; !peers.hear(&node, 3) && peers.is_long(1));
+    assert!(rt; !peers.hear(&node, 1) && !peers.is_long(1));
 }
 
 #[test]

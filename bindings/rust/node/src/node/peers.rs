@@ -59,12 +59,18 @@ impl<F: Front> Node<F> {
                 self.greet(peer);
             }
         }
-        if is_tick_due {
+        self.tick_where(is_tick_due)?;
+        // (that this chapter ends is told again)
+        self.told = None;
+        Ok(())
+    }
+
+    /// Puts frames again, where that is due.
+    pub(super) fn tick_where(&mut self, is_due: bool) -> Result<(), Fault> {
+        if is_due {
             self.story.step(LoggedNode::tick)?;
             self.data_due = true;
         }
-        // (that this chapter ends is told again)
-        self.told = None;
         Ok(())
     }
 

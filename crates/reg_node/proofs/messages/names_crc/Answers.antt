@@ -1,7 +1,4 @@
-use Rattle.std.proofs.Common.{◌∙◌, ap, arith}
-use Rattle.std.proofs.Common.{◌==◌, ◌∷◌}
-use Rattle.std.specs.Prelude.{if◌then◌else◌}
-use Rattle.reg_node.specs.Seals.{crc_over}
+use Rattle.std.proofs.Common.{◌∙◌, arith}
 use Rattle.reg_node.proofs.Starts.{names_more}
 use Rattle.reg_node.proofs.messages.names_crc.Goals as goal
 

@@ -1,4 +1,4 @@
-use Rattle.std.proofs.Common.{rules, arith}
+use Rattle.std.proofs.Common.{rules}
 use Rattle.reg_node.proofs.Starts.{start_read}
 use Rattle.reg_node.proofs.messages.MessageStart.read.Goals as goal
 
