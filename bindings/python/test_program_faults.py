@@ -22,6 +22,11 @@ ENVIRONMENT = {name: value for name, value in os.environ.items() if name != "PYT
 TRACES = ("Traceback", "Exception ignored", "panicked")
 
 
+def hear_interrupts():
+    """In a program to be: a shell has those that it starts behind itself hear none."""
+    signal.signal(signal.SIGINT, signal.SIG_DFL)
+
+
 def is_open(path):
     """Whether a node answers at this socket."""
     with socket.socket(socket.AF_UNIX) as one:
@@ -44,6 +49,10 @@ class Programs(unittest.TestCase):
             file.write(text if isinstance(text, bytes) else text.encode())
         return self.at(name)
 
+    def read(self, name):
+        with open(self.at(name)) as file:
+            return file.read()
+
     def config(self, top="", count=1, **other):
         of = {"cluster": "3", "front": '"linear"', "registers": '["x"]', **other}
         nodes = [f'[[node]]\naddress = "{it}"\n' for it in self.addresses[:count]]
@@ -54,8 +63,8 @@ class Programs(unittest.TestCase):
         return [*program, "node", "--me", "0", "--config", self.at("c.toml"), "--log", self.at(log), *more]
 
     def start(self, words, shell='exec "$@"', **more):
-        streams = {"stdout": subprocess.PIPE, "stderr": subprocess.PIPE, **more}
-        node = subprocess.Popen(["bash", "-c", shell, "bash", *words], cwd=HERE, env=ENVIRONMENT, text=True, **streams)
+        given = {"stdout": subprocess.PIPE, "stderr": subprocess.PIPE, "preexec_fn": hear_interrupts, **more}
+        node = subprocess.Popen(["bash", "-c", shell, "bash", *words], cwd=HERE, env=ENVIRONMENT, text=True, **given)
         self.addCleanup(node.wait)
         self.addCleanup(node.kill)
         return node
@@ -239,7 +248,8 @@ class Programs(unittest.TestCase):
         host, _, port = self.addresses[0].removeprefix("tcp://").rpartition(":")
         for k, program in enumerate(PROGRAMS):
             words = self.words(program, f"{k}.log", "--script", self.at("script"))
-            node = self.start(words, shell='ulimit -n 40; exec "$@"')
+            with open(self.at("out"), "w+") as out:
+                node = self.start(words, shell='ulimit -n 40; exec "$@"', stdout=out)
             self.assertTrue(wait_until(lambda: os.path.exists(self.at(f"{k}.log"))))
             time.sleep(0.5)  # (it has begun)
             strangers = [socket.socket() for _ in range(60)]
@@ -251,10 +261,9 @@ class Programs(unittest.TestCase):
             self.assertFalse(os.path.exists(self.at(f"{k}.log.2")))  # (it waits)
             for it in strangers:
                 it.close()
-            self.assertTrue(wait_until(lambda: os.path.exists(self.at(f"{k}.log.4")), 20))
+            self.assertTrue(wait_until(lambda: self.read("out").endswith("end\n"), 20))
             node.terminate()
-            status, out, lines = self.ended(node)
-            self.assertEqual((status, out), (0, "done\n" * 20 + "end\n"))
+            self.assertEqual((self.ended(node)[0], self.read("out")), (0, "done\n" * 20 + "end\n"))
 
     def test_a_client_that_is_interrupted_says_nothing(self):
         with socket.socket(socket.AF_UNIX) as silent:
