@@ -376,7 +376,8 @@ impl<F: Front> Node<F> {
 }
 
 impl<F: Front> Drop for Node<F> {
-    /// Writes down all that was called. (There is nobody whom one could tell that it can't be written.)
+    /// Writes down all that was called, unless the node has stopped. (There is nobody whom one could tell that it can't
+    /// be written.)
     fn drop(&mut self) {
         let _ = self.write_until(Chapter::is_written);
     }
