@@ -19,8 +19,19 @@ from test_disk import Disk, Hanging
 from test_net import CLUSTER, entries_of, free_addresses
 
 
+class Alarm(Exception):
+    """What a handler of a signal raises."""
+
+
+def ring(*_):
+    raise Alarm()
+
+
 class Calls(Hanging, unittest.TestCase):
     """What a caller does leaves its node up."""
+
+    def hear_alarms(self):
+        self.addCleanup(signal.signal, signal.SIGALRM, signal.signal(signal.SIGALRM, ring))
 
     def test_what_is_no_operation_is_refused_and_nothing_has_changed(self):
         a, = self.begin(1)
@@ -84,13 +95,7 @@ class Calls(Hanging, unittest.TestCase):
             self.assertEqual(a.swap("x", 5, 5), 3)
 
     def test_what_two_signals_raise_takes_no_lock_from_another_thread(self):
-        class Alarm(Exception):
-            pass
-
-        def ring(*_):
-            raise Alarm()
-
-        self.addCleanup(signal.signal, signal.SIGALRM, signal.signal(signal.SIGALRM, ring))
+        self.hear_alarms()
         a, = self.begin(1)
         disk = self.hang(a)
 
@@ -109,13 +114,7 @@ class Calls(Hanging, unittest.TestCase):
         self.assertIsNone(a.wait(5))
 
     def test_an_end_that_a_signal_interrupts_is_gone_on_with(self):
-        class Alarm(Exception):
-            pass
-
-        def ring(*_):
-            raise Alarm()
-
-        self.addCleanup(signal.signal, signal.SIGALRM, signal.signal(signal.SIGALRM, ring))
+        self.hear_alarms()
         a, = self.begin(1)
         disk = self.hang(a)
         self.late(TimedOut, a.write, "x", 2, 0.2)

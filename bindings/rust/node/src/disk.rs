@@ -144,8 +144,8 @@ impl Disk {
         self.jobs.as_ref().and_then(|it| it.try_send(job).ok()).ok_or_else(is_gone)
     }
 
-    /// The job that it has, if it is done with it within this time, and none where it isn't busy any more all the same; where that was brief, it rings else once it is. For a
-    /// job one waits briefly once.
+    /// The job that it has, if it is done with it within this time; where that was brief, it rings else once it is. For
+    /// a job one waits briefly once. None too where no file could be opened: then it isn't busy, and nothing was done.
     pub fn end(&mut self, wait: Wait) -> Result<Option<Job>, Fault> {
         if !self.is_busy {
             return Ok(None);
