@@ -5,8 +5,12 @@ pub mod Spelled
 pub mod Loaded
 pub mod Whole
 pub mod Refused
-pub mod EventLines
 pub mod Heads
 pub mod Plans
 pub mod ReadBack
 pub mod Writing
+mod Fitting
+mod WordMisfits
+mod TellWords
+mod SpelledWords
+mod ToldLines

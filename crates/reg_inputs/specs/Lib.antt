@@ -7,3 +7,5 @@ pub mod LineForms
 pub mod Refusals
 pub mod Stops
 pub mod ScheduleText
+pub mod Misfits
+pub mod Arguments

@@ -1,18 +1,19 @@
 //! Readers of the lines of events.
-ghost use Rattle.std.specs.Prelude.{◌≡◌, ◌≤◌, ℕ, List, ◌∷◌, ◌++◌, codes, None, Some, IfSome, IsSome};
+ghost use Rattle.std.specs.Prelude.{◌≡◌, ◌≤◌, ℕ, ◌∷◌, ◌++◌, None, Some, IfSome, Ok, IfOk, IfErr};
 ghost use Rattle.std.specs.Fmt.{decimal};
 ghost use Rattle.reg_base.specs.Names.{names_fault};
 ghost use Rattle.reg_base.specs.declared.memory.Op.{Op};
 ghost use Rattle.reg_process.specs.declared.events.Event.{Event};
 ghost use Rattle.reg_text.specs.Ops.{op_text, OpFits};
 ghost use Rattle.reg_inputs.specs.Schedules.{event_text, EventFits};
-ghost use Rattle.reg_inputs.specs.LineForms.{HasEventForm, IsEventWhy, IsLineWhy, IsFurtherWhy};
+ghost use Rattle.reg_inputs.specs.LineForms.{IsLineWhy, IsFurtherWhy};
+ghost use Rattle.reg_inputs.specs.Misfits.{IsEventBy, TellsMisfit, why_of};
 
+use crate::event_misfits::{event_misfit, event_misfit_by};
+use crate::misfits::{Misfit, Rule};
 use reg_base::{Names, Op};
 use reg_process::Event;
-use reg_text::{
-    Why, cut_at, field_within, form, is_numeral, numeral_within, op_form, read_op, skip, within,
-};
+use reg_text::{Why, field_within, numeral_within, read_op, skip};
 use std::alloc::Allocator;
 
 const LAST_PROCESS: u64 = 255;
@@ -41,8 +42,8 @@ fn read_take(text: &[u8]) -> Option<(u8, u8, u32)>
     Some((from as u8, to as u8, number as u32))
 }
 
-/// The event of a line. None where the line is no event's, and then `why_event` says why.
-pub fn read_event<A: Allocator + Copy>(line: &[u8], names: &Names<A>) -> Option<Event>
+/// The event of a line. None where the line is no event's.
+fn event_of<A: Allocator + Copy>(line: &[u8], names: &Names<A>) -> Option<Event>
     requires { names_fault names.now ≡ None }
     ensures read { IfSome result (λ e. (line.now ≡ event_text names.now e) × EventFits names.now e) }
     ensures whole { (e : Event) → EventFits names.now e → line.now ≡ event_text names.now e → result ≡ Some e }
@@ -62,66 +63,34 @@ pub fn read_event<A: Allocator + Copy>(line: &[u8], names: &Names<A>) -> Option<
     })
 }
 
-/// Why a line of a call, with this after its first word, is no event. None where its form is not kept.
-fn call_form<A: Allocator + Copy>(text: &[u8], names: &Names<A>) -> Option<Why>
-    ensures read { IfSome result (IsEventWhy names.now (codes "call " ++ text.now)) }
-    ensures whole { HasEventForm (codes "call " ++ text.now) → IsSome result }
+/// The event of a line.
+///
+/// # Errors
+///
+/// The first word with which no event's line goes on.
+pub fn read_event<A: Allocator + Copy>(line: &[u8], names: &Names<A>) -> Result<Event, Misfit>
+    requires { names_fault names.now ≡ None }
+    ensures read { IfOk result (λ e. (line.now ≡ event_text names.now e) × EventFits names.now e) }
+    ensures whole { (e : Event) → EventFits names.now e → line.now ≡ event_text names.now e → result ≡ Ok e }
+    ensures misfit { IfErr result (TellsMisfit (IsEventBy names.now) names.now line.now) }
+    ensures why { IfErr result (λ m. IsLineWhy names.now line.now (why_of m.rule m.wanted)) }
 {
-    let (process, rest) = cut_at(text, b' ')?;
-    form(is_numeral(process))?;
-    let why = op_form(rest, names)?;
-    if within(process, LAST_PROCESS) {
-        Some(why)
-    } else {
-        Some(Why::Range)
-    }
-}
-
-/// Why a line of a take, with this after `take `, is no event. None where its form is not kept.
-fn take_form(text: &[u8]) -> Option<Why>
-    ensures read { (names : List (List ℕ)) → IfSome result (IsEventWhy names (codes "take " ++ text.now)) }
-    ensures whole { HasEventForm (codes "take " ++ text.now) → IsSome result }
-{
-    let (from, rest) = cut_at(text, b' ')?;
-    let (to, number) = cut_at(rest, b' ')?;
-    form(is_numeral(from))?;
-    form(is_numeral(to))?;
-    form(is_numeral(number))?;
-    Some(Why::Range)
-}
-
-/// Why a line is no event. None where its form is not kept.
-fn event_form<A: Allocator + Copy>(line: &[u8], names: &Names<A>) -> Option<Why>
-    ensures read { IfSome result (IsEventWhy names.now line.now) }
-    ensures whole { HasEventForm line.now → IsSome result }
-{
-    if let Some(text) = skip(line, b"call ") {
-        return call_form(text, names);
-    }
-    if let Some(text) = skip(line, b"take ") {
-        return take_form(text);
-    }
-    let process = skip(line, b"tick ")?;
-    form(is_numeral(process))?;
-    Some(Why::Range)
-}
-
-/// Why a line is no event: its form is not kept, or its numbers and names tell.
-pub fn why_event<A: Allocator + Copy>(line: &[u8], names: &Names<A>) -> Why
-    ensures { IsLineWhy names.now line.now result }
-{
-    match event_form(line, names) {
-        Some(why) => why,
-        None => Why::Form,
+    match event_of(line, names) {
+        Some(event) => Ok(event),
+        None => match event_misfit(line, names) {
+            Some(misfit) => Err(misfit),
+            None => unreachable!(),
+        },
     }
 }
 
 /// Why a line after the last event that a schedule may have is refused: its form is judged before its place.
 pub fn why_further<A: Allocator + Copy>(line: &[u8], names: &Names<A>) -> Why
+    requires { names_fault names.now ≡ None }
     ensures { IsFurtherWhy line.now result }
 {
-    match event_form(line, names) {
-        Some(_) => Why::Range,
-        None => Why::Form,
+    match event_misfit_by(line, names, Rule::Form) {
+        Some(_) => Why::Form,
+        None => Why::Range,
     }
 }

@@ -10,7 +10,7 @@ ghost use Rattle.reg_inputs.specs.Schedules.{event_text, EventFits, Plan, IsPlan
 ghost use Rattle.reg_inputs.specs.Refusals.{RefusesLine};
 ghost use Rattle.reg_inputs.specs.Stops.{StopsFirst, IsWrongEvent};
 
-use crate::event_lines::{read_event, why_event, why_further};
+use crate::event_lines::{read_event, why_further};
 use crate::head_lines::{read_front, read_processes};
 use reg_base::limits::{MOST_EVENTS, MOST_PROCESSES, MOST_REGISTERS};
 use reg_base::{Names, Shape};
@@ -75,8 +75,9 @@ fn read_events<A: Allocator + Copy>(
         let Some(line) = lines.next() else {
             return Ok(events);
         };
-        let Some(event) = read_event(line, names) else {
-            return Err(lines.fault(why_event(line, names)));
+        let event = match read_event(line, names) {
+            Ok(event) => event,
+            Err(misfit) => return Err(lines.fault(misfit.why())),
         };
         if events.push(event).is_err() {
             return Err(TextFault::OutOfMemory);
