@@ -7,6 +7,7 @@
 use crate::calls::{End, Form};
 use crate::fault::{Fault, at_path};
 use crate::node::Node;
+use socket2::{Domain, SockAddr, Socket, Type};
 use std::fs::{self, Permissions};
 use std::io::{self, BufRead, BufReader, Read, Write};
 use std::os::unix::fs::{FileTypeExt, PermissionsExt};
@@ -21,6 +22,8 @@ use tellwydar::{Answer, Front, Op};
 
 /// Bytes of a line.
 const LONGEST: usize = 4096;
+/// Programs that may wait to be heard.
+const WAITING: i32 = 128;
 /// Before it is looked again whether there is room for a program.
 const PAUSE: Duration = Duration::from_millis(100);
 const LOOKS: [&str; 3] = ["health", "status", "metrics"];
@@ -90,9 +93,12 @@ impl Port {
     pub fn open(path: &Path, bell: UnixStream) -> Result<Self, Fault> {
         let open = || {
             remove_stale(path)?;
-            let listener = UnixListener::bind(path)?;
+            let socket = Socket::new(Domain::UNIX, Type::STREAM, None)?;
+            socket.bind(&SockAddr::unix(path)?)?;
+            // (nobody else calls: it listens only from here on)
             fs::set_permissions(path, Permissions::from_mode(0o600))?;
-            Ok(listener)
+            socket.listen(WAITING)?;
+            Ok(UnixListener::from(socket))
         };
         let listener = open().map_err(|why| at_path(path, why))?;
         let ((call, calls), (look, looks)) = (mpsc::channel(), mpsc::channel());
