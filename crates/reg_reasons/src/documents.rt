@@ -1,12 +1,13 @@
 //! Why a text is no workload.
-use crate::forms::{FRONTS, KEYS, OP, kind_of_key, range_of};
+use crate::forms::{FRONTS, KEYS, kind_of_key, range_of};
 use crate::saying::Notes;
-use crate::scanning::{after, is_register, misfit_of, place_of};
+use crate::scanning::{after, is_register, place_of};
 use crate::stops::{Documents, explain_stop};
 use crate::toml_steps::starts_text;
 use crate::toml_values::{Entry, items_of, kind_of, read_entries, text_of};
 use crate::toml_words::{integer_of, word_of};
-use crate::wanting::{NAME_FORM, NAME_TAKEN, Rules};
+use crate::wanting::{NAME_FORM, NAME_TAKEN};
+use crate::word_lines::{Kind, WordLine, names_of};
 use reg_base::limits::{MOST_OPERATIONS, MOST_PROCESSES, MOST_REGISTERS};
 use reg_inputs::{Key, WorkloadFault};
 use std::alloc::{AllocError, Allocator};
@@ -271,24 +272,26 @@ impl<'a> Document<'a> {
         }
     }
 
-    /// Puts where an operation doesn't fit, and why: its form goes before its number and its register.
-    fn put_op_misfit<'x, A: Allocator + Copy>(
+    /// Puts where an operation doesn't fit, and why. Of names with escapes it isn't made out what they are.
+    fn put_op_mismatch<A: Allocator + Copy>(
         &self,
         notes: &mut Notes<'_, A>,
-        value: &'x [u8],
-        names: &'x [&'x [u8]],
-    ) {
-        for is_strict in [false, true] {
-            let rules = Rules {
-                names,
-                is_older: false,
-                is_strict,
-            };
-            if let Some(misfit) = misfit_of(text_of(value), OP, rules) {
-                self.put_op_place(notes, value, misfit.at);
-                return notes.put_misfit(names, misfit);
-            }
+        value: &[u8],
+    ) -> Result<(), AllocError> {
+        let texts = self.names(notes.alloc)?;
+        let Some(names) = names_of(notes.alloc, texts.as_slice())? else {
+            self.put_place(notes, value);
+            return Ok(());
+        };
+        let words = WordLine {
+            bytes: text_of(value),
+            kind: Kind::Operation,
+        };
+        if let Some(mismatch) = words.mismatch(&names) {
+            self.put_op_place(notes, value, mismatch.at);
+            notes.put_mismatch(texts.as_slice(), mismatch);
         }
+        Ok(())
     }
 
     fn explain_script<A: Allocator + Copy>(
@@ -299,9 +302,7 @@ impl<'a> Document<'a> {
     ) -> Result<(), AllocError> {
         let script = item_at(notes.alloc, self.value(Key::Scripts), process)?;
         let value = item_at(notes.alloc, script, place)?;
-        let names = self.names(notes.alloc)?;
-        self.put_op_misfit(notes, value, names.as_slice());
-        Ok(())
+        self.put_op_mismatch(notes, value)
     }
 
     /// Puts why it says no workload.

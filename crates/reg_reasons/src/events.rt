@@ -1,6 +1,6 @@
 //! Why an event is refused: what the world is like just before it.
 use crate::forms::HEAD_LINES;
-use crate::lines_at::{Line, behind_parts, kept_at};
+use crate::lines_at::{Line, kept_at, word_at};
 use crate::saying::Notes;
 use reg_base::limits::{MOST_EVENTS, MOST_OPERATIONS};
 use reg_base::{OpId, Shape};
@@ -9,12 +9,6 @@ use reg_history::Entry;
 use reg_inputs::{Schedule, parse_schedule};
 use reg_world::{Event, PackedWires, World, WorldFault};
 use std::alloc::{AllocError, Allocator};
-
-/// Where the word at a place, from 0, begins on a line with one space between each two.
-fn word_at(line: &[u8], place: usize) -> usize {
-    let rest = behind_parts(line, b' ', place);
-    line.len().saturating_sub(rest.len())
-}
 
 /// Puts that a process is not there.
 pub(crate) fn put_processes<A: Allocator + Copy>(

@@ -1,19 +1,25 @@
 //! What stands after the first line of a refused text: where it doesn't fit, and why. It is safe; what it says is shown
 //! by tests.
+ghost use Rattle.std.specs.Prelude.{◌≡◌, None, IfOk};
+ghost use Rattle.reg_base.specs.Names.{names_fault};
+
 use crate::documents::explain_workload;
 use crate::entries::explain_entry;
 use crate::events::explain_event;
-use crate::forms::{EVENT_LINE, HEAD, RECORD_HEAD, RECORD_STEP};
-use crate::lines_at::{Line, behind_parts, bytes_of, kept_at, kept_before, line_at, parts_between};
+use crate::forms::{HEAD, RECORD_HEAD, RECORD_STEP};
+use crate::lines_at::{Line, behind_parts, bytes_of, kept_before, line_at, parts_between};
 use crate::orders::explain_list;
 use crate::report_lines::{Part, Walk, number_on, walk_to};
 use crate::saying::Notes;
-use crate::scanning::misfit_of;
+use crate::scanning::mismatch_of;
 use crate::stops::Documents;
 use crate::wanting::{Form, Rules};
-use reg_base::limits::MOST_EVENTS;
+use crate::word_lines::{Kind, WordLine, listed};
+use reg_base::Names;
+use reg_base::limits::{MOST_EVENTS, MOST_REGISTERS};
 use reg_commands::{Command, Fault, Verdict, Verdicts};
 use reg_history::{ReadWhy, Report};
+use reg_text::{Lines, read_names};
 use std::alloc::{AllocError, Allocator};
 
 /// The line of a report that tells its registers, or how many they are.
@@ -47,17 +53,17 @@ impl<'a> RefusedLine<'a> {
     }
 
     /// Puts the line, and where it has one, the first place that doesn't fit a form, and why. False where all fits.
-    fn put_misfit<A: Allocator + Copy>(
+    fn put_mismatch<A: Allocator + Copy>(
         &self,
         notes: &mut Notes<'_, A>,
         line: Line<'_>,
         form: Form,
         rules: Rules<'_>,
     ) -> bool {
-        match misfit_of(line.bytes, form, rules) {
-            Some(misfit) => {
-                notes.put_place(line, misfit.at);
-                notes.put_misfit(rules.names, misfit);
+        match mismatch_of(line.bytes, form, rules) {
+            Some(mismatch) => {
+                notes.put_place(line, mismatch.at);
+                notes.put_mismatch(rules.names, mismatch);
                 true
             }
             None => {
@@ -76,18 +82,39 @@ impl<'a> RefusedLine<'a> {
         }
     }
 
-    /// Puts why this line of a schedule is refused.
-    fn put_of_schedule<A: Allocator + Copy>(
+    /// The names of a schedule's registers.
+    fn names_of_schedule<A: Allocator + Copy>(&self, alloc: A) -> Result<Names<A>, AllocError>
+        ensures { IfOk result (λ names. names_fault names ≡ None) }
+    {
+        let mut lines = Lines::skipping(self.text);
+        lines.next();
+        match read_names(alloc, &mut lines, MOST_REGISTERS) {
+            Ok(names) => Ok(names),
+            Err(_) => Err(AllocError),
+        }
+    }
+
+    /// Puts why this line behind those of a schedule is refused.
+    fn put_event<A: Allocator + Copy>(
         &self,
         notes: &mut Notes<'_, A>,
         line: Line<'_>,
-        form: Form,
     ) -> Result<(), AllocError> {
-        let named = behind_parts(bytes_of(kept_at(self.text, 1)), b' ', 1);
-        let names = parts_between(notes.alloc, named, b' ', named.len())?;
-        if !self.put_misfit(notes, line, form, self.rules(names.as_slice(), false)) {
-            let words = "a schedule has at most {} events\n";
-            notes.put_with(words, &[MOST_EVENTS as u64]);
+        let names = self.names_of_schedule(notes.alloc)?;
+        let words = WordLine {
+            bytes: line.bytes,
+            kind: Kind::Event,
+        };
+        match words.mismatch(&names) {
+            Some(mismatch) => {
+                notes.put_place(line, mismatch.at);
+                notes.put_mismatch(listed(notes.alloc, &names)?.as_slice(), mismatch);
+            }
+            None => {
+                notes.put_place(line, 0);
+                let text = "a schedule has at most {} events\n";
+                notes.put_with(text, &[MOST_EVENTS as u64]);
+            }
         }
         Ok(())
     }
@@ -97,11 +124,16 @@ impl<'a> RefusedLine<'a> {
         notes: &mut Notes<'_, A>,
     ) -> Result<(), AllocError> {
         let place = kept_before(self.text, self.number);
-        let (wanted, form) = HEAD.get(place).copied().unwrap_or(("an event", EVENT_LINE));
-        match self.line(notes, wanted) {
-            Some(line) => self.put_of_schedule(notes, line, form),
-            None => Ok(()),
+        let head = HEAD.get(place).copied();
+        let wanted = head.map_or("an event", |(wanted, _)| wanted);
+        match (self.line(notes, wanted), head) {
+            (Some(line), Some((_, form))) => {
+                self.put_mismatch(notes, line, form, self.rules(&[], false));
+            }
+            (Some(line), None) => return self.put_event(notes, line),
+            (None, _) => {}
         }
+        Ok(())
     }
 
     /// Puts why this line of a record is refused.
@@ -112,7 +144,7 @@ impl<'a> RefusedLine<'a> {
             .copied()
             .unwrap_or((RECORDED, RECORD_STEP));
         if let Some(line) = self.line(notes, wanted)
-            && !self.put_misfit(notes, line, form, self.rules(&[], false))
+            && !self.put_mismatch(notes, line, form, self.rules(&[], false))
         {
             notes.put_all(&["expected ", wanted, "\n"]);
         }
@@ -144,7 +176,7 @@ impl<'a> RefusedLine<'a> {
     ) -> Result<(), AllocError> {
         let names = self.names_of_report(notes.alloc, walk.is_older)?;
         let rules = self.rules(names.as_slice(), walk.is_older);
-        if self.put_misfit(notes, line, form, rules) {
+        if self.put_mismatch(notes, line, form, rules) {
             notes.put(walk.miscounted(line.bytes));
         }
         Ok(())

@@ -147,7 +147,16 @@ impl Rules<'_> {
     }
 }
 
-const OPS: Step = choice!("read" => READ, "write" => WRITE, "swap" => WRITE, "cas" => CAS);
+/// The first words of events.
+pub const EVENTS: &[&str] = &["call", "take", "tick"];
+
+/// The first words of operations.
+pub const OPERATIONS: &[&str] = &["read", "write", "swap", "cas"];
+
+const OPS: Step = Step::Word {
+    words: OPERATIONS,
+    forms: &[READ, WRITE, WRITE, CAS],
+};
 
 /// The operations of reports before version 3.
 const OLDER_OPS: Step = choice!("read" => READ, "write" => WRITE, "swap" => WRITE);
@@ -172,9 +181,6 @@ const CAS: Form = &[
     Step::End,
 ];
 
-/// An operation of a workload.
-pub const OP: Form = &[OPS];
-
 /// The lines of a schedule before its events: what each says, and its form.
 pub const HEAD: &[(&str, Form)] = &[
     ("processes and a number, as in processes 2", PROCESSES),
@@ -195,28 +201,6 @@ const FRONT: Form = &[
         words: FRONTS,
         forms: &[],
     },
-    Step::End,
-];
-
-/// The line of an event.
-pub const EVENT_LINE: Form = &[choice!("call" => CALL, "take" => TAKE, "tick" => TICK)];
-
-const CALL: Form = &[
-    Step::Space,
-    Step::Number(Quantity::Process),
-    Step::Space,
-    OPS,
-];
-
-const TICK: Form = &[Step::Space, Step::Number(Quantity::Process), Step::End];
-
-const TAKE: Form = &[
-    Step::Space,
-    Step::Number(Quantity::Process),
-    Step::Space,
-    Step::Number(Quantity::Process),
-    Step::Space,
-    Step::Number(Quantity::Frame),
     Step::End,
 ];
 

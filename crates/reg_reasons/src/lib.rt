@@ -27,5 +27,6 @@ mod toml_steps;
 mod toml_values;
 mod toml_words;
 mod wanting;
+mod word_lines;
 
 pub use asking::{Explain, ExplainLent};

@@ -62,6 +62,12 @@ pub fn behind_parts(bytes: &[u8], joint: u8, count: usize) -> &[u8] {
     rest
 }
 
+/// Where the word at a place, from 0, begins on a line with one space between each two; its end where it has fewer.
+pub fn word_at(line: &[u8], place: usize) -> usize {
+    let rest = behind_parts(line, b' ', place);
+    line.len().saturating_sub(rest.len())
+}
+
 /// The line in which a place of a text stands, and the place there.
 pub fn line_of_place(text: &[u8], place: usize) -> (Line<'_>, usize) {
     let mut column = place.min(text.len());

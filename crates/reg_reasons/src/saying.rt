@@ -1,7 +1,7 @@
 //! What doesn't fit, in plain words: the line with its number, a mark below the place, and what was wanted there.
 use crate::lines_at::{Line, line_of_place};
 use crate::scanning::{Signs, after, front_of, run_of, token_of};
-use crate::wanting::{Misfit, Range, Wanted};
+use crate::wanting::{Mismatch, Range, Wanted};
 use reg_text::{Sink, cut_at, is_numeral, put_number, skip, spaces_before};
 use std::alloc::{AllocError, Allocator};
 use strsim::generic_levenshtein;
@@ -306,16 +306,16 @@ impl<'a, A: Allocator + Copy> Notes<'a, A> {
     }
 
     /// Puts why a line doesn't fit, with its line feed.
-    pub fn put_misfit(&mut self, names: &[&[u8]], misfit: Misfit<'_>) {
-        let found = misfit.found;
+    pub fn put_mismatch(&mut self, names: &[&[u8]], mismatch: Mismatch<'_>) {
+        let found = mismatch.found;
         if found == b"\r".as_slice() {
             let words = "this line ends in a carriage return: save the text with line feeds alone";
             self.put(words);
-        } else if misfit.at == 0 && found.starts_with(MARK) {
+        } else if mismatch.at == 0 && found.starts_with(MARK) {
             let words = "a byte order mark stands before the first line: save the text without one";
             self.put(words);
         } else {
-            self.put_wanted(names, misfit.wanted, found);
+            self.put_wanted(names, mismatch.wanted, found);
         }
         self.put("\n");
     }

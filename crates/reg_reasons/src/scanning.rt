@@ -1,7 +1,7 @@
 //! A line, part by part, up to the first place that doesn't fit. It judges nothing: the readers have refused the line,
 //! and it says where.
 use crate::lines_at::behind_parts;
-use crate::wanting::{Form, Misfit, NAME_FORM, NAME_TAKEN, Quantity, Rules, Step, Wanted};
+use crate::wanting::{Form, Mismatch, NAME_FORM, NAME_TAKEN, Quantity, Rules, Step, Wanted};
 use reg_base::is_name;
 use reg_history::LONGEST_FRONT;
 use reg_text::{are_front_letters, in_front, is_numeral, numeral_within, skip, spaces_before};
@@ -234,7 +234,7 @@ impl<'a> Scan<'a> {
 
     /// What doesn't fit of this part, before these others. What is too much after one space is marked, and not the
     /// space.
-    fn misfit(&self, step: Step, later: Form) -> Misfit<'a> {
+    fn mismatch(&self, step: Step, later: Form) -> Mismatch<'a> {
         let rest = self.rest;
         let (wanted, is_after_space) = match step {
             Step::Space if rest.is_empty() => (self.missing(later), false),
@@ -243,7 +243,7 @@ impl<'a> Scan<'a> {
             _ => (self.wanted(step), false),
         };
         let before = self.before().len();
-        Misfit {
+        Mismatch {
             at: before.saturating_add(usize::from(is_after_space)),
             found: rest,
             wanted,
@@ -276,7 +276,7 @@ fn starts_value(bytes: &[u8]) -> bool {
 }
 
 /// The first place of a line that doesn't fit a form.
-pub fn misfit_of<'a>(line: &'a [u8], form: Form, rules: Rules<'a>) -> Option<Misfit<'a>> {
+pub fn mismatch_of<'a>(line: &'a [u8], form: Form, rules: Rules<'a>) -> Option<Mismatch<'a>> {
     let mut scan = Scan {
         line,
         rest: line,
@@ -288,7 +288,7 @@ pub fn misfit_of<'a>(line: &'a [u8], form: Form, rules: Rules<'a>) -> Option<Mis
             return None;
         };
         let Some(count) = scan.taken(*step) else {
-            return Some(scan.misfit(*step, later));
+            return Some(scan.mismatch(*step, later));
         };
         steps = match *step {
             Step::Word { words, forms } => {

@@ -105,7 +105,7 @@ pub const NAME_TAKEN: &str = " stands before: each register has a name of its ow
 
 /// The first place of a line that doesn't fit: how many bytes stand before it, what stands there, and what was wanted.
 #[derive(Clone, Copy)]
-pub struct Misfit<'a> {
+pub struct Mismatch<'a> {
     pub at: usize,
     pub found: &'a [u8],
     pub wanted: Wanted,

@@ -54,6 +54,8 @@ pub mod values;
 #[cfg(test)]
 mod why;
 #[cfg(test)]
+mod why_events;
+#[cfg(test)]
 mod why_reports;
 #[cfg(test)]
 mod why_schedules;

@@ -1,6 +1,6 @@
 //! How it is told what is wrong with a text: all of the answer, and nothing where there is no memory.
 use crate::given::{Task, answer_of, tells};
-use crate::{why_reports, why_schedules, why_workloads};
+use crate::{why_events, why_reports, why_schedules, why_workloads};
 use reg_commands::run_command;
 use reg_heap::{Trial, refusals};
 use reg_reasons::{Explain, ExplainLent};
@@ -27,7 +27,7 @@ fn demand_all_told(rt: &(impl Abort + AllocGlobal), task: Task) {
     demand_told(rt, task, why_schedules::spaces());
     demand_told(rt, task, why_schedules::numbers());
     demand_told(rt, task, why_schedules::names());
-    demand_told(rt, task, why_schedules::events());
+    demand_told(rt, task, why_events::events());
     demand_told(rt, task, why_workloads::rows());
     demand_told(rt, task, why_reports::lines());
     demand_told(rt, task, why_reports::places());

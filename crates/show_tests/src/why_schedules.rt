@@ -2,7 +2,7 @@
 use crate::why::Row;
 
 /// Schedules that are accepted, and wrong words.
-const WORDS: [Row; 15] = [
+const WORDS: [Row; 17] = [
     (
         "processes 2\nregisters x z\nfront linear\ncall 0 write x 1\ntake 0 1 0\n",
         true,
@@ -78,6 +78,16 @@ const WORDS: [Row; 15] = [
         false,
         "line 4: form\n4 | call 0 rode x\n  |        ^\nexpected read, write, swap or cas, found \"rode\"\n",
     ),
+    (
+        "processes 2\nregisters x z\nfront linear\ncall 300 reed x\n",
+        false,
+        "line 4: form\n4 | call 300 reed x\n  |          ^\n\"reed\": did you mean read?\n",
+    ),
+    (
+        "processes 2\nregisters x z\nfront linear\ncall 0\n",
+        false,
+        "line 4: form\n4 | call 0\n  |       ^\nexpected read, write, swap or cas, found the end of the line\n",
+    ),
 ];
 
 /// What is told of words.
@@ -86,7 +96,7 @@ pub(crate) fn words() -> &'static [Row] {
 }
 
 /// Wrong spaces, ends of lines and comments.
-const SPACES: [Row; 14] = [
+const SPACES: [Row; 16] = [
     (
         "processes 2\nregisters x z\nfront linear\ncall  0 write x 1\n",
         false,
@@ -150,12 +160,22 @@ const SPACES: [Row; 14] = [
     (
         "processes 2\nregisters x z\nfront linear\ntick 0 # again\n",
         false,
-        "line 4: form\n4 | tick 0 # again\n  |       ^\na comment stands on a line of its own\n",
+        "line 4: form\n4 | tick 0 # again\n  |        ^\na comment stands on a line of its own\n",
     ),
     (
         "processes 2\nregisters x z\nfront linear\n// again\n",
         false,
         "line 4: form\n4 | // again\n  | ^\nexpected call, take or tick, found \"//\"\n",
+    ),
+    (
+        "processes 2\nregisters x z\nfront linear\ncall 0 write x\t5\n",
+        false,
+        "line 4: form\n4 | call 0 write x\t5\n  |               ^\nexpected one space, found a tab\n",
+    ),
+    (
+        "processes 2\nregisters x z\nfront linear\ntick 0\t\n",
+        false,
+        "line 4: form\n4 | tick 0\t\n  |       ^\nexpected the end of the line, found a tab\n",
     ),
 ];
 
@@ -165,7 +185,7 @@ pub(crate) fn spaces() -> &'static [Row] {
 }
 
 /// Wrong numbers, and those that are missing or too many.
-const NUMBERS: [Row; 13] = [
+const NUMBERS: [Row; 16] = [
     (
         "processes 2\nregisters x z\nfront linear\ntick 300\n",
         false,
@@ -230,6 +250,21 @@ const NUMBERS: [Row; 13] = [
         "processes 2\nregisters x z\nfront linear\ntick 999999999999999999999999999999999999999999999999999999999999999999999999999999999999999999999999999999999999999999999999\n",
         false,
         "line 4: range\n4 | tick 9999999999999999999999999999999999999999999999999999999999999999999999999999999999999999999\n  |      ^\n999999999999999999999999999999999999999999999999999999999999999999999999999999999999999999999999 is out of range: a process is a number from 0 to 255\n",
+    ),
+    (
+        "processes 2\nregisters x z\nfront linear\ncall\n",
+        false,
+        "line 4: form\n4 | call\n  |     ^\na process is missing\n",
+    ),
+    (
+        "processes 2\nregisters x z\nfront linear\ncall 0 cas x 1\n",
+        false,
+        "line 4: form\n4 | call 0 cas x 1\n  |               ^\na value is missing\n",
+    ),
+    (
+        "processes 2\nregisters x z\nfront linear\ntake 0 1 0 5\n",
+        false,
+        "line 4: form\n4 | take 0 1 0 5\n  |            ^\nexpected the end of the line, found \"5\"\n",
     ),
 ];
 
@@ -315,68 +350,4 @@ const NAMES: [Row; 14] = [
 /// What is told of names of registers.
 pub(crate) fn names() -> &'static [Row] {
     &NAMES
-}
-
-/// Events that are refused, and lines behind a comment.
-const EVENTS: [Row; 11] = [
-    (
-        "processes 2\nregisters x z\nfront linear\ncall 0 write x 1\ntake 0 1 0\ntake 0 1 3\n",
-        false,
-        "event 2: no frame\n6 | take 0 1 3\n  |          ^\nthe wire from 0 to 1 has 1 frame, 0\n",
-    ),
-    (
-        "processes 2\nregisters x z\nfront linear\ntake 0 1 0\n",
-        false,
-        "event 0: no frame\n4 | take 0 1 0\n  |          ^\nthe wire from 0 to 1 has no frame yet\n",
-    ),
-    (
-        "processes 2\nregisters x z\nfront linear\ncall 0 write x 1\ntake 0 1 0\ntake 1 0 2\n",
-        false,
-        "event 2: no frame\n6 | take 1 0 2\n  |          ^\nthe wire from 1 to 0 has 2 frames, 0 and 1\n",
-    ),
-    (
-        "processes 2\nregisters x z\nfront linear\ncall 0 write x 1\ntick 0\ntick 0\ntake 0 1 3\n",
-        false,
-        "event 3: no frame\n7 | take 0 1 3\n  |          ^\nthe wire from 0 to 1 has 3 frames, 0 to 2\n",
-    ),
-    (
-        "processes 2\nregisters x z\nfront linear\ntake 1 1 0\n",
-        false,
-        "event 0: no frame\n4 | take 1 1 0\n  |          ^\nno wire goes from a process to itself\n",
-    ),
-    (
-        "processes 2\nregisters x z\nfront linear\ncall 1 write x 1\n# then\ncall 1 read x\n",
-        false,
-        "event 1: busy\n6 | call 1 read x\n  |      ^\nprocess 1 runs p1 #0, called at event 0\n",
-    ),
-    (
-        "processes 2\nregisters x z\nfront linear\ntick 2\n",
-        false,
-        "event 0: no process\n4 | tick 2\n  |      ^\nthere is no process 2: the processes are 0 to 1\n",
-    ),
-    (
-        "processes 2\nregisters x z\nfront linear\ntake 0 2 0\n",
-        false,
-        "event 0: no process\n4 | take 0 2 0\n  |        ^\nthere is no process 2: the processes are 0 to 1\n",
-    ),
-    (
-        "processes 1\nregisters x\nfront local-write\ncall 1 read x\n",
-        false,
-        "event 0: no process\n4 | call 1 read x\n  |      ^\nthere is no process 1: the process is 0\n",
-    ),
-    (
-        "# A write whose frame is lost.\nprocesses 2\nregisters x\nfront linear\ncal 0 write x 5\n",
-        false,
-        "line 5: form\n5 | cal 0 write x 5\n  | ^\n\"cal\": did you mean call?\n",
-    ),
-    (
-        "# A write whose frame is lost.\nprocesses 2\nregisters x\nfront linear\ncall 0 write x 5\ntake 1 0 0\n",
-        false,
-        "event 1: no frame\n6 | take 1 0 0\n  |          ^\nthe wire from 1 to 0 has no frame yet\n",
-    ),
-];
-
-/// What is told of events.
-pub(crate) fn events() -> &'static [Row] {
-    &EVENTS
 }
