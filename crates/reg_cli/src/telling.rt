@@ -1,7 +1,6 @@
 //! The words of a command line, and how it is told that they ask for nothing.
-ghost use Rattle.std.specs.Prelude.{◌≡◌, MatchResult};
-ghost use Rattle.std.specs.Io.KnownBytes.{Appends};
-ghost use Rattle.reg_text.specs.Writing.{AppendsPart};
+ghost use Rattle.std.specs.Prelude.{◌≡◌};
+ghost use Rattle.reg_text.specs.Writing.{AppendsPart, IsWritten};
 ghost use Rattle.reg_cli.specs.Faults.{status_of, words_line};
 
 use crate::faults::WordsFault;
@@ -28,7 +27,7 @@ pub fn words_of<R: AllocGlobal + Env>(rt: &R) -> Result<Vec<String>, WordsFault>
 
 /// Writes the line of a fault, all of it or, where the writer fails, a first part.
 fn write_line<W: Write>(errors: &mut W, fault: WordsFault, refused: &[u8]) -> Result<(), Unwritten>
-    ensures { MatchResult result (λ _. Appends (W.contents errors.old) (W.contents errors.new) (words_line refused.now fault)) (λ _. AppendsPart (W.contents errors.old) (W.contents errors.new) (words_line refused.now fault)) }
+    ensures { IsWritten result (W.contents errors.old) (W.contents errors.new) (words_line refused.now fault) }
 {
     match fault {
         WordsFault::CommandLine => write_bytes(errors, refused),

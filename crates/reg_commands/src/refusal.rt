@@ -1,7 +1,6 @@
 //! Why a command gives no answer, as the line that tells it.
-ghost use Rattle.std.specs.Prelude.{◌≡◌, ℕ, List, MatchResult};
-ghost use Rattle.std.specs.Io.KnownBytes.{Appends};
-ghost use Rattle.reg_text.specs.Writing.{AppendsPart};
+ghost use Rattle.std.specs.Prelude.{◌≡◌, ℕ, List};
+ghost use Rattle.reg_text.specs.Writing.{IsWritten};
 ghost use Rattle.reg_commands.specs.declared.faults.Fault.{Fault as AnyFault};
 ghost use Rattle.reg_commands.specs.declared.faults.Fault.TheVariants.{Output};
 
@@ -19,7 +18,7 @@ pub trait Refusal: Copy + From<Fault> {
 
     /// Writes its line, all of it or, where the writer fails, a first part.
     fn write_line<W: Write>(self, errors: &mut W) -> Result<(), Unwritten>
-        ensures { MatchResult result (λ _. Appends (W.contents errors.old) (W.contents errors.new) (line self)) (λ _. AppendsPart (W.contents errors.old) (W.contents errors.new) (line self)) };
+        ensures { IsWritten result (W.contents errors.old) (W.contents errors.new) (line self) };
 
     /// A fault is made what tells it.
     ghost is_told: { (fault : AnyFault) (told : Self) → Self.from_gives fault told → told ≡ of_fault fault };

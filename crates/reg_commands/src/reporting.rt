@@ -1,6 +1,5 @@
 //! The report of a run.
-ghost use Rattle.std.specs.Prelude.{◌≡◌, ◌≤◌, ℕ, IfOk, IfErr, MatchResult, length, option_map, string_bytes};
-ghost use Rattle.std.specs.Io.KnownBytes.{Appends};
+ghost use Rattle.std.specs.Prelude.{◌≡◌, ◌≤◌, ℕ, IfOk, IfErr, length, option_map, string_bytes};
 ghost use Rattle.reg_base.specs.declared.limits.TheConstants.{LAST_EVENT, MOST_PROCESSES};
 ghost use Rattle.reg_front.specs.declared.named.Front.{Front as AnyFront};
 ghost use Rattle.reg_front.specs.Table.{front_name};
@@ -8,7 +7,7 @@ ghost use Rattle.reg_checkers.specs.History.{IsAt};
 ghost use Rattle.reg_checkers.specs.Log.{IsLog};
 ghost use Rattle.reg_checkers.specs.Orders.{IsSerial};
 ghost use Rattle.reg_history.specs.Reports.{Contents, report_text};
-ghost use Rattle.reg_text.specs.Writing.{AppendsPart};
+ghost use Rattle.reg_text.specs.Writing.{IsWrittenOr};
 ghost use Rattle.reg_world.specs.declared.order.First.{First};
 ghost use Rattle.reg_world.specs.Fronts.{HasPoints};
 ghost use Rattle.reg_world.specs.Worlds.{run_in};
@@ -129,7 +128,7 @@ pub fn write_out<A: Allocator + Copy, W: Write>(
     writer: &mut W,
     report: &Report<A>,
 ) -> Result<(), Fault>
-    ensures { MatchResult result (λ _. Appends (W.contents writer.old) (W.contents writer.new) (report_text report.now)) (λ f. (f ≡ Fault.Output) × AppendsPart (W.contents writer.old) (W.contents writer.new) (report_text report.now)) }
+    ensures { IsWrittenOr Fault.Output result (W.contents writer.old) (W.contents writer.new) (report_text report.now) }
 {
     if write_report(writer, report).is_err() || writer.flush().is_err() {
         return Err(Fault::Output);

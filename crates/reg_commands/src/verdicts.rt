@@ -1,8 +1,7 @@
 //! Judging a report from its text alone.
-ghost use Rattle.std.specs.Prelude.{◌≡◌, ◌++◌, ◌∷◌, [], Err, IfOk, IfErr, MatchOption, MatchResult, codes};
-ghost use Rattle.std.specs.Io.KnownBytes.{Appends};
+ghost use Rattle.std.specs.Prelude.{◌≡◌, ◌++◌, ◌∷◌, [], Err, IfOk, IfErr, MatchOption, codes};
 ghost use Rattle.std.specs.Fmt.{decimal};
-ghost use Rattle.reg_text.specs.Writing.{AppendsPart, Puts};
+ghost use Rattle.reg_text.specs.Writing.{Puts, IsWritten, IsWrittenOr};
 ghost use Rattle.reg_commands.specs.Verdicts.{SerialSays, PointsSay, AllPointsSay, Judges, fault_of, is_yes as is_yes_of, all_yes as all_yes_of, verdict_line, points_line, verdicts_text};
 ghost use Rattle.reg_commands.specs.CheckerAnswers.{Tells};
 
@@ -203,7 +202,7 @@ fn put_verdicts<W: Write>(sink: &mut Sink<'_, W>, verdicts: Verdicts)
 
 /// Writes the lines of a report's verdicts.
 fn write_lines<W: Write>(writer: &mut W, verdicts: Verdicts) -> Result<(), Fault>
-    ensures { MatchResult result (λ _. Appends (W.contents writer.old) (W.contents writer.new) (verdicts_text verdicts)) (λ _. AppendsPart (W.contents writer.old) (W.contents writer.new) (verdicts_text verdicts)) }
+    ensures { IsWritten result (W.contents writer.old) (W.contents writer.new) (verdicts_text verdicts) }
 {
     let mut sink = Sink::new(writer);
     put_verdicts(&mut sink, verdicts);
@@ -219,7 +218,7 @@ fn write_lines<W: Write>(writer: &mut W, verdicts: Verdicts) -> Result<(), Fault
 ///
 /// `Output` where the writer failed, and then a first part of the lines went out.
 pub fn write_verdicts<W: Write>(writer: &mut W, verdicts: Verdicts) -> Result<(), Fault>
-    ensures { MatchResult result (λ _. Appends (W.contents writer.old) (W.contents writer.new) (verdicts_text verdicts)) (λ f. (f ≡ Fault.Output) × AppendsPart (W.contents writer.old) (W.contents writer.new) (verdicts_text verdicts)) }
+    ensures { IsWrittenOr Fault.Output result (W.contents writer.old) (W.contents writer.new) (verdicts_text verdicts) }
 {
     if write_lines(writer, verdicts).is_err() || writer.flush().is_err() {
         return Err(Fault::Output);

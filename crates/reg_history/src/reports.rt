@@ -1,7 +1,6 @@
 //! Reports, and their texts.
 ghost use Rattle.std.specs.Prelude.{◌≡◌, ◌↔◌, ◌⊎◌, ◌-◌, ◌^◌, ◌<◌, ◌≤◌, ℕ, length, Some, IfOk, IfErr, MatchOption, MatchResult, IsTrue, option_map, slice_get, string_bytes};
-ghost use Rattle.std.specs.Io.KnownBytes.{Appends};
-ghost use Rattle.reg_text.specs.Writing.{AppendsPart, Puts};
+ghost use Rattle.reg_text.specs.Writing.{Puts, IsWrittenOr};
 ghost use Rattle.reg_checkers.specs.declared.entries.Entry.{Entry};
 ghost use Rattle.reg_history.specs.Refusals.{IsFirstWrong, RefusesReportLine};
 ghost use Rattle.reg_history.specs.Stops.{EntryHasValue, IsFailure};
@@ -278,7 +277,7 @@ pub fn write_report<A: Allocator + Copy, W: Write>(
     writer: &mut W,
     report: &Report<A>,
 ) -> Result<(), WriteFault>
-    ensures { MatchResult result (λ _. Appends (W.contents writer.old) (W.contents writer.new) (report_text report.now)) (λ f. (f ≡ WriteFault.Write) × AppendsPart (W.contents writer.old) (W.contents writer.new) (report_text report.now)) }
+    ensures { IsWrittenOr WriteFault.Write result (W.contents writer.old) (W.contents writer.new) (report_text report.now) }
 {
     let mut sink = Sink::new(writer);
     put_report(&mut sink, report);

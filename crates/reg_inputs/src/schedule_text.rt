@@ -1,10 +1,9 @@
 //! The text of a schedule.
-ghost use Rattle.std.specs.Prelude.{◌++◌, ◌∷◌, [], MatchResult, codes};
+ghost use Rattle.std.specs.Prelude.{◌++◌, ◌∷◌, [], codes};
 ghost use Rattle.std.specs.Fmt.{decimal};
-ghost use Rattle.std.specs.Io.KnownBytes.{Appends};
 ghost use Rattle.reg_front.specs.Table.{front_name};
 ghost use Rattle.reg_text.specs.Words.{names_text};
-ghost use Rattle.reg_text.specs.Writing.{AppendsPart, Puts};
+ghost use Rattle.reg_text.specs.Writing.{Puts, IsWritten};
 ghost use Rattle.reg_text.specs.Lines.{lines_by};
 ghost use Rattle.reg_inputs.specs.Schedules.{Plan, event_text};
 ghost use Rattle.reg_inputs.specs.ScheduleText.{schedule_text};
@@ -143,7 +142,7 @@ pub fn write_schedule<A: Allocator + Copy, W: Write>(
     events: &[Event],
 ) -> Result<(), Unwritten>
     ensures { let plan : Plan = record { shape = shape; names = names.now; front = front; events = events.now } in
-        MatchResult result (λ _. Appends (W.contents writer.old) (W.contents writer.new) (schedule_text plan)) (λ _. AppendsPart (W.contents writer.old) (W.contents writer.new) (schedule_text plan)) }
+        IsWritten result (W.contents writer.old) (W.contents writer.new) (schedule_text plan) }
 {
     let mut sink = Sink::new(writer);
     put_schedule(&mut sink, shape, names, front, events);

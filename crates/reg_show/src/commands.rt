@@ -1,7 +1,7 @@
 //! The commands that show the run of a schedule: as text, and as a drawing.
-ghost use Rattle.std.specs.Prelude.{◌≡◌, ◌≢◌, ◌≤◌, ◌++◌, IfOk, IfErr, IsErrOf, MatchResult, length};
+ghost use Rattle.std.specs.Prelude.{◌≡◌, ◌≢◌, ◌≤◌, ◌++◌, IfOk, IfErr, IsErrOf, length};
 ghost use Rattle.std.specs.Io.KnownBytes.{Appends};
-ghost use Rattle.reg_text.specs.Writing.{AppendsPart};
+ghost use Rattle.reg_text.specs.Writing.{AppendsPart, IsWrittenOr};
 ghost use Rattle.reg_commands.specs.Replays.{start_of};
 ghost use Rattle.reg_show.specs.Runs.{DrawsRun, IsRunWhole, TellsRun};
 ghost use Rattle.reg_show.specs.Showings.{StopsShowing};
@@ -27,7 +27,7 @@ fn send<A: Allocator + Copy, W: Write>(
     names: &Names<A>,
     moments: &[Moment<A>],
 ) -> Result<(), Fault>
-    ensures { MatchResult result (λ _. Appends (W.contents writer.old) (W.contents writer.new) (title_line title.now ++ trace_text names.now moments.now)) (λ f. (f ≡ Fault.Output) × AppendsPart (W.contents writer.old) (W.contents writer.new) (title_line title.now ++ trace_text names.now moments.now)) }
+    ensures { IsWrittenOr Fault.Output result (W.contents writer.old) (W.contents writer.new) (title_line title.now ++ trace_text names.now moments.now) }
 {
     if write_trace(writer, title, names, moments).is_err() || writer.flush().is_err() {
         return Err(Fault::Output);

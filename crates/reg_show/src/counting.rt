@@ -1,7 +1,7 @@
 //! The command that plays a workload many times and prints the table of what the plays told.
-ghost use Rattle.std.specs.Prelude.{◌≡◌, ◌≢◌, ◌≤◌, IfOk, IfErr, IsErrOf, MatchResult};
+ghost use Rattle.std.specs.Prelude.{◌≡◌, ◌≢◌, ◌≤◌, IfOk, IfErr, IsErrOf};
 ghost use Rattle.std.specs.Io.KnownBytes.{Appends};
-ghost use Rattle.reg_text.specs.Writing.{AppendsPart};
+ghost use Rattle.reg_text.specs.Writing.{AppendsPart, IsWrittenOr};
 ghost use Rattle.reg_commands.specs.Replays.{start_of};
 ghost use Rattle.reg_outcomes.specs.declared.tables.plays.TheConstants.{MOST_PLAYS};
 ghost use Rattle.reg_outcomes.specs.TableText.{table_text};
@@ -23,7 +23,7 @@ fn send<A: Allocator + Copy, W: Write>(
     plays: u32,
     outcomes: &Outcomes<A>,
 ) -> Result<(), Fault>
-    ensures { MatchResult result (λ _. Appends (W.contents writer.old) (W.contents writer.new) (table_text plays outcomes.now.rows.items outcomes.now.unfinished outcomes.now.undrawn)) (λ f. (f ≡ Fault.Output) × AppendsPart (W.contents writer.old) (W.contents writer.new) (table_text plays outcomes.now.rows.items outcomes.now.unfinished outcomes.now.undrawn)) }
+    ensures { IsWrittenOr Fault.Output result (W.contents writer.old) (W.contents writer.new) (table_text plays outcomes.now.rows.items outcomes.now.unfinished outcomes.now.undrawn) }
 {
     if write_table(writer, plays, outcomes).is_err() || writer.flush().is_err() {
         return Err(Fault::Output);

@@ -1,8 +1,8 @@
 //! The command that prints all outcomes that a workload's scripts can have.
-ghost use Rattle.std.specs.Prelude.{◌≡◌, ◌≢◌, ◌⊎◌, IfOk, IfErr, IsErrOf, MatchResult, map};
+ghost use Rattle.std.specs.Prelude.{◌≡◌, ◌≢◌, ◌⊎◌, IfOk, IfErr, IsErrOf, map};
 ghost use Rattle.std.specs.Option.{option_map};
 ghost use Rattle.std.specs.Io.KnownBytes.{Appends};
-ghost use Rattle.reg_text.specs.Writing.{AppendsPart};
+ghost use Rattle.reg_text.specs.Writing.{AppendsPart, IsWrittenOr};
 ghost use Rattle.reg_outcomes.specs.AllText.{ShowsAll, all_text};
 ghost use Rattle.reg_outcomes.specs.Interleavings.{IsWider};
 ghost use Rattle.reg_outcomes.specs.declared.interleavings.outcomes.TheConstants.{MOST_STAGES};
@@ -24,7 +24,7 @@ fn send<A: Allocator + Copy, W: Write>(
     all: &AllOutcomes<A>,
     nevers: &Option<Vec<Vec<ToldAnswer, A>, A>>,
 ) -> Result<(), ShowFault>
-    ensures { MatchResult result (λ _. Appends (W.contents writer.old) (W.contents writer.new) (all_text operations all.now.stages all.now.list.items (option_map (λ list. map (λ v. v.items) list.items) nevers.now))) (λ f. (f ≡ ShowFault.Command Fault.Output) × AppendsPart (W.contents writer.old) (W.contents writer.new) (all_text operations all.now.stages all.now.list.items (option_map (λ list. map (λ v. v.items) list.items) nevers.now))) }
+    ensures { IsWrittenOr (ShowFault.Command Fault.Output) result (W.contents writer.old) (W.contents writer.new) (all_text operations all.now.stages all.now.list.items (option_map (λ list. map (λ v. v.items) list.items) nevers.now)) }
 {
     if write_all(writer, operations, all, nevers).is_err() || writer.flush().is_err() {
         return Err(ShowFault::Command {

@@ -1,9 +1,9 @@
 //! The command that finds an order of a report's history.
-ghost use Rattle.std.specs.Prelude.{⊤, ◌≡◌, ◌≢◌, IfOk, IfErr, IsErrOf, MatchOption, MatchResult, option_map, string_bytes};
+ghost use Rattle.std.specs.Prelude.{⊤, ◌≡◌, ◌≢◌, IfOk, IfErr, IsErrOf, MatchOption, option_map, string_bytes};
 ghost use Rattle.std.specs.Io.KnownBytes.{Appends};
 ghost use Rattle.reg_checkers.specs.Orders.{IsSerial};
 ghost use Rattle.reg_commands.specs.Replays.{PointsStand};
-ghost use Rattle.reg_text.specs.Writing.{AppendsPart};
+ghost use Rattle.reg_text.specs.Writing.{AppendsPart, IsWrittenOr};
 ghost use Rattle.reg_show.specs.Finding.{BlamesFind, Finds, FindsAny, HasNone, IsReordered, IsUnfound, none_text, with_order};
 
 use crate::faults::ShowFault;
@@ -77,7 +77,7 @@ fn with_order_found<A: Allocator + Copy>(
 
 /// Writes that there is no order of this kind, to the last byte.
 fn write_none<W: Write>(writer: &mut W, kind: OrderKind) -> Result<(), Fault>
-    ensures { MatchResult result (λ _. Appends (W.contents writer.old) (W.contents writer.new) (none_text kind)) (λ f. (f ≡ Fault.Output) × AppendsPart (W.contents writer.old) (W.contents writer.new) (none_text kind)) }
+    ensures { IsWrittenOr Fault.Output result (W.contents writer.old) (W.contents writer.new) (none_text kind) }
 {
     let text = match kind {
         OrderKind::Serial => "no serial order\n",

@@ -1,7 +1,7 @@
 //! The commands that show the run of a schedule as data, and as a page that one steps through.
-ghost use Rattle.std.specs.Prelude.{◌≡◌, ◌≢◌, ◌++◌, IfOk, IfErr, IsErrOf, MatchResult};
+ghost use Rattle.std.specs.Prelude.{◌≡◌, ◌≢◌, ◌++◌, IfOk, IfErr, IsErrOf};
 ghost use Rattle.std.specs.Io.KnownBytes.{Appends};
-ghost use Rattle.reg_text.specs.Writing.{AppendsPart};
+ghost use Rattle.reg_text.specs.Writing.{AppendsPart, IsWrittenOr};
 ghost use Rattle.reg_commands.specs.Replays.{start_of, BlamesRun, PointsOf};
 ghost use Rattle.reg_trace.specs.Data.{data_text};
 ghost use Rattle.reg_show.specs.Pages.{HasData, ShowsData};
@@ -62,7 +62,7 @@ pub fn send_data<A: Allocator + Copy, W: Write>(
     told: &Data<A>,
     tail: &str,
 ) -> Result<(), Fault>
-    ensures { MatchResult result (λ _. Appends (W.contents writer.old) (W.contents writer.new) (head.now ++ (data_text told.now ++ tail.now))) (λ f. (f ≡ Fault.Output) × AppendsPart (W.contents writer.old) (W.contents writer.new) (head.now ++ (data_text told.now ++ tail.now))) }
+    ensures { IsWrittenOr Fault.Output result (W.contents writer.old) (W.contents writer.new) (head.now ++ (data_text told.now ++ tail.now)) }
 {
     if write_data(writer, head, told, tail).is_err() || writer.flush().is_err() {
         return Err(Fault::Output);

@@ -1,7 +1,7 @@
 //! The command that prints the schedule of a play.
-ghost use Rattle.std.specs.Prelude.{◌≡◌, ◌≢◌, ℕ, IfOk, IfErr, IsErrOf, MatchResult, Some, slice_get};
+ghost use Rattle.std.specs.Prelude.{◌≡◌, ◌≢◌, ℕ, IfOk, IfErr, IsErrOf, Some, slice_get};
 ghost use Rattle.std.specs.Io.KnownBytes.{Appends};
-ghost use Rattle.reg_text.specs.Writing.{AppendsPart};
+ghost use Rattle.reg_text.specs.Writing.{AppendsPart, IsWrittenOr};
 ghost use Rattle.reg_process.specs.declared.events.Event.{Event};
 ghost use Rattle.reg_commands.specs.Replays.{start_of};
 ghost use Rattle.reg_inputs.specs.Schedules.{Plan};
@@ -45,7 +45,7 @@ pub(crate) fn send<A: Allocator + Copy, W: Write>(
     events: &[AnyEvent],
 ) -> Result<(), Fault>
     ensures { let plan : Plan = record { shape = shape; names = names.now; front = front; events = events.now } in
-        MatchResult result (λ _. Appends (W.contents writer.old) (W.contents writer.new) (schedule_text plan)) (λ f. (f ≡ Fault.Output) × AppendsPart (W.contents writer.old) (W.contents writer.new) (schedule_text plan)) }
+        IsWrittenOr Fault.Output result (W.contents writer.old) (W.contents writer.new) (schedule_text plan) }
 {
     if write_schedule(writer, shape, names, front, events).is_err() || writer.flush().is_err() {
         return Err(Fault::Output);

@@ -1,8 +1,7 @@
 //! Writing of which all or a first part went out.
 ghost use Rattle.std.specs.Prelude.{◌≡◌, ◌≤◌, ◌++◌, length, drop, false, true, MatchResult};
 ghost use Rattle.std.specs.Fmt.{decimal};
-ghost use Rattle.std.specs.Io.KnownBytes.{Appends};
-ghost use Rattle.reg_text.specs.Writing.{AppendsPart, Puts};
+ghost use Rattle.reg_text.specs.Writing.{Puts, IsWritten};
 
 use itoa::Buffer;
 use std::io::Write;
@@ -18,7 +17,7 @@ pub struct Unwritten;
 ///
 /// `Unwritten` where the writer failed, and then a first part of the bytes went out.
 pub fn write_bytes<W: Write>(writer: &mut W, bytes: &[u8]) -> Result<(), Unwritten>
-    ensures { MatchResult result (λ _. Appends (W.contents writer.old) (W.contents writer.new) bytes.now) (λ _. AppendsPart (W.contents writer.old) (W.contents writer.new) bytes.now) }
+    ensures { IsWritten result (W.contents writer.old) (W.contents writer.new) bytes.now }
 {
     let mut rest = bytes;
     for _ in 0..u64::MAX {

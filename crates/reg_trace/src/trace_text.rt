@@ -1,10 +1,9 @@
 //! What happens in a run, event by event, as text.
-ghost use Rattle.std.specs.Prelude.{◌≡◌, ◌++◌, ◌∷◌, [], MatchResult, Option, cond, codes, flat_map, None, Some};
+ghost use Rattle.std.specs.Prelude.{◌++◌, ◌∷◌, [], Option, codes, flat_map, Some};
 ghost use Rattle.reg_base.specs.Memory.{updates};
 ghost use Rattle.std.specs.Fmt.{decimal};
-ghost use Rattle.std.specs.Io.KnownBytes.{Appends};
 ghost use Rattle.reg_text.specs.Lines.{text_of, lines_by};
-ghost use Rattle.reg_text.specs.Writing.{AppendsPart, Puts};
+ghost use Rattle.reg_text.specs.Writing.{Puts, IsWritten};
 ghost use Rattle.reg_inputs.specs.Schedules.{event_text};
 ghost use Rattle.reg_trace.specs.Traces.{answers_lines, body_text, cast_text, copy_lines, delivers_line, delivers_lines, drops_lines, holds_line, frame_text, moment_lines, puts_line, stamp_text, taken_lines, takes_lines, title_line, trace_text};
 
@@ -324,7 +323,7 @@ pub fn write_trace<A: Allocator + Copy, W: Write>(
     names: &Names<A>,
     moments: &[Moment<A>],
 ) -> Result<(), Unwritten>
-    ensures { MatchResult result (λ _. Appends (W.contents writer.old) (W.contents writer.new) (title_line title.now ++ trace_text names.now moments.now)) (λ _. AppendsPart (W.contents writer.old) (W.contents writer.new) (title_line title.now ++ trace_text names.now moments.now)) }
+    ensures { IsWritten result (W.contents writer.old) (W.contents writer.new) (title_line title.now ++ trace_text names.now moments.now) }
 {
     let mut sink = Sink::new(writer);
     put_titled(&mut sink, title, names, moments);

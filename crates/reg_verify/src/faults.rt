@@ -1,8 +1,7 @@
 //! Why a record has no report.
-ghost use Rattle.std.specs.Prelude.{◌++◌, ◌∷◌, [], codes, MatchResult};
+ghost use Rattle.std.specs.Prelude.{◌++◌, ◌∷◌, [], codes};
 ghost use Rattle.std.specs.Fmt.{decimal};
-ghost use Rattle.std.specs.Io.KnownBytes.{Appends};
-ghost use Rattle.reg_text.specs.Writing.{AppendsPart, Puts};
+ghost use Rattle.reg_text.specs.Writing.{Puts, IsWritten};
 ghost use Rattle.reg_verify.specs.Verifies.{verify_line};
 
 use reg_commands::{Fault, Refusal};
@@ -58,7 +57,7 @@ fn put_unfaithful<W: Write>(sink: &mut Sink<'_, W>, line: u64)
 
 /// Writes the line of an unfaithful step, all of it or, where the writer fails, a first part.
 fn write_unfaithful<W: Write>(errors: &mut W, line: u64) -> Result<(), Unwritten>
-    ensures { MatchResult result (λ _. Appends (W.contents errors.old) (W.contents errors.new) (verify_line (VerifyFault.Unfaithful line))) (λ _. AppendsPart (W.contents errors.old) (W.contents errors.new) (verify_line (VerifyFault.Unfaithful line))) }
+    ensures { IsWritten result (W.contents errors.old) (W.contents errors.new) (verify_line (VerifyFault.Unfaithful line)) }
 {
     let mut sink = Sink::new(errors);
     put_unfaithful(&mut sink, line);

@@ -1,8 +1,7 @@
 //! What is answered of a report.
-ghost use Rattle.std.specs.Prelude.{◌≡◌, IfOk, MatchResult, string_bytes, true};
+ghost use Rattle.std.specs.Prelude.{◌≡◌, IfOk, string_bytes, true};
 ghost use Rattle.std.specs.Result.{is_ok};
-ghost use Rattle.std.specs.Io.KnownBytes.{Appends};
-ghost use Rattle.reg_text.specs.Writing.{AppendsPart};
+ghost use Rattle.reg_text.specs.Writing.{IsWrittenOr};
 ghost use Rattle.reg_judge.specs.Answers.{answer_text};
 ghost use Rattle.reg_judge.specs.Reported.{IsPointed, IsReportAnswer, Says, word_of};
 ghost use Rattle.reg_judge.specs.Rulings.{found_in};
@@ -112,7 +111,7 @@ pub(crate) fn write_of<A: Allocator + Copy, W: Write>(
     writer: &mut W,
     answer: &Answer<A>,
 ) -> Result<(), Fault>
-    ensures { MatchResult result (λ _. Appends (W.contents writer.old) (W.contents writer.new) (answer_text answer.now)) (λ f. (f ≡ Fault.Output) × AppendsPart (W.contents writer.old) (W.contents writer.new) (answer_text answer.now)) }
+    ensures { IsWrittenOr Fault.Output result (W.contents writer.old) (W.contents writer.new) (answer_text answer.now) }
 {
     match answer {
         Answer::Text(text) => write_answer(writer, text.as_bytes()),

@@ -1,8 +1,7 @@
 //! Why a history is not judged.
-ghost use Rattle.std.specs.Prelude.{◌++◌, ◌∷◌, [], codes, MatchResult};
+ghost use Rattle.std.specs.Prelude.{◌++◌, ◌∷◌, [], codes};
 ghost use Rattle.std.specs.Fmt.{decimal};
-ghost use Rattle.std.specs.Io.KnownBytes.{Appends};
-ghost use Rattle.reg_text.specs.Writing.{AppendsPart, Puts};
+ghost use Rattle.reg_text.specs.Writing.{Puts, IsWritten};
 ghost use Rattle.reg_judge.specs.Faults.{rule_line, rule_text};
 
 use crate::rulings::seats::Unseated;
@@ -129,7 +128,7 @@ fn put_rule<W: Write>(sink: &mut Sink<'_, W>, fault: RuleFault)
 
 /// Writes the line of a fault, all of it or, where the writer fails, a first part.
 fn write_rule<W: Write>(errors: &mut W, fault: RuleFault) -> Result<(), Unwritten>
-    ensures { MatchResult result (λ _. Appends (W.contents errors.old) (W.contents errors.new) (rule_line (RulingFault.Rule fault))) (λ _. AppendsPart (W.contents errors.old) (W.contents errors.new) (rule_line (RulingFault.Rule fault))) }
+    ensures { IsWritten result (W.contents errors.old) (W.contents errors.new) (rule_line (RulingFault.Rule fault)) }
 {
     let mut sink = Sink::new(errors);
     put_rule(&mut sink, fault);

@@ -1,9 +1,8 @@
 //! The text of all outcomes.
-ghost use Rattle.std.specs.Prelude.{◌++◌, ◌∷◌, [], MatchResult, codes, map};
+ghost use Rattle.std.specs.Prelude.{◌++◌, ◌∷◌, [], codes, map};
 ghost use Rattle.std.specs.Option.{option_map};
-ghost use Rattle.std.specs.Io.KnownBytes.{Appends};
 ghost use Rattle.reg_text.specs.Lines.{text_of};
-ghost use Rattle.reg_text.specs.Writing.{AppendsPart, Puts};
+ghost use Rattle.reg_text.specs.Writing.{Puts, IsWritten};
 ghost use Rattle.reg_outcomes.specs.AllText.{all_text, never_lines, outcome_text, turns_text, value_text, values_text};
 
 use crate::interleavings::nevers::MOST_NEVERS;
@@ -120,7 +119,7 @@ pub fn write_all<A: Allocator + Copy, W: Write>(
     all: &AllOutcomes<A>,
     nevers: &Option<Vec<Vec<ToldAnswer, A>, A>>,
 ) -> Result<(), Unwritten>
-    ensures { MatchResult result (λ _. Appends (W.contents writer.old) (W.contents writer.new) (all_text operations all.now.stages all.now.list.items (option_map (λ list. map (λ v. v.items) list.items) nevers.now))) (λ _. AppendsPart (W.contents writer.old) (W.contents writer.new) (all_text operations all.now.stages all.now.list.items (option_map (λ list. map (λ v. v.items) list.items) nevers.now))) }
+    ensures { IsWritten result (W.contents writer.old) (W.contents writer.new) (all_text operations all.now.stages all.now.list.items (option_map (λ list. map (λ v. v.items) list.items) nevers.now)) }
 {
     let mut sink = Sink::new(writer);
     put_all(&mut sink, operations, all, nevers);

@@ -1,10 +1,9 @@
 //! The text of a table.
-ghost use Rattle.std.specs.Prelude.{◌++◌, ◌∷◌, [], MatchResult, map, replicate};
+ghost use Rattle.std.specs.Prelude.{◌++◌, ◌∷◌, [], map, replicate};
 ghost use Rattle.std.specs.Fmt.{decimal};
-ghost use Rattle.std.specs.Io.KnownBytes.{Appends};
 ghost use Rattle.reg_text.specs.Columns.{to_right};
 ghost use Rattle.reg_text.specs.Lines.{text_of};
-ghost use Rattle.reg_text.specs.Writing.{AppendsPart, Puts};
+ghost use Rattle.reg_text.specs.Writing.{Puts, IsWritten};
 ghost use Rattle.reg_outcomes.specs.TableText.{firsts_text, line_text, play_text, seed_text, shortest_text, table_text, time_text, undrawn_lines};
 
 use crate::tables::plays::Outcomes;
@@ -134,7 +133,7 @@ pub fn write_table<A: Allocator + Copy, W: Write>(
     plays: u32,
     outcomes: &Outcomes<A>,
 ) -> Result<(), Unwritten>
-    ensures { MatchResult result (λ _. Appends (W.contents writer.old) (W.contents writer.new) (table_text plays outcomes.now.rows.items outcomes.now.unfinished outcomes.now.undrawn)) (λ _. AppendsPart (W.contents writer.old) (W.contents writer.new) (table_text plays outcomes.now.rows.items outcomes.now.unfinished outcomes.now.undrawn)) }
+    ensures { IsWritten result (W.contents writer.old) (W.contents writer.new) (table_text plays outcomes.now.rows.items outcomes.now.unfinished outcomes.now.undrawn) }
 {
     let mut sink = Sink::new(writer);
     put_table(&mut sink, plays, outcomes);

@@ -1,7 +1,6 @@
 //! The text of the data.
-ghost use Rattle.std.specs.Prelude.{◌++◌, MatchResult};
-ghost use Rattle.std.specs.Io.KnownBytes.{Appends};
-ghost use Rattle.reg_text.specs.Writing.{AppendsPart, Puts};
+ghost use Rattle.std.specs.Prelude.{◌++◌};
+ghost use Rattle.reg_text.specs.Writing.{Puts, IsWritten};
 ghost use Rattle.reg_trace.specs.Data.{data_text, head_text, order_text, points_part, run_text};
 ghost use Rattle.reg_trace.specs.Json.{list_text, quoted};
 ghost use Rattle.std.specs.Prelude.{option_map};
@@ -102,7 +101,7 @@ pub fn write_data<A: Allocator + Copy, W: Write>(
     run: &Data<A>,
     tail: &str,
 ) -> Result<(), Unwritten>
-    ensures { MatchResult result (λ _. Appends (W.contents writer.old) (W.contents writer.new) (head.now ++ (data_text run.now ++ tail.now))) (λ _. AppendsPart (W.contents writer.old) (W.contents writer.new) (head.now ++ (data_text run.now ++ tail.now))) }
+    ensures { IsWritten result (W.contents writer.old) (W.contents writer.new) (head.now ++ (data_text run.now ++ tail.now)) }
 {
     let mut sink = Sink::new(writer);
     put_between(&mut sink, head, run, tail);

@@ -1,8 +1,7 @@
 //! The line that is told of reports in a row.
-ghost use Rattle.std.specs.Prelude.{◌≡◌, ◌++◌, ◌∷◌, [], MatchResult, codes};
+ghost use Rattle.std.specs.Prelude.{[]};
 ghost use Rattle.std.specs.Fmt.{decimal};
-ghost use Rattle.std.specs.Io.KnownBytes.{Appends};
-ghost use Rattle.reg_text.specs.Writing.{AppendsPart, Puts};
+ghost use Rattle.reg_text.specs.Writing.{Puts, IsWritten, IsWrittenOr};
 ghost use Rattle.reg_verify.specs.StoryTexts.{breach_text, part_text, ruling_text};
 
 use crate::stories::breaches::{Breach, ChapterPart, Ruling};
@@ -106,7 +105,7 @@ fn write_line<A: Allocator + Copy, W: Write>(
     names: &Names<A>,
     ruling: Ruling,
 ) -> Result<(), Fault>
-    ensures { MatchResult result (λ _. Appends (W.contents writer.old) (W.contents writer.new) (ruling_text names.now ruling)) (λ _. AppendsPart (W.contents writer.old) (W.contents writer.new) (ruling_text names.now ruling)) }
+    ensures { IsWritten result (W.contents writer.old) (W.contents writer.new) (ruling_text names.now ruling) }
 {
     let mut sink = Sink::new(writer);
     put_ruling(&mut sink, names, ruling);
@@ -126,7 +125,7 @@ pub(crate) fn write_ruling<A: Allocator + Copy, W: Write>(
     names: &Names<A>,
     ruling: Ruling,
 ) -> Result<(), Fault>
-    ensures { MatchResult result (λ _. Appends (W.contents writer.old) (W.contents writer.new) (ruling_text names.now ruling)) (λ f. (f ≡ Fault.Output) × AppendsPart (W.contents writer.old) (W.contents writer.new) (ruling_text names.now ruling)) }
+    ensures { IsWrittenOr Fault.Output result (W.contents writer.old) (W.contents writer.new) (ruling_text names.now ruling) }
 {
     if write_line(writer, names, ruling).is_err() || writer.flush().is_err() {
         return Err(Fault::Output);
