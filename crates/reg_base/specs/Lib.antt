@@ -2,6 +2,7 @@ pub mod Chains
 pub mod Shape
 pub mod Stamp
 pub mod Order
+pub mod Lists
 pub mod Memory
 pub mod Names
 pub mod Sums

@@ -1,6 +1,7 @@
 //! The operations of a workload.
 ghost use Rattle.std.specs.Prelude.{◌≡◌, ◌⊎◌, ◌≤◌, ℕ, List, None, Some, true, IfOk, IfErr, IfSome, map, length};
 ghost use Rattle.std.specs.List.{list_all};
+ghost use Rattle.reg_base.specs.Lists.{lists};
 ghost use Rattle.toml.specs.Data.{string, array};
 ghost use Rattle.toml.specs.View.{view, items_of};
 ghost use Rattle.reg_base.specs.Names.{names_fault};
@@ -80,8 +81,8 @@ pub(crate) fn scripts_of<A: Allocator + Copy>(
     requires few { length scripts.now ≤ MOST_PROCESSES }
     requires kind { list_all (λ v. is_script (view v)) scripts.now ≡ true }
     requires short { list_all (λ v. is_short (view v)) scripts.now ≡ true }
-    ensures read { IfOk result (λ v. (map view scripts.now ≡ map (script_data names.now) (map (λ s. s.items) v.items)) × AllFit (λ _ ops. IsScript names.now ops) (map (λ s. s.items) v.items)) }
-    ensures only { IfOk result (λ v. (all : List (List Op)) → AllFit (λ _ ops. IsScript names.now ops) all → map view scripts.now ≡ map (script_data names.now) all → map (λ s. s.items) v.items ≡ all) }
+    ensures read { IfOk result (λ v. (map view scripts.now ≡ map (script_data names.now) (lists v.items)) × AllFit (λ _ ops. IsScript names.now ops) (lists v.items)) }
+    ensures only { IfOk result (λ v. (all : List (List Op)) → AllFit (λ _ ops. IsScript names.now ops) all → map view scripts.now ≡ map (script_data names.now) all → lists v.items ≡ all) }
     ensures refused { IfErr result (λ e. (e ≡ OutOfMemory) ⊎ ((process : ℕ) × (place : ℕ) × (e ≡ Script process place) × IsFirstRefused names.now (map view scripts.now) process place)) }
 {
     let mut all = Vec::new(alloc);

@@ -36,14 +36,14 @@ pub struct Workload<A: Allocator + Copy = Global> {
 }
 
 impl<A: Allocator + Copy> Model for Workload<A> {
-    ghost use Rattle.std.specs.Prelude.{map};
+    ghost use Rattle.reg_base.specs.Lists.{lists};
     ghost use Rattle.reg_inputs.specs.Loads.{Load, IsLoad};
 
     ghost Value = { Load };
 
-    ghost view = { λ w. record { shape = w.shape; names = w.names; front = w.front; scripts = map (λ s. s.items) w.scripts.items; seed = w.seed; loss = w.loss; repeat = w.repeat; budget = w.budget } };
+    ghost view = { λ w. record { shape = w.shape; names = w.names; front = w.front; scripts = lists w.scripts.items; seed = w.seed; loss = w.loss; repeat = w.repeat; budget = w.budget } };
 
-    ghost invariant = { λ w. IsLoad (record { shape = w.shape; names = w.names; front = w.front; scripts = map (λ s. s.items) w.scripts.items; seed = w.seed; loss = w.loss; repeat = w.repeat; budget = w.budget }) };
+    ghost invariant = { λ w. IsLoad (record { shape = w.shape; names = w.names; front = w.front; scripts = lists w.scripts.items; seed = w.seed; loss = w.loss; repeat = w.repeat; budget = w.budget }) };
 }
 
 /// The workload that a table says, or the table's first fault.

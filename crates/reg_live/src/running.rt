@@ -1,5 +1,6 @@
 //! The start of a running cluster, and its end.
-ghost use Rattle.std.specs.Prelude.{◌≡◌, IfOk, IfErr, map};
+ghost use Rattle.std.specs.Prelude.{◌≡◌, IfOk, IfErr};
+ghost use Rattle.reg_base.specs.Lists.{lists};
 ghost use Rattle.reg_live.specs.Passes.{IsLived, IsUnclosed, AreOneEach, AreOwn, AreNew, RespectTime, RespectUpdates};
 
 use crate::closing::{Closed, close_in};
@@ -69,11 +70,11 @@ impl<F: FrontEnd, G: Gate + Drop> Running<F, G> {
         alloc: Global,
         passes: Vec<Pass<F, G>>,
     ) -> Result<Closed<F>, CloseFault>
-        ensures lived { IfOk result (λ c. IsLived F.start self (map (λ v. v.items) c.receipts.items) c.world) }
+        ensures lived { IfOk result (λ c. IsLived F.start self (lists c.receipts.items) c.world) }
         ensures each { IfOk result (λ c. AreOneEach passes.items self.processes) }
-        ensures own { IfOk result (λ c. AreOwn passes.items (map (λ v. v.items) c.receipts.items)) }
-        ensures time { IfOk result (λ c. RespectTime c.world.registers c.world.history (map (λ v. v.items) c.receipts.items)) }
-        ensures updates { IfOk result (λ c. RespectUpdates F.start c.world.history (map (λ v. v.items) c.receipts.items)) }
+        ensures own { IfOk result (λ c. AreOwn passes.items (lists c.receipts.items)) }
+        ensures time { IfOk result (λ c. RespectTime c.world.registers c.world.history (lists c.receipts.items)) }
+        ensures updates { IfOk result (λ c. RespectUpdates F.start c.world.history (lists c.receipts.items)) }
         ensures refused { IfErr result (IsUnclosed F.start self passes.items) }
     {
         self.close_in(rt, alloc, passes)
@@ -90,11 +91,11 @@ impl<F: FrontEnd, G: Gate + Drop> Running<F, G> {
         alloc: Global,
         passes: Vec<Pass<F, G>>,
     ) -> Result<Closed<F, W>, CloseFault>
-        ensures lived { IfOk result (λ c. IsLived F.start self (map (λ v. v.items) c.receipts.items) c.world) }
+        ensures lived { IfOk result (λ c. IsLived F.start self (lists c.receipts.items) c.world) }
         ensures each { IfOk result (λ c. AreOneEach passes.items self.processes) }
-        ensures own { IfOk result (λ c. AreOwn passes.items (map (λ v. v.items) c.receipts.items)) }
-        ensures time { IfOk result (λ c. RespectTime c.world.registers c.world.history (map (λ v. v.items) c.receipts.items)) }
-        ensures updates { IfOk result (λ c. RespectUpdates F.start c.world.history (map (λ v. v.items) c.receipts.items)) }
+        ensures own { IfOk result (λ c. AreOwn passes.items (lists c.receipts.items)) }
+        ensures time { IfOk result (λ c. RespectTime c.world.registers c.world.history (lists c.receipts.items)) }
+        ensures updates { IfOk result (λ c. RespectUpdates F.start c.world.history (lists c.receipts.items)) }
         ensures refused { IfErr result (IsUnclosed F.start self passes.items) }
     {
         let Running {

@@ -1,5 +1,6 @@
 //! The scripts of a cluster, each performed by a thread of its own.
 ghost use Rattle.std.specs.Prelude.{◌≡◌, List, [], None, Ok, true, IfOk, OnOk, map, vec_len};
+ghost use Rattle.reg_base.specs.Lists.{lists};
 ghost use Rattle.reg_base.specs.declared.memory.Op.{Op};
 ghost use Rattle.reg_live.specs.Passes.{IsLived, RespectTime, RespectUpdates, AreNew};
 ghost use Rattle.reg_live.specs.Scripts.{IsPerformed, IsBack, AreStarted, ArePerformed, ops_of};
@@ -131,7 +132,7 @@ fn start_callers<
     requires empty { handles.old.items ≡ [] }
     requires passes { AreNew shape passes.items }
     requires each { vec_len scripts ≡ shape.processes }
-    ensures { OnOk result (AreStarted (map (λ s. s.items) scripts.items) (map (λ h. (h.promise.process, h.promise.script.value.items)) handles.new.items)) }
+    ensures { OnOk result (AreStarted (lists scripts.items) (map (λ h. (h.promise.process, h.promise.script.value.items)) handles.new.items)) }
 {
     let mut passes = passes.into_iter();
     for script in scripts {
@@ -202,10 +203,10 @@ fn close_ended<F: FrontEnd, R: Threads + Wait, W: WireStore<Global>>(
     running: Running<F, NoGate>,
     passes: Vec<Pass<F, NoGate>>,
 ) -> Result<Closed<F, W>, RunStop>
-    ensures lived { IfOk result (λ c. IsLived F.start running (map (λ v. v.items) c.receipts.items) c.world) }
-    ensures time { IfOk result (λ c. RespectTime c.world.registers c.world.history (map (λ v. v.items) c.receipts.items)) }
-    ensures updates { IfOk result (λ c. RespectUpdates F.start c.world.history (map (λ v. v.items) c.receipts.items)) }
-    ensures performed { IfOk result (λ c. (scripts : List (List Op)) → ArePerformed scripts passes.items → map ops_of (map (λ v. v.items) c.receipts.items) ≡ scripts) }
+    ensures lived { IfOk result (λ c. IsLived F.start running (lists c.receipts.items) c.world) }
+    ensures time { IfOk result (λ c. RespectTime c.world.registers c.world.history (lists c.receipts.items)) }
+    ensures updates { IfOk result (λ c. RespectUpdates F.start c.world.history (lists c.receipts.items)) }
+    ensures performed { IfOk result (λ c. (scripts : List (List Op)) → ArePerformed scripts passes.items → map ops_of (lists c.receipts.items) ≡ scripts) }
 {
     match running.close_in(rt, alloc, passes) {
         Ok(closed) => Ok(closed),
@@ -234,10 +235,10 @@ fn end<F: FrontEnd, R: Threads + Wait, W: WireStore<Global>>(
     all: bool,
 ) -> Result<Closed<F, W>, RunStop>
     ensures all { OnOk result (all ≡ true) }
-    ensures lived { IfOk result (λ c. IsLived F.start running (map (λ v. v.items) c.receipts.items) c.world) }
-    ensures time { IfOk result (λ c. RespectTime c.world.registers c.world.history (map (λ v. v.items) c.receipts.items)) }
-    ensures updates { IfOk result (λ c. RespectUpdates F.start c.world.history (map (λ v. v.items) c.receipts.items)) }
-    ensures performed { IfOk result (λ c. (scripts : List (List Op)) → AreStarted scripts (map (λ h. (h.promise.process, h.promise.script.value.items)) callers.items) → map ops_of (map (λ v. v.items) c.receipts.items) ≡ scripts) }
+    ensures lived { IfOk result (λ c. IsLived F.start running (lists c.receipts.items) c.world) }
+    ensures time { IfOk result (λ c. RespectTime c.world.registers c.world.history (lists c.receipts.items)) }
+    ensures updates { IfOk result (λ c. RespectUpdates F.start c.world.history (lists c.receipts.items)) }
+    ensures performed { IfOk result (λ c. (scripts : List (List Op)) → AreStarted scripts (map (λ h. (h.promise.process, h.promise.script.value.items)) callers.items) → map ops_of (lists c.receipts.items) ≡ scripts) }
 {
     let told = join_callers(rt, alloc, callers);
     if !all {
@@ -261,10 +262,10 @@ pub fn run_scripts<
     R: Threads + Wait + Clock + Copy + Send + Sync + 'static,
 >(rt: R, alloc: Global, shape: Shape, scripts: Vec<Vec<Op>>) -> Result<Closed<F>, RunStop>
     requires { vec_len scripts ≡ shape.processes }
-    ensures lived { IfOk result (λ c. IsLived F.start shape (map (λ v. v.items) c.receipts.items) c.world) }
-    ensures time { IfOk result (λ c. RespectTime c.world.registers c.world.history (map (λ v. v.items) c.receipts.items)) }
-    ensures updates { IfOk result (λ c. RespectUpdates F.start c.world.history (map (λ v. v.items) c.receipts.items)) }
-    ensures performed { IfOk result (λ c. map ops_of (map (λ v. v.items) c.receipts.items) ≡ map (λ s. s.items) scripts.items) }
+    ensures lived { IfOk result (λ c. IsLived F.start shape (lists c.receipts.items) c.world) }
+    ensures time { IfOk result (λ c. RespectTime c.world.registers c.world.history (lists c.receipts.items)) }
+    ensures updates { IfOk result (λ c. RespectUpdates F.start c.world.history (lists c.receipts.items)) }
+    ensures performed { IfOk result (λ c. map ops_of (lists c.receipts.items) ≡ lists scripts.items) }
 {
     run_scripts_in::<F, R, Wires<Global>>(rt, alloc, shape, scripts)
 }
@@ -280,10 +281,10 @@ pub fn run_scripts_in<
     W: WireStore<Global>,
 >(rt: R, alloc: Global, shape: Shape, scripts: Vec<Vec<Op>>) -> Result<Closed<F, W>, RunStop>
     requires { vec_len scripts ≡ shape.processes }
-    ensures lived { IfOk result (λ c. IsLived F.start shape (map (λ v. v.items) c.receipts.items) c.world) }
-    ensures time { IfOk result (λ c. RespectTime c.world.registers c.world.history (map (λ v. v.items) c.receipts.items)) }
-    ensures updates { IfOk result (λ c. RespectUpdates F.start c.world.history (map (λ v. v.items) c.receipts.items)) }
-    ensures performed { IfOk result (λ c. map ops_of (map (λ v. v.items) c.receipts.items) ≡ map (λ s. s.items) scripts.items) }
+    ensures lived { IfOk result (λ c. IsLived F.start shape (lists c.receipts.items) c.world) }
+    ensures time { IfOk result (λ c. RespectTime c.world.registers c.world.history (lists c.receipts.items)) }
+    ensures updates { IfOk result (λ c. RespectUpdates F.start c.world.history (lists c.receipts.items)) }
+    ensures performed { IfOk result (λ c. map ops_of (lists c.receipts.items) ≡ lists scripts.items) }
 {
     let mut callers = Vec::new(alloc);
     callers.reserve(scripts.len())?;

@@ -1,9 +1,10 @@
 -- Combinations of answers under way. They carry a proof: no promise speaks of them.
-use Rattle.std.specs.Prelude.{ℕ, ◌≡◌, ◌≢◌, ◌⊎◌, List, [], ◌∷◌, ◌++◌, length, map, Vec}
+use Rattle.std.specs.Prelude.{ℕ, ◌≡◌, ◌≢◌, ◌⊎◌, List, [], ◌∷◌, ◌++◌, length, Vec}
 use Rattle.std.specs.Ordering.{is_eq}
 use Rattle.std.specs.Cmp.Lexicographic.{slice_cmp}
 use Rattle.std.specs.Set.{remove_key}
 use Rattle.std.specs.BTreeSet.{BTreeSet}
+use Rattle.reg_base.specs.Lists.{lists}
 use Rattle.reg_base.specs.Order.{In}
 use Rattle.reg_checkers.specs.History.{IsAt}
 use Rattle.reg_outcomes.specs.declared.told.ToldAnswer.{ToldAnswer}
@@ -12,7 +13,7 @@ use Rattle.reg_outcomes.specs.Nevers.{StandsAt}
 
 -- the lists that a set holds
 abbrev pub lists_of : {A : Type 0} → BTreeSet (Vec ToldAnswer A) → List (List ToldAnswer)
-lists_of set = map (λ v. v.items) set.keys
+lists_of set = lists set.keys
 
 -- answers at the first k places, each of which stands there in some outcome
 pub record IsCombination (outcomes : List (List ToldAnswer)) (k : ℕ) (told : List ToldAnswer) : Type 0 where

@@ -1,5 +1,6 @@
 //! Runs that have an outcome: the turns of an interleaving are made one after another, each from rest to rest.
-ghost use Rattle.std.specs.Prelude.{ℕ, ◌≡◌, ◌+◌, ◌-◌, ◌*◌, ◌≤◌, ◌↔◌, IsTrue, IfOk, IfErr, OnOk, MatchResult, None, false, length, map};
+ghost use Rattle.std.specs.Prelude.{ℕ, ◌≡◌, ◌+◌, ◌-◌, ◌*◌, ◌≤◌, ◌↔◌, IsTrue, IfOk, IfErr, OnOk, MatchResult, None, false, length};
+ghost use Rattle.reg_base.specs.Lists.{lists};
 ghost use Rattle.reg_base.specs.declared.limits.TheConstants.{MOST_EVENTS, MOST_PROCESSES};
 ghost use Rattle.reg_process.specs.declared.events.Event.TheVariants.{Call};
 ghost use Rattle.reg_records.specs.Rest.{Settles, most_to_rest};
@@ -54,8 +55,8 @@ fn most_events_of_turn(processes: u64) -> u64
 
 /// Whether a run has room to call all operations one after another, and to come to rest after each.
 fn has_room<A: Allocator + Copy>(scripts: &[Vec<Op, A>], registers: u16) -> bool
-    requires { ArePlayable (map (λ v. v.items) scripts.now) registers }
-    ensures { IsTrue result ↔ HasRoom (map (λ v. v.items) scripts.now) }
+    requires { ArePlayable (lists scripts.now) registers }
+    ensures { IsTrue result ↔ HasRoom (lists scripts.now) }
 {
     let operations = count_operations(scripts) as u64;
     operations * most_events_of_turn(scripts.len() as u64) <= u64::from(MOST_EVENTS)
@@ -116,10 +117,10 @@ fn take_turns<F: FrontEnd, A: Allocator + Copy, W: WireStore<A>>(
     world: &mut World<F, A, W>,
 ) -> Result<(), TurnsFault>
     requires new { world.old ≡ new_world (record { processes = length scripts.now; registers = registers }) }
-    requires playable { ArePlayable (map (λ v. v.items) scripts.now) registers }
-    requires outcome { IsInterleaving (map (λ v. v.items) scripts.now) registers outcome.now }
-    requires room { HasRoom (map (λ v. v.items) scripts.now) }
-    ensures { MatchResult result (λ _. IsRunOf F.start (map (λ v. v.items) scripts.now) registers outcome.now world.new) (λ fault. fault ≡ TurnsFault.OutOfMemory) }
+    requires playable { ArePlayable (lists scripts.now) registers }
+    requires outcome { IsInterleaving (lists scripts.now) registers outcome.now }
+    requires room { HasRoom (lists scripts.now) }
+    ensures { MatchResult result (λ _. IsRunOf F.start (lists scripts.now) registers outcome.now world.new) (λ fault. fault ≡ TurnsFault.OutOfMemory) }
 {
     let mut stage = Stage::first(alloc, scripts.len(), registers)?;
     for turn in 0..outcome.turns.len() {
@@ -149,11 +150,11 @@ pub fn run_outcome<F: FrontEnd, A: Allocator + Copy, W: WireStore<A>>(
     outcome: &Outcome<A>,
 ) -> Result<World<F, A, W>, TurnsFault>
     requires processes { shape.processes ≡ length scripts.now }
-    requires playable { ArePlayable (map (λ v. v.items) scripts.now) shape.registers }
-    requires outcome { IsInterleaving (map (λ v. v.items) scripts.now) shape.registers outcome.now }
-    ensures run { IfOk result (λ world. IsRunOf F.start (map (λ v. v.items) scripts.now) shape.registers outcome.now world) }
-    ensures room { OnOk result (HasRoom (map (λ v. v.items) scripts.now)) }
-    ensures refused { IfErr result (IsTurnsFault (map (λ v. v.items) scripts.now)) }
+    requires playable { ArePlayable (lists scripts.now) shape.registers }
+    requires outcome { IsInterleaving (lists scripts.now) shape.registers outcome.now }
+    ensures run { IfOk result (λ world. IsRunOf F.start (lists scripts.now) shape.registers outcome.now world) }
+    ensures room { OnOk result (HasRoom (lists scripts.now)) }
+    ensures refused { IfErr result (IsTurnsFault (lists scripts.now)) }
 {
     let registers = shape.registers() as u16;
     if !has_room(scripts, registers) {

@@ -1,5 +1,6 @@
 //! Logs put into one order.
-ghost use Rattle.std.specs.Prelude.{◌≡◌, ◌≤◌, IfErr, IfOk, MatchOption, length, map};
+ghost use Rattle.std.specs.Prelude.{◌≡◌, ◌≤◌, IfErr, IfOk, MatchOption, length};
+ghost use Rattle.reg_base.specs.Lists.{lists};
 ghost use Rattle.reg_records.specs.Records.{NothingLeft};
 ghost use Rattle.reg_records.specs.Merges.{IsFirstLeft, IsGreatest, IsMergeFault};
 
@@ -70,9 +71,9 @@ pub fn merge<F: FrontEnd, A: Allocator + Copy, W: WireStore<A>>(
     logs: &[Vec<LogEntry, A>],
 ) -> Result<Merged<A>, MergeFault>
     requires { length logs.now ≡ shape.processes }
-    ensures greatest { IfOk result (λ m. IsGreatest F.start shape (map (λ v. v.items) logs.now) m.order.items) }
-    ensures left { IfOk result (λ m. MatchOption m.left (NothingLeft m.order.items (map (λ v. v.items) logs.now)) (λ l. IsFirstLeft (map (λ v. v.items) logs.now) m.order.items l.process l.place)) }
-    ensures fault { IfErr result (λ f. IsMergeFault F.start shape (map (λ v. v.items) logs.now) f) }
+    ensures greatest { IfOk result (λ m. IsGreatest F.start shape (lists logs.now) m.order.items) }
+    ensures left { IfOk result (λ m. MatchOption m.left (NothingLeft m.order.items (lists logs.now)) (λ l. IsFirstLeft (lists logs.now) m.order.items l.process l.place)) }
+    ensures fault { IfErr result (λ f. IsMergeFault F.start shape (lists logs.now) f) }
 {
     let mut placing: Placing<F, A, W> = Placing::new(alloc, shape)?;
     for _round in 0..MOST_EVENTS + 1 {

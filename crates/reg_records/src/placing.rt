@@ -1,5 +1,6 @@
 //! Entries as they are placed.
-ghost use Rattle.std.specs.Prelude.{◌≡◌, ◌<◌, ◌≤◌, ◌+◌, ◌^◌, ◌++◌, ◌∷◌, [], IfErr, IfOk, MatchOption, OnOk, length, map, vec_len};
+ghost use Rattle.std.specs.Prelude.{◌≡◌, ◌<◌, ◌≤◌, ◌+◌, ◌^◌, ◌++◌, ◌∷◌, [], IfErr, IfOk, MatchOption, OnOk, length, vec_len};
+ghost use Rattle.reg_base.specs.Lists.{lists};
 ghost use Rattle.reg_records.specs.Playing.{AreTallied};
 ghost use Rattle.reg_base.specs.declared.limits.TheConstants.{MOST_PROCESSES};
 ghost use Rattle.reg_records.specs.Records.{NothingLeft};
@@ -94,10 +95,10 @@ impl<F: FrontEnd, A: Allocator + Copy, W: WireStore<A>> Placing<F, A, W> {
         process: u8,
         search: Search,
     ) -> Result<Next, MergeFault>
-        requires placing { IsPlacing F.start (map (λ v. v.items) logs.now) self.old }
+        requires placing { IsPlacing F.start (lists logs.now) self.old }
         requires within { process < length logs.now }
-        ensures next { IfOk result (λ next. HasPlaced F.start (map (λ v. v.items) logs.now) process self.old search next self.new) }
-        ensures fault { IfErr result (λ f. IsMergeFault F.start (shape_of self.old.world) (map (λ v. v.items) logs.now) f) }
+        ensures next { IfOk result (λ next. HasPlaced F.start (lists logs.now) process self.old search next self.new) }
+        ensures fault { IfErr result (λ f. IsMergeFault F.start (shape_of self.old.world) (lists logs.now) f) }
     {
         let place = self.counts[usize::from(process)];
         let Some(entry) = entry_at(logs, usize::from(process), place) else {
@@ -121,10 +122,10 @@ impl<F: FrontEnd, A: Allocator + Copy, W: WireStore<A>> Placing<F, A, W> {
 
     /// Places entries of a log, as long as the hints tell where their frames are.
     fn go_on(&mut self, logs: &[Vec<LogEntry, A>], process: u8) -> Result<(), MergeFault>
-        requires placing { IsPlacing F.start (map (λ v. v.items) logs.now) self.old }
+        requires placing { IsPlacing F.start (lists logs.now) self.old }
         requires within { process < length logs.now }
-        ensures goes_on { IfOk result (λ _. GoesOn F.start (map (λ v. v.items) logs.now) self.old self.new) }
-        ensures fault { IfErr result (λ f. IsMergeFault F.start (shape_of self.old.world) (map (λ v. v.items) logs.now) f) }
+        ensures goes_on { IfOk result (λ _. GoesOn F.start (lists logs.now) self.old self.new) }
+        ensures fault { IfErr result (λ f. IsMergeFault F.start (shape_of self.old.world) (lists logs.now) f) }
     {
         for _entry in 0..logs[usize::from(process)].len() {
             match self.place(logs, process, Search::Hinted)? {
@@ -137,10 +138,10 @@ impl<F: FrontEnd, A: Allocator + Copy, W: WireStore<A>> Placing<F, A, W> {
 
     /// Places entries of each log in turn, as long as the hints tell where their frames are.
     fn go_round(&mut self, logs: &[Vec<LogEntry, A>]) -> Result<(), MergeFault>
-        requires placing { IsPlacing F.start (map (λ v. v.items) logs.now) self.old }
+        requires placing { IsPlacing F.start (lists logs.now) self.old }
         requires few { length logs.now ≤ MOST_PROCESSES }
-        ensures goes_on { IfOk result (λ _. GoesOn F.start (map (λ v. v.items) logs.now) self.old self.new) }
-        ensures fault { IfErr result (λ f. IsMergeFault F.start (shape_of self.old.world) (map (λ v. v.items) logs.now) f) }
+        ensures goes_on { IfOk result (λ _. GoesOn F.start (lists logs.now) self.old self.new) }
+        ensures fault { IfErr result (λ f. IsMergeFault F.start (shape_of self.old.world) (lists logs.now) f) }
     {
         for process in 0..logs.len() as u8 {
             self.go_on(logs, process)?;
@@ -150,10 +151,10 @@ impl<F: FrontEnd, A: Allocator + Copy, W: WireStore<A>> Placing<F, A, W> {
 
     /// Places one entry that can go, and tells whether there is one. Whole wires are looked through.
     fn place_any(&mut self, logs: &[Vec<LogEntry, A>]) -> Result<bool, MergeFault>
-        requires placing { IsPlacing F.start (map (λ v. v.items) logs.now) self.old }
+        requires placing { IsPlacing F.start (lists logs.now) self.old }
         requires few { length logs.now ≤ MOST_PROCESSES }
-        ensures any { IfOk result (λ placed. HasPlacedAny F.start (map (λ v. v.items) logs.now) self.old placed self.new) }
-        ensures fault { IfErr result (λ f. IsMergeFault F.start (shape_of self.old.world) (map (λ v. v.items) logs.now) f) }
+        ensures any { IfOk result (λ placed. HasPlacedAny F.start (lists logs.now) self.old placed self.new) }
+        ensures fault { IfErr result (λ f. IsMergeFault F.start (shape_of self.old.world) (lists logs.now) f) }
     {
         for process in 0..logs.len() as u8 {
             match self.place(logs, process, Search::Whole)? {
@@ -166,10 +167,10 @@ impl<F: FrontEnd, A: Allocator + Copy, W: WireStore<A>> Placing<F, A, W> {
 
     /// Places more entries, and tells whether any can go.
     pub(crate) fn go_further(&mut self, logs: &[Vec<LogEntry, A>]) -> Result<bool, MergeFault>
-        requires placing { IsPlacing F.start (map (λ v. v.items) logs.now) self.old }
+        requires placing { IsPlacing F.start (lists logs.now) self.old }
         requires few { length logs.now ≤ MOST_PROCESSES }
-        ensures any { IfOk result (λ placed. HasPlacedAny F.start (map (λ v. v.items) logs.now) self.old placed self.new) }
-        ensures fault { IfErr result (λ f. IsMergeFault F.start (shape_of self.old.world) (map (λ v. v.items) logs.now) f) }
+        ensures any { IfOk result (λ placed. HasPlacedAny F.start (lists logs.now) self.old placed self.new) }
+        ensures fault { IfErr result (λ f. IsMergeFault F.start (shape_of self.old.world) (lists logs.now) f) }
     {
         let before = self.order.len();
         self.go_round(logs)?;
@@ -181,9 +182,9 @@ impl<F: FrontEnd, A: Allocator + Copy, W: WireStore<A>> Placing<F, A, W> {
 
     /// The first entry that is left of the first log with one.
     pub(crate) fn first_left(&self, logs: &[Vec<LogEntry, A>]) -> Option<Left>
-        requires placing { IsPlacing F.start (map (λ v. v.items) logs.now) self.now }
+        requires placing { IsPlacing F.start (lists logs.now) self.now }
         requires few { length logs.now ≤ MOST_PROCESSES }
-        ensures { MatchOption result (NothingLeft self.now.order (map (λ v. v.items) logs.now)) (λ left. IsFirstLeft (map (λ v. v.items) logs.now) self.now.order left.process left.place) }
+        ensures { MatchOption result (NothingLeft self.now.order (lists logs.now)) (λ left. IsFirstLeft (lists logs.now) self.now.order left.process left.place) }
     {
         for process in 0..logs.len() as u8 {
             let place = self.counts[usize::from(process)];

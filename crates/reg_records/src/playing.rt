@@ -1,5 +1,6 @@
 //! A record played as a run.
-ghost use Rattle.std.specs.Prelude.{◌≡◌, ◌<◌, ◌+◌, length, map, false, true, MatchOption, MatchResult, IfOk, IsTrue, ◌↔◌};
+ghost use Rattle.std.specs.Prelude.{◌≡◌, ◌<◌, ◌+◌, length, false, true, MatchOption, MatchResult, IfOk, IsTrue, ◌↔◌};
+ghost use Rattle.reg_base.specs.Lists.{lists};
 ghost use Rattle.reg_records.specs.Records.{IsFaithful};
 ghost use Rattle.reg_world.specs.Worlds.{run_in};
 ghost use Rattle.reg_records.specs.Playing.{AreTallied, IsEventOf, IsMade, StandsFor, StandsForNone};
@@ -82,7 +83,7 @@ fn next_entry<A: Allocator + Copy>(
     requires within { place < length order.now }
     requires tallied { AreTallied counts.now order.now place }
     requires len { length counts.now ≡ length logs.now }
-    ensures { MatchOption result (StandsForNone order.now (map (λ v. v.items) logs.now) place) (λ next. StandsFor order.now (map (λ v. v.items) logs.now) place next.0 next.1) }
+    ensures { MatchOption result (StandsForNone order.now (lists logs.now) place) (λ next. StandsFor order.now (lists logs.now) place next.0 next.1) }
 {
     let by = order[place];
     let process = usize::from(by);
@@ -115,7 +116,7 @@ pub fn play<F: FrontEnd, A: Allocator + Copy, W: WireStore<A>>(
     logs: &[Vec<LogEntry, A>],
 ) -> Result<World<F, A, W>, CloseFault>
     requires { length logs.now ≡ shape.processes }
-    ensures { MatchResult result (λ w. IsFaithful F.start shape order.now (map (λ v. v.items) logs.now) w) (λ fault. IsPlayFault F.start shape order.now (map (λ v. v.items) logs.now) fault) }
+    ensures { MatchResult result (λ w. IsFaithful F.start shape order.now (lists logs.now) w) (λ fault. IsPlayFault F.start shape order.now (lists logs.now) fault) }
 {
     let Ok(mut hints) = Hints::new(alloc) else {
         return Err(CloseFault::OutOfMemory);

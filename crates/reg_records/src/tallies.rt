@@ -1,5 +1,6 @@
 //! How often each process was mentioned.
-ghost use Rattle.std.specs.Prelude.{◌≡◌, ◌<◌, ◌+◌, ◌^◌, ℕ, length, slice_index, vec_len, IfOk, map, false, ◌↔◌};
+ghost use Rattle.std.specs.Prelude.{◌≡◌, ◌<◌, ◌+◌, ◌^◌, ℕ, length, slice_index, vec_len, IfOk, false, ◌↔◌};
+ghost use Rattle.reg_base.specs.Lists.{lists};
 ghost use Rattle.reg_records.specs.Records.{NothingLeft, entry_of};
 ghost use Rattle.reg_records.specs.Playing.{AreTallied};
 
@@ -41,7 +42,7 @@ pub fn entry_at<A: Allocator + Copy>(
     process: usize,
     at: usize,
 ) -> Option<LogEntry>
-    ensures { result ≡ entry_of (map (λ v. v.items) logs.now) process at }
+    ensures { result ≡ entry_of (lists logs.now) process at }
 {
     let log = logs.get(process)?;
     log.get(at).copied()
@@ -55,7 +56,7 @@ pub(crate) fn is_left<A: Allocator + Copy>(
 ) -> bool
     requires tallied { AreTallied counts.now order.now (length order.now) }
     requires len { length counts.now ≡ length logs.now }
-    ensures { (result ≡ false) ↔ NothingLeft order.now (map (λ v. v.items) logs.now) }
+    ensures { (result ≡ false) ↔ NothingLeft order.now (lists logs.now) }
 {
     for process in 0..logs.len() {
         if entry_at(logs, process, counts[process]).is_some() {

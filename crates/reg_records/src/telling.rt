@@ -1,5 +1,6 @@
 //! Receipts against a history.
-ghost use Rattle.std.specs.Prelude.{◌≡◌, ◌≤◌, ◌+◌, length, map, IsTrue, ◌↔◌, MatchOption, slice_get};
+ghost use Rattle.std.specs.Prelude.{◌≡◌, ◌≤◌, ◌+◌, length, IsTrue, ◌↔◌, MatchOption, slice_get};
+ghost use Rattle.reg_base.specs.Lists.{lists};
 ghost use Rattle.reg_base.specs.declared.limits.TheConstants.{MOST_PROCESSES};
 ghost use Rattle.reg_checkers.specs.History.{IsAt, IsHistory};
 ghost use Rattle.reg_records.specs.Receipts.{AreFinished, AreTold, IsFirstUntold};
@@ -115,7 +116,7 @@ pub(crate) fn first_untold<A: Allocator + Copy>(
 ) -> Option<u8>
     requires history { IsHistory shape.processes shape.registers entries.now }
     requires few { length lists.now ≤ MOST_PROCESSES }
-    ensures { MatchOption result (AreTold entries.now (map (λ v. v.items) lists.now)) (λ p. IsFirstUntold entries.now (map (λ v. v.items) lists.now) p) }
+    ensures { MatchOption result (AreTold entries.now (lists lists.now)) (λ p. IsFirstUntold entries.now (lists lists.now) p) }
 {
     for process in 0..lists.len() as u8 {
         if !is_told(shape, entries, process, &lists[usize::from(process)]) {

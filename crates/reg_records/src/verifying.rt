@@ -1,5 +1,6 @@
 //! Records checked: that they are runs, and that the callers were told what happened.
-ghost use Rattle.std.specs.Prelude.{◌≡◌, length, map, MatchResult};
+ghost use Rattle.std.specs.Prelude.{◌≡◌, length, MatchResult};
+ghost use Rattle.reg_base.specs.Lists.{lists};
 ghost use Rattle.reg_records.specs.Receipts.{IsRecord, IsRecordFault};
 
 use crate::entries::{LogEntry, Receipt};
@@ -28,7 +29,7 @@ pub fn verify<F: FrontEnd, A: Allocator + Copy>(
 ) -> Result<World<F, A>, CloseFault>
     requires logs { length logs.now ≡ shape.processes }
     requires receipts { length receipts.now ≡ shape.processes }
-    ensures { MatchResult result (λ w. IsRecord F.start shape order.now (map (λ v. v.items) logs.now) (map (λ v. v.items) receipts.now) w) (λ fault. IsRecordFault F.start shape order.now (map (λ v. v.items) logs.now) (map (λ v. v.items) receipts.now) fault) }
+    ensures { MatchResult result (λ w. IsRecord F.start shape order.now (lists logs.now) (lists receipts.now) w) (λ fault. IsRecordFault F.start shape order.now (lists logs.now) (lists receipts.now) fault) }
 {
     verify_in(alloc, shape, order, logs, receipts)
 }
@@ -48,7 +49,7 @@ pub fn verify_in<F: FrontEnd, A: Allocator + Copy, W: WireStore<A>>(
 ) -> Result<World<F, A, W>, CloseFault>
     requires logs { length logs.now ≡ shape.processes }
     requires receipts { length receipts.now ≡ shape.processes }
-    ensures { MatchResult result (λ w. IsRecord F.start shape order.now (map (λ v. v.items) logs.now) (map (λ v. v.items) receipts.now) w) (λ fault. IsRecordFault F.start shape order.now (map (λ v. v.items) logs.now) (map (λ v. v.items) receipts.now) fault) }
+    ensures { MatchResult result (λ w. IsRecord F.start shape order.now (lists logs.now) (lists receipts.now) w) (λ fault. IsRecordFault F.start shape order.now (lists logs.now) (lists receipts.now) fault) }
 {
     let world = play::<F, A, W>(alloc, shape, order, logs)?;
     match first_untold(shape, world.history().entries(), receipts) {

@@ -1,7 +1,8 @@
 //! The command that prints all outcomes that a workload's scripts can have.
-ghost use Rattle.std.specs.Prelude.{◌≡◌, ◌≢◌, ◌⊎◌, IfOk, IfErr, IsErrOf, map};
+ghost use Rattle.std.specs.Prelude.{◌≡◌, ◌≢◌, ◌⊎◌, IfOk, IfErr, IsErrOf};
 ghost use Rattle.std.specs.Option.{option_map};
 ghost use Rattle.std.specs.Io.KnownBytes.{Appends};
+ghost use Rattle.reg_base.specs.Lists.{lists};
 ghost use Rattle.reg_text.specs.Writing.{AppendsPart, IsWrittenOr};
 ghost use Rattle.reg_outcomes.specs.AllText.{ShowsAll, all_text};
 ghost use Rattle.reg_outcomes.specs.Interleavings.{IsWider};
@@ -24,7 +25,7 @@ fn send<A: Allocator + Copy, W: Write>(
     all: &AllOutcomes<A>,
     nevers: &Option<Vec<Vec<ToldAnswer, A>, A>>,
 ) -> Result<(), ShowFault>
-    ensures { IsWrittenOr (ShowFault.Command Fault.Output) result (W.contents writer.old) (W.contents writer.new) (all_text operations all.now.stages all.now.list.items (option_map (λ list. map (λ v. v.items) list.items) nevers.now)) }
+    ensures { IsWrittenOr (ShowFault.Command Fault.Output) result (W.contents writer.old) (W.contents writer.new) (all_text operations all.now.stages all.now.list.items (option_map (λ list. lists list.items) nevers.now)) }
 {
     if write_all(writer, operations, all, nevers).is_err() || writer.flush().is_err() {
         return Err(ShowFault::Command {

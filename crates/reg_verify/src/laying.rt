@@ -1,5 +1,6 @@
 //! Steps by their processes: laid out in an order, and found.
-ghost use Rattle.std.specs.Prelude.{◌≡◌, ◌<◌, ◌≤◌, IfOk, MatchOption, length, map};
+ghost use Rattle.std.specs.Prelude.{◌≡◌, ◌<◌, ◌≤◌, IfOk, MatchOption, length};
+ghost use Rattle.reg_base.specs.Lists.{lists};
 ghost use Rattle.reg_base.specs.declared.limits.TheConstants.{MOST_EVENTS};
 ghost use Rattle.reg_checkers.specs.History.{IsAt};
 ghost use Rattle.reg_node.specs.declared.transcripts.recorded.Recorded.{Recorded as AnyRecorded};
@@ -17,8 +18,8 @@ pub(crate) fn laid_out<A: Allocator + Copy>(
     order: &[u8],
     logs: &[Vec<LogEntry, A>],
 ) -> Result<Vec<Recorded, A>, AllocError>
-    requires { AllStand order.now (map (λ v. v.items) logs.now) }
-    ensures { IfOk result (λ v. AreLaidOut order.now (map (λ l. l.items) logs.now) v.items) }
+    requires { AllStand order.now (lists logs.now) }
+    ensures { IfOk result (λ v. AreLaidOut order.now (lists logs.now) v.items) }
 {
     let mut counts = no_counts(alloc, logs.len())?;
     let mut steps = Vec::new(alloc);

@@ -1,5 +1,6 @@
 //! The steps of a record, process by process.
-ghost use Rattle.std.specs.Prelude.{◌≡◌, ◌<◌, [], IfOk, OnOk, map, vec_len};
+ghost use Rattle.std.specs.Prelude.{◌≡◌, ◌<◌, [], IfOk, OnOk, vec_len};
+ghost use Rattle.reg_base.specs.Lists.{lists};
 ghost use Rattle.reg_verify.specs.Logs.{AreLogs, order_of as order_of_steps};
 ghost use Rattle.reg_verify.specs.Adding.{IsAdded};
 
@@ -23,7 +24,7 @@ fn no_logs<A: Allocator + Copy>(
     alloc: A,
     processes: u32,
 ) -> Result<Vec<Vec<LogEntry, A>, A>, AllocError>
-    ensures { IfOk result (λ v. AreLogs processes [] (map (λ l. l.items) v.items)) }
+    ensures { IfOk result (λ v. AreLogs processes [] (lists v.items)) }
 {
     let mut logs = Vec::new(alloc);
     for _process in 0..processes {
@@ -39,7 +40,7 @@ fn add<A: Allocator + Copy>(
     entry: LogEntry,
 ) -> Result<(), AllocError>
     requires { process < vec_len logs.old }
-    ensures added { OnOk result (IsAdded (map (λ l. l.items) logs.old.items) (map (λ l. l.items) logs.new.items) process entry) }
+    ensures added { OnOk result (IsAdded (lists logs.old.items) (lists logs.new.items) process entry) }
     ensures len { vec_len logs.new ≡ vec_len logs.old }
 {
     logs[usize::from(process)].push(entry)?;
@@ -52,7 +53,7 @@ pub(crate) fn logs_of<A: Allocator + Copy>(
     processes: u32,
     steps: &[Recorded],
 ) -> Result<Vec<Vec<LogEntry, A>, A>, AllocError>
-    ensures { IfOk result (λ v. AreLogs processes steps.now (map (λ l. l.items) v.items)) }
+    ensures { IfOk result (λ v. AreLogs processes steps.now (lists v.items)) }
 {
     let mut logs = no_logs(alloc, processes)?;
     for step in steps {
@@ -70,7 +71,7 @@ pub(crate) fn part<A: Allocator + Copy>(
     steps: &[Recorded],
 ) -> Result<(Vec<u8, A>, Vec<Vec<LogEntry, A>, A>), AllocError>
     ensures order { IfOk result (λ p. p.0.items ≡ order_of_steps steps.now) }
-    ensures logs { IfOk result (λ p. AreLogs processes steps.now (map (λ l. l.items) p.1.items)) }
+    ensures logs { IfOk result (λ p. AreLogs processes steps.now (lists p.1.items)) }
 {
     let order = order_of(alloc, steps)?;
     let logs = logs_of(alloc, processes, steps)?;

@@ -1,6 +1,7 @@
 //! The command that puts the steps of a record into an order that is a run.
-ghost use Rattle.std.specs.Prelude.{ℕ, ◌≡◌, ◌≢◌, ◌<◌, ◌≤◌, IfOk, IfErr, IsErrOf, length, map, string_bytes};
+ghost use Rattle.std.specs.Prelude.{ℕ, ◌≡◌, ◌≢◌, ◌<◌, ◌≤◌, IfOk, IfErr, IsErrOf, length, string_bytes};
 ghost use Rattle.std.specs.Io.KnownBytes.{Appends};
+ghost use Rattle.reg_base.specs.Lists.{lists};
 ghost use Rattle.reg_base.specs.declared.limits.TheConstants.{MOST_EVENTS};
 ghost use Rattle.reg_text.specs.Writing.{AppendsPart};
 ghost use Rattle.reg_commands.specs.Replays.{start_of};
@@ -42,9 +43,9 @@ fn whole_order<F: FrontEnd, A: Allocator + Copy>(
     logs: &[Vec<LogEntry, A>],
 ) -> Result<Vec<u8, A>, Unordered>
     requires logs { length logs.now ≡ shape.processes }
-    requires few { ¬ IsFull F.start shape (map (λ v. v.items) logs.now) }
-    ensures order { IfOk result (λ v. (w : Made) × IsFaithful F.start shape v.items (map (λ v. v.items) logs.now) w) }
-    ensures fault { IfErr result (λ f. IsUnordered F.start shape (map (λ v. v.items) logs.now) f) }
+    requires few { ¬ IsFull F.start shape (lists logs.now) }
+    ensures order { IfOk result (λ v. (w : Made) × IsFaithful F.start shape v.items (lists logs.now) w) }
+    ensures fault { IfErr result (λ f. IsUnordered F.start shape (lists logs.now) f) }
 {
     match merge::<F, A, PackedWires<A>>(alloc, shape, logs) {
         Ok(merged) => match merged.left {
@@ -92,7 +93,7 @@ fn order_logs<F: FrontEnd, A: Allocator + Copy>(
     steps: &[Recorded],
     logs: &[Vec<LogEntry, A>],
 ) -> Result<Vec<Recorded, A>, VerifyFault>
-    requires logs { AreLogs shape.processes steps.now (map (λ v. v.items) logs.now) }
+    requires logs { AreLogs shape.processes steps.now (lists logs.now) }
     requires within { AllWithin shape.processes steps.now }
     requires few { length steps.now ≤ MOST_EVENTS }
     ensures orders { IfOk result (λ v. Orders F.start shape steps.now v.items) }

@@ -1,6 +1,7 @@
 //! The command that judges a record and prints the report of its run.
-ghost use Rattle.std.specs.Prelude.{ℕ, ◌≡◌, ◌≢◌, ◌≤◌, ◌⊎◌, IfOk, IfErr, IsErrOf, length, map, string_bytes};
+ghost use Rattle.std.specs.Prelude.{ℕ, ◌≡◌, ◌≢◌, ◌≤◌, ◌⊎◌, IfOk, IfErr, IsErrOf, length, string_bytes};
 ghost use Rattle.std.specs.Io.KnownBytes.{Appends};
+ghost use Rattle.reg_base.specs.Lists.{lists};
 ghost use Rattle.reg_base.specs.declared.limits.TheConstants.{MOST_EVENTS};
 ghost use Rattle.reg_text.specs.Writing.{AppendsPart};
 ghost use Rattle.reg_commands.specs.Replays.{PointsOf, start_of};
@@ -53,8 +54,8 @@ fn run_logs<F: FrontEnd, A: Allocator + Copy>(
 ) -> Result<World<F, A, PackedWires<A>>, VerifyFault>
     requires logs { length logs.now ≡ shape.processes }
     requires few { length order.now ≤ MOST_EVENTS }
-    ensures ran { IfOk result (λ w. IsFaithful F.start shape order.now (map (λ v. v.items) logs.now) w) }
-    ensures why { IfErr result (λ f. (f ≡ VerifyFault.Command Fault.OutOfMemory) ⊎ ((place : ℕ) × (f ≡ VerifyFault.Unfaithful (line_at place)) × FailsAt F.start shape order.now (map (λ v. v.items) logs.now) place)) }
+    ensures ran { IfOk result (λ w. IsFaithful F.start shape order.now (lists logs.now) w) }
+    ensures why { IfErr result (λ f. (f ≡ VerifyFault.Command Fault.OutOfMemory) ⊎ ((place : ℕ) × (f ≡ VerifyFault.Unfaithful (line_at place)) × FailsAt F.start shape order.now (lists logs.now) place)) }
 {
     match play(alloc, shape, order, logs) {
         Ok(world) => Ok(world),

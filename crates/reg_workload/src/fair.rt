@@ -1,5 +1,6 @@
 //! The fair player.
-ghost use Rattle.std.specs.Prelude.{◌≡◌, ◌≤◌, ◌<◌, length, false, true, OnOk, IfOk, map};
+ghost use Rattle.std.specs.Prelude.{◌≡◌, ◌≤◌, ◌<◌, length, false, true, OnOk, IfOk};
+ghost use Rattle.reg_base.specs.Lists.{lists};
 ghost use Rattle.reg_base.specs.declared.limits.TheConstants.{MOST_EVENTS};
 ghost use Rattle.reg_workload.specs.Plays.{IsPlay};
 ghost use Rattle.reg_workload.specs.PlayParts.{GoesOn, IsReadyToCall, ArePlayable};
@@ -185,14 +186,14 @@ pub(crate) fn play_fair<F: FrontEnd, A: Allocator + Copy, W: WireStore<A>>(
     budget: u32,
 ) -> Result<Play<F, A, W>, AllocError>
     requires count { length scripts.now ≡ shape.processes }
-    requires playable { ArePlayable shape.registers (map (λ v. v.items) scripts.now) }
+    requires playable { ArePlayable shape.registers (lists scripts.now) }
     requires budget { budget ≤ MOST_EVENTS }
-    ensures rounds { IfOk result (λ p. p.world ≡ (fair_play F.start shape (map (λ v. v.items) scripts.now) budget).made) }
-    ensures play { IfOk result (λ p. IsPlay F.start shape (map (λ v. v.items) scripts.now) budget p.world p.finished) }
+    ensures rounds { IfOk result (λ p. p.world ≡ (fair_play F.start shape (lists scripts.now) budget).made) }
+    ensures play { IfOk result (λ p. IsPlay F.start shape (lists scripts.now) budget p.world p.finished) }
     ensures in_order { IfOk result (λ p. TakesInOrder p.world.accepted) }
     ensures finished { IfOk result (λ p. length p.world.accepted < budget → p.finished ≡ true) }
-    ensures few { IfOk result (λ p. length p.world.accepted ≤ most_fair_events shape.processes (map (λ v. v.items) scripts.now)) }
-    ensures enough { IfOk result (λ p. most_fair_events shape.processes (map (λ v. v.items) scripts.now) < budget → p.finished ≡ true) }
+    ensures few { IfOk result (λ p. length p.world.accepted ≤ most_fair_events shape.processes (lists scripts.now)) }
+    ensures enough { IfOk result (λ p. most_fair_events shape.processes (lists scripts.now) < budget → p.finished ≡ true) }
 {
     let mut player = Player::new(alloc, shape, scripts)?;
     play_rounds(&mut player, budget)?;

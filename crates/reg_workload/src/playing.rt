@@ -1,5 +1,6 @@
 //! A world in which each process calls the operations of its script.
-ghost use Rattle.std.specs.Prelude.{◌≡◌, ◌<◌, ◌≤◌, ◌↔◌, ◌⊎◌, ◌+◌, ℕ, [], length, map, nat_lt, true, false, Some, None, IfOk, OnOk, IfSome};
+ghost use Rattle.std.specs.Prelude.{◌≡◌, ◌<◌, ◌≤◌, ◌↔◌, ◌⊎◌, ◌+◌, ℕ, [], length, nat_lt, true, false, Some, None, IfOk, OnOk, IfSome};
+ghost use Rattle.reg_base.specs.Lists.{lists};
 ghost use Rattle.reg_base.specs.Shape.{Extent};
 ghost use Rattle.reg_process.specs.Process.{pending_of};
 ghost use Rattle.reg_base.specs.declared.limits.TheConstants.{MOST_PROCESSES, MOST_EVENTS};
@@ -39,15 +40,16 @@ pub(crate) struct Player<'w, F: FrontEnd, A: Allocator + Copy, W: WireStore<A>> 
 }
 
 impl<'w, F: FrontEnd, A: Allocator + Copy, W: WireStore<A>> Model for Player<'w, F, A, W> {
-    ghost use Rattle.std.specs.Prelude.{map, length};
+    ghost use Rattle.std.specs.Prelude.{length};
+    ghost use Rattle.reg_base.specs.Lists.{lists};
     ghost use Rattle.reg_workload.specs.Plays.{Playing};
     ghost use Rattle.reg_workload.specs.PlayParts.{IsPlaying};
 
     ghost Value = { Playing };
 
-    ghost view = { λ p. record { made = p.world; scripts = map (λ v. v.items) p.scripts.now; next = p.next.items; cursors = p.cursors.items } };
+    ghost view = { λ p. record { made = p.world; scripts = lists p.scripts.now; next = p.next.items; cursors = p.cursors.items } };
 
-    ghost invariant = { λ p. IsPlaying (record { made = p.world; scripts = map (λ v. v.items) p.scripts.now; next = p.next.items; cursors = p.cursors.items }) };
+    ghost invariant = { λ p. IsPlaying (record { made = p.world; scripts = lists p.scripts.now; next = p.next.items; cursors = p.cursors.items }) };
 }
 
 /// Makes an event that no fault applies to: it fails only where memory is refused.
@@ -78,10 +80,10 @@ impl<'w, F: FrontEnd, A: Allocator + Copy, W: WireStore<A>> Player<'w, F, A, W> 
         scripts: &'w [Vec<Op, A>],
     ) -> Result<Player<'w, F, A, W>, AllocError>
         requires count { length scripts.now ≡ shape.processes }
-        requires playable { ArePlayable shape.registers (map (λ v. v.items) scripts.now) }
-        ensures value { IfOk result (λ p. p ≡ new_play shape (map (λ v. v.items) scripts.now)) }
+        requires playable { ArePlayable shape.registers (lists scripts.now) }
+        ensures value { IfOk result (λ p. p ≡ new_play shape (lists scripts.now)) }
         ensures made { IfOk result (λ p. p.made ≡ new_world shape) }
-        ensures scripts { IfOk result (λ p. p.scripts ≡ map (λ v. v.items) scripts.now) }
+        ensures scripts { IfOk result (λ p. p.scripts ≡ lists scripts.now) }
         ensures cursors { IfOk result (λ p. (a b : ℕ) → cursor_at p a b ≡ 0) }
     {
         let count = shape.processes() as usize;

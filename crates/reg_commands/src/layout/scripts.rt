@@ -1,5 +1,6 @@
 //! The operations of a workload.
-ghost use Rattle.std.specs.Prelude.{◌≡◌, ◌≤◌, None, IfOk, length, map};
+ghost use Rattle.std.specs.Prelude.{◌≡◌, ◌≤◌, None, IfOk, length};
+ghost use Rattle.reg_base.specs.Lists.{lists};
 ghost use Rattle.reg_base.specs.Names.{names_fault};
 ghost use Rattle.reg_base.specs.declared.limits.TheConstants.{MOST_PROCESSES};
 ghost use Rattle.reg_text.specs.Lines.{AllFit};
@@ -60,7 +61,7 @@ pub(crate) fn scripts_at<A: Allocator + Copy>(
     names: &Names<A>,
 ) -> Result<Vec<Vec<Op, A>, A>, WorkloadFault>
     requires { names_fault names.now ≡ None }
-    ensures known { IfOk result (λ v. AllFit (λ _ ops. IsScript names.now ops) (map (λ s. s.items) v.items)) }
+    ensures known { IfOk result (λ v. AllFit (λ _ ops. IsScript names.now ops) (lists v.items)) }
     ensures few { IfOk result (λ v. length v.items ≤ MOST_PROCESSES) }
 {
     let key = Key::Scripts;

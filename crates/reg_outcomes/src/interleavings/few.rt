@@ -1,5 +1,6 @@
 //! All outcomes of scripts whose interleavings go through few stages.
-ghost use Rattle.std.specs.Prelude.{◌<◌, ◌≤◌, map, IfOk, IfErr};
+ghost use Rattle.std.specs.Prelude.{◌<◌, ◌≤◌, IfOk, IfErr};
+ghost use Rattle.reg_base.specs.Lists.{lists};
 ghost use Rattle.reg_outcomes.specs.Interleavings.{AreAll, ArePlayable, CountsStages, IsFewFault};
 ghost use Rattle.reg_outcomes.specs.Layers.{IsLayer, entries_of, operation_count};
 
@@ -16,12 +17,12 @@ fn few_layers<A: Allocator + Copy>(
     registers: u16,
     most: u32,
 ) -> Result<LastLayer<A>, InterleavingFault>
-    requires playable { ArePlayable (map (λ v. v.items) scripts.now) registers }
+    requires playable { ArePlayable (lists scripts.now) registers }
     requires some { 0 < most }
-    ensures layer { IfOk result (λ last. IsLayer (map (λ v. v.items) scripts.now) registers (operation_count (map (λ v. v.items) scripts.now)) (entries_of last.layer)) }
-    ensures stages { IfOk result (λ last. CountsStages (map (λ v. v.items) scripts.now) registers last.stages) }
+    ensures layer { IfOk result (λ last. IsLayer (lists scripts.now) registers (operation_count (lists scripts.now)) (entries_of last.layer)) }
+    ensures stages { IfOk result (λ last. CountsStages (lists scripts.now) registers last.stages) }
     ensures few { IfOk result (λ last. last.stages ≤ most) }
-    ensures refused { IfErr result (IsFewFault (map (λ v. v.items) scripts.now) registers most) }
+    ensures refused { IfErr result (IsFewFault (lists scripts.now) registers most) }
 {
     let mut layer = first_layer(alloc, scripts.len(), registers)?;
     let mut stages = 1;
@@ -47,12 +48,12 @@ pub fn few_outcomes<A: Allocator + Copy>(
     registers: u16,
     most: u32,
 ) -> Result<AllOutcomes<A>, InterleavingFault>
-    requires playable { ArePlayable (map (λ v. v.items) scripts.now) registers }
+    requires playable { ArePlayable (lists scripts.now) registers }
     requires some { 0 < most }
-    ensures outcomes { IfOk result (λ all. AreAll (map (λ v. v.items) scripts.now) registers all.list.items) }
-    ensures stages { IfOk result (λ all. CountsStages (map (λ v. v.items) scripts.now) registers all.stages) }
+    ensures outcomes { IfOk result (λ all. AreAll (lists scripts.now) registers all.list.items) }
+    ensures stages { IfOk result (λ all. CountsStages (lists scripts.now) registers all.stages) }
     ensures few { IfOk result (λ all. all.stages ≤ most) }
-    ensures refused { IfErr result (IsFewFault (map (λ v. v.items) scripts.now) registers most) }
+    ensures refused { IfErr result (IsFewFault (lists scripts.now) registers most) }
 {
     let last = few_layers(alloc, scripts, registers, most)?;
     Ok(tell_last(alloc, last)?)

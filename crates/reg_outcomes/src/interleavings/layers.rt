@@ -1,6 +1,7 @@
 //! Layers: all stages after some number of turns.
-ghost use Rattle.std.specs.Prelude.{◌≡◌, ◌++◌, ◌∷◌, [], ◌<◌, ◌≤◌, ◌^◌, length, map, List, ℕ, IfOk, OnOk, IfErr};
+ghost use Rattle.std.specs.Prelude.{◌≡◌, ◌++◌, ◌∷◌, [], ◌<◌, ◌≤◌, ◌^◌, length, List, ℕ, IfOk, OnOk, IfErr};
 ghost use Rattle.std.specs.List.{sum_by};
+ghost use Rattle.reg_base.specs.Lists.{lists};
 ghost use Rattle.reg_base.specs.declared.limits.TheConstants.{MOST_PROCESSES};
 ghost use Rattle.reg_base.specs.Order.{In};
 ghost use Rattle.reg_outcomes.specs.Interleavings.{ArePlayable, CountsStages, IsFault, IsWider, Stage as AnyStage, first_stage};
@@ -82,11 +83,11 @@ impl<A: Allocator + Copy> GrowingLayer<A> {
         process: u8,
     ) -> Result<(), InterleavingFault>
         requires process { process < length scripts.now }
-        requires ready { IsReady (map (λ v. v.items) scripts.now) (stage_of stage.now) }
-        ensures adds { OnOk result (Adds (IsStep (map (λ v. v.items) scripts.now) process (stage_of stage.now, turns.now)) (entries_of self.old.layer) (entries_of self.new.layer)) }
+        requires ready { IsReady (lists scripts.now) (stage_of stage.now) }
+        ensures adds { OnOk result (Adds (IsStep (lists scripts.now) process (stage_of stage.now, turns.now)) (entries_of self.old.layer) (entries_of self.new.layer)) }
         ensures narrow { OnOk result (length self.old.layer.entries ≤ self.old.limit → length self.new.layer.entries ≤ self.old.limit) }
         ensures limit { self.new.limit ≡ self.old.limit }
-        ensures refused { IfErr result (Refuses self.old.limit (IsStep (map (λ v. v.items) scripts.now) process (stage_of stage.now, turns.now)) (entries_of self.old.layer)) }
+        ensures refused { IfErr result (Refuses self.old.limit (IsStep (lists scripts.now) process (stage_of stage.now, turns.now)) (entries_of self.old.layer)) }
     {
         match stage.next_op(scripts, process) {
             Some(op) => {
@@ -105,11 +106,11 @@ impl<A: Allocator + Copy> GrowingLayer<A> {
         turns: &[u8],
     ) -> Result<(), InterleavingFault>
         requires few { length scripts.now ≤ MOST_PROCESSES }
-        requires ready { IsReady (map (λ v. v.items) scripts.now) (stage_of stage.now) }
-        ensures adds { OnOk result (Adds (IsNext (map (λ v. v.items) scripts.now) (stage_of stage.now, turns.now)) (entries_of self.old.layer) (entries_of self.new.layer)) }
+        requires ready { IsReady (lists scripts.now) (stage_of stage.now) }
+        ensures adds { OnOk result (Adds (IsNext (lists scripts.now) (stage_of stage.now, turns.now)) (entries_of self.old.layer) (entries_of self.new.layer)) }
         ensures narrow { OnOk result (length self.old.layer.entries ≤ self.old.limit → length self.new.layer.entries ≤ self.old.limit) }
         ensures limit { self.new.limit ≡ self.old.limit }
-        ensures refused { IfErr result (Refuses self.old.limit (IsNext (map (λ v. v.items) scripts.now) (stage_of stage.now, turns.now)) (entries_of self.old.layer)) }
+        ensures refused { IfErr result (Refuses self.old.limit (IsNext (lists scripts.now) (stage_of stage.now, turns.now)) (entries_of self.old.layer)) }
     {
         let processes = scripts.len() as u8;
         for process in 0..processes {
@@ -127,10 +128,10 @@ pub(crate) fn next_layer<A: Allocator + Copy>(
     layer: Layer<A>,
 ) -> Result<Layer<A>, InterleavingFault>
     requires few { length scripts.now ≤ MOST_PROCESSES }
-    requires ready { (f : AnyStage × List ℕ) → In f (entries_of layer) → IsReady (map (λ v. v.items) scripts.now) f.0 }
-    ensures adds { IfOk result (λ next. Adds (IsNextOf (map (λ v. v.items) scripts.now) (entries_of layer)) [] (entries_of next)) }
+    requires ready { (f : AnyStage × List ℕ) → In f (entries_of layer) → IsReady (lists scripts.now) f.0 }
+    ensures adds { IfOk result (λ next. Adds (IsNextOf (lists scripts.now) (entries_of layer)) [] (entries_of next)) }
     ensures narrow { IfOk result (λ next. length next.entries ≤ limit) }
-    ensures refused { IfErr result (Refuses limit (IsNextOf (map (λ v. v.items) scripts.now) (entries_of layer)) []) }
+    ensures refused { IfErr result (Refuses limit (IsNextOf (lists scripts.now) (entries_of layer)) []) }
 {
     let mut next = GrowingLayer::new(alloc, limit);
     for (stage, turns) in layer {
@@ -155,8 +156,8 @@ pub(crate) fn first_layer<A: Allocator + Copy>(
 
 /// How many operations there are.
 pub fn count_operations<A: Allocator + Copy>(scripts: &[Vec<Op, A>]) -> usize
-    requires { sum_by length (map (λ v. v.items) scripts.now) < 2 ^ 64 }
-    ensures { result ≡ sum_by length (map (λ v. v.items) scripts.now) }
+    requires { sum_by length (lists scripts.now) < 2 ^ 64 }
+    ensures { result ≡ sum_by length (lists scripts.now) }
 {
     let mut count = 0;
     for script in scripts {
@@ -179,12 +180,12 @@ pub(crate) fn last_layer<A: Allocator + Copy>(
     registers: u16,
     limit: u32,
 ) -> Result<LastLayer<A>, InterleavingFault>
-    requires playable { ArePlayable (map (λ v. v.items) scripts.now) registers }
+    requires playable { ArePlayable (lists scripts.now) registers }
     requires some { 0 < limit }
-    ensures layer { IfOk result (λ last. IsLayer (map (λ v. v.items) scripts.now) registers (operation_count (map (λ v. v.items) scripts.now)) (entries_of last.layer)) }
-    ensures stages { IfOk result (λ last. CountsStages (map (λ v. v.items) scripts.now) registers last.stages) }
-    ensures narrow { OnOk result (¬ IsWider (map (λ v. v.items) scripts.now) registers limit) }
-    ensures refused { IfErr result (IsFault (map (λ v. v.items) scripts.now) registers limit) }
+    ensures layer { IfOk result (λ last. IsLayer (lists scripts.now) registers (operation_count (lists scripts.now)) (entries_of last.layer)) }
+    ensures stages { IfOk result (λ last. CountsStages (lists scripts.now) registers last.stages) }
+    ensures narrow { OnOk result (¬ IsWider (lists scripts.now) registers limit) }
+    ensures refused { IfErr result (IsFault (lists scripts.now) registers limit) }
 {
     let mut layer = first_layer(alloc, scripts.len(), registers)?;
     let mut stages = 1;

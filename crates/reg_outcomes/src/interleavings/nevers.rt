@@ -1,8 +1,9 @@
 //! What no outcome tells, though each of its answers stands in some outcome.
-ghost use Rattle.std.specs.Prelude.{◌≡◌, ◌+◌, ◌<◌, ◌≤◌, List, IfOk, OnOk, MatchOption, length, map};
+ghost use Rattle.std.specs.Prelude.{◌≡◌, ◌+◌, ◌<◌, ◌≤◌, List, IfOk, OnOk, MatchOption, length};
 ghost use Rattle.std.specs.Option.{option_map};
 ghost use Rattle.std.specs.BTreeSet.{IsOrdered};
 ghost use Rattle.std.specs.Cmp.Lexicographic.{slice_cmp};
+ghost use Rattle.reg_base.specs.Lists.{lists};
 ghost use Rattle.reg_checkers.specs.History.{IsAt};
 ghost use Rattle.reg_outcomes.specs.declared.told.ToldAnswer.{ToldAnswer as AnyAnswer};
 ghost use Rattle.reg_outcomes.specs.Told.{told_cmp};
@@ -137,7 +138,7 @@ pub fn nevers_of<A: Allocator + Copy>(
     alloc: A,
     outcomes: &[Outcome<A>],
 ) -> Result<Option<Vec<Vec<ToldAnswer, A>, A>>, AllocError>
-    ensures { IfOk result (λ found. TellsNevers (tells outcomes.now) MOST_NEVERS (option_map (λ list. map (λ v. v.items) list.items) found)) }
+    ensures { IfOk result (λ found. TellsNevers (tells outcomes.now) MOST_NEVERS (option_map (λ list. lists list.items) found)) }
 {
     let Some(first) = outcomes.first() else {
         return Ok(Some(Vec::new(alloc)));

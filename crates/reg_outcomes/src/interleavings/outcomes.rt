@@ -2,6 +2,7 @@
 ghost use Rattle.std.specs.Prelude.{◌≡◌, ◌<◌, [], ℕ, List, map, IfOk, IfErr, OnOk};
 ghost use Rattle.std.specs.BTreeMap.{IsOrdered};
 ghost use Rattle.std.specs.Cmp.Lexicographic.{slice_cmp};
+ghost use Rattle.reg_base.specs.Lists.{lists};
 ghost use Rattle.reg_outcomes.specs.Told.{told_cmp};
 ghost use Rattle.reg_base.specs.declared.memory.Op.{Op as AnyOp};
 ghost use Rattle.reg_outcomes.specs.Interleavings.{AreAll, ArePlayable, CountsStages, IsFault, IsWider};
@@ -122,12 +123,12 @@ pub fn all_outcomes<A: Allocator + Copy>(
     registers: u16,
     limit: u32,
 ) -> Result<AllOutcomes<A>, InterleavingFault>
-    requires playable { ArePlayable (map (λ v. v.items) scripts.now) registers }
+    requires playable { ArePlayable (lists scripts.now) registers }
     requires some { 0 < limit }
-    ensures outcomes { IfOk result (λ all. AreAll (map (λ v. v.items) scripts.now) registers all.list.items) }
-    ensures stages { IfOk result (λ all. CountsStages (map (λ v. v.items) scripts.now) registers all.stages) }
-    ensures narrow { OnOk result (¬ IsWider (map (λ v. v.items) scripts.now) registers limit) }
-    ensures refused { IfErr result (IsFault (map (λ v. v.items) scripts.now) registers limit) }
+    ensures outcomes { IfOk result (λ all. AreAll (lists scripts.now) registers all.list.items) }
+    ensures stages { IfOk result (λ all. CountsStages (lists scripts.now) registers all.stages) }
+    ensures narrow { OnOk result (¬ IsWider (lists scripts.now) registers limit) }
+    ensures refused { IfErr result (IsFault (lists scripts.now) registers limit) }
 {
     let last = last_layer(alloc, scripts, registers, limit)?;
     Ok(tell_last(alloc, last)?)

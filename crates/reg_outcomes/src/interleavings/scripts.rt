@@ -1,5 +1,6 @@
 //! What can be interleaved.
-ghost use Rattle.std.specs.Prelude.{◌<◌, ◌↔◌, All, IsTrue, map};
+ghost use Rattle.std.specs.Prelude.{◌<◌, ◌↔◌, All, IsTrue};
+ghost use Rattle.reg_base.specs.Lists.{lists};
 ghost use Rattle.reg_base.specs.Memory.{register_of};
 ghost use Rattle.reg_outcomes.specs.Interleavings.{ArePlayable, IsPlayable};
 
@@ -24,7 +25,7 @@ fn is_playable(script: &[Op], registers: u16) -> bool
 /// Whether these scripts can be interleaved on the given number of registers: there are not too many, none is too long,
 /// and each operation is on a register that there is.
 pub fn are_playable<A: Allocator + Copy>(scripts: &[Vec<Op, A>], registers: u16) -> bool
-    ensures { IsTrue result ↔ ArePlayable (map (λ v. v.items) scripts.now) registers }
+    ensures { IsTrue result ↔ ArePlayable (lists scripts.now) registers }
 {
     if scripts.len() > MOST_PROCESSES as usize {
         return false;

@@ -1,5 +1,6 @@
 //! Where interleaved scripts stand.
-ghost use Rattle.std.specs.Prelude.{◌≡◌, ◌+◌, ◌<◌, ◌≤◌, length, slice_get, slice_index, slice_set, map, IfOk, OnOk, insert};
+ghost use Rattle.std.specs.Prelude.{◌≡◌, ◌+◌, ◌<◌, ◌≤◌, length, slice_get, slice_index, slice_set, IfOk, OnOk, insert};
+ghost use Rattle.reg_base.specs.Lists.{lists};
 ghost use Rattle.reg_base.specs.Memory.{after, register_of};
 ghost use Rattle.reg_outcomes.specs.declared.told.ToldAnswer.{ToldAnswer as AnyAnswer};
 ghost use Rattle.reg_outcomes.specs.Interleavings.{first_stage, script_of, stage_after, told_after, told_behind};
@@ -91,7 +92,7 @@ impl<A: Allocator + Copy> Stage<A> {
     pub(crate) fn next_op(&self, scripts: &[Vec<Op, A>], process: u8) -> Option<Op>
         requires script { process < length scripts.now }
         requires process { process < length self.now.next.items }
-        ensures { result ≡ slice_get (script_of (map (λ v. v.items) scripts.now) process) (slice_index self.now.next.items process) }
+        ensures { result ≡ slice_get (script_of (lists scripts.now) process) (slice_index self.now.next.items process) }
     {
         let number = self.next[usize::from(process)];
         op_at(&scripts[usize::from(process)], number)

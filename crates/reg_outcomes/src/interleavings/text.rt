@@ -1,6 +1,7 @@
 //! The text of all outcomes.
 ghost use Rattle.std.specs.Prelude.{◌++◌, ◌∷◌, [], codes, map};
 ghost use Rattle.std.specs.Option.{option_map};
+ghost use Rattle.reg_base.specs.Lists.{lists};
 ghost use Rattle.reg_text.specs.Lines.{text_of};
 ghost use Rattle.reg_text.specs.Writing.{Puts, IsWritten};
 ghost use Rattle.reg_outcomes.specs.AllText.{all_text, never_lines, outcome_text, turns_text, value_text, values_text};
@@ -72,7 +73,7 @@ fn put_never<W: Write>(sink: &mut Sink<'_, W>, values: &[ToldAnswer])
 
 /// Puts a line for each list of answers.
 fn put_list<A: Allocator + Copy, W: Write>(sink: &mut Sink<'_, W>, list: &[Vec<ToldAnswer, A>])
-    ensures { Puts W.contents sink.old sink.new (text_of (map values_text (map (λ v. v.items) list.now))) }
+    ensures { Puts W.contents sink.old sink.new (text_of (map values_text (lists list.now))) }
 {
     for values in list {
         put_never(sink, values.as_slice());
@@ -84,7 +85,7 @@ fn put_nevers<A: Allocator + Copy, W: Write>(
     sink: &mut Sink<'_, W>,
     nevers: &Option<Vec<Vec<ToldAnswer, A>, A>>,
 )
-    ensures { Puts W.contents sink.old sink.new (text_of (never_lines (option_map (λ list. map (λ v. v.items) list.items) nevers.now))) }
+    ensures { Puts W.contents sink.old sink.new (text_of (never_lines (option_map (λ list. lists list.items) nevers.now))) }
 {
     match nevers {
         None => put_count(sink, "never over ", MOST_NEVERS as u64),
@@ -102,7 +103,7 @@ fn put_all<A: Allocator + Copy, W: Write>(
     all: &AllOutcomes<A>,
     nevers: &Option<Vec<Vec<ToldAnswer, A>, A>>,
 )
-    ensures { Puts W.contents sink.old sink.new (all_text operations all.now.stages all.now.list.items (option_map (λ list. map (λ v. v.items) list.items) nevers.now)) }
+    ensures { Puts W.contents sink.old sink.new (all_text operations all.now.stages all.now.list.items (option_map (λ list. lists list.items) nevers.now)) }
 {
     put_count(sink, "operations ", operations);
     put_count(sink, "stages ", all.stages);
@@ -119,7 +120,7 @@ pub fn write_all<A: Allocator + Copy, W: Write>(
     all: &AllOutcomes<A>,
     nevers: &Option<Vec<Vec<ToldAnswer, A>, A>>,
 ) -> Result<(), Unwritten>
-    ensures { IsWritten result (W.contents writer.old) (W.contents writer.new) (all_text operations all.now.stages all.now.list.items (option_map (λ list. map (λ v. v.items) list.items) nevers.now)) }
+    ensures { IsWritten result (W.contents writer.old) (W.contents writer.new) (all_text operations all.now.stages all.now.list.items (option_map (λ list. lists list.items) nevers.now)) }
 {
     let mut sink = Sink::new(writer);
     put_all(&mut sink, operations, all, nevers);
