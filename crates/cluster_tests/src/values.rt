@@ -32,7 +32,14 @@ pub fn compare_and_swap(register: u16, expected: u64, value: u64) -> Op
 
 /// What is told of the operation of this process and number: its answer, and where it was called and answered.
 pub fn receipt(id: (u8, u32), op: Op, answer: Answer, called: u64, answered: u64) -> Receipt
-    ensures { result ≡ record { id = record { process = id.0; number = id.1 }; op = op; answer = answer; called = called; answered = answered } }
+    ensures { result
+        ≡ record {
+          id = record { process = id.0; number = id.1 };
+          op = op;
+          answer = answer;
+          called = called;
+          answered = answered;
+        } }
 {
     let (process, number) = id;
     Receipt {

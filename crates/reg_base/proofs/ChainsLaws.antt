@@ -1,12 +1,16 @@
 -- A chain leads to every name that has its hash.
-use Rattle.std.proofs.Common.{◌≡◌, ◌≢◌, ℕ, zero, suc, ◌+◌, ◌<◌, ◌≤◌, ◌⊎◌, ◌||◌, inl, inr, Bool, true, false, List, [], ◌∷◌, ◌++◌, length, take, drop, replicate, get_or, set, eqb, Option, Some, None, slice_get, String, string_bytes, refl, ap, sym, ◌∙◌, subst, arith, length-append}
+use Rattle.std.proofs.Common.{◌≡◌, ◌≢◌, ℕ, zero, suc, ◌+◌, ◌<◌, ◌≤◌, ◌⊎◌, ◌||◌, inl, inr, Bool, true, false, List, []}
+use Rattle.std.proofs.Common.{◌∷◌, ◌++◌, length, take, drop, replicate, get_or, set, eqb, Option, Some, None, slice_get}
+use Rattle.std.proofs.Common.{String, string_bytes, refl, ap, sym, ◌∙◌, subst, arith, length-append}
 use Rattle.std.specs.List.{fold, list_any}
 use Rattle.std.specs.Prelude.{IfSome, IfNone, is_some}
 use Rattle.std.specs.Str.{bytes_eq}
 use Rattle.std.proofs.Math.Seq.{get_or-append_seam}
 use Rattle.std.proofs.lemmas.Bool.{cases_order}
 use Rattle.std.proofs.lemmas.Bool.Decides.{eqb_tells}
-use Rattle.std.proofs.lemmas.List.{get_or_append_left, get_or-set_same, get_or-set_other, get_or-map, take-map, take_more, length-take-le, length-set, length-replicate, get_or-replicate, length-map, take_all, drop_all}
+use Rattle.std.proofs.lemmas.List.{get_or_append_left, get_or-set_same, get_or-set_other, get_or-map, take-map}
+use Rattle.std.proofs.lemmas.List.{take_more, length-take-le, length-set, length-replicate, get_or-replicate}
+use Rattle.std.proofs.lemmas.List.{length-map, take_all, drop_all}
 use Rattle.std.proofs.lemmas.Option.{slice_get_within, get_or_from_slice_get}
 use Rattle.std.proofs.lemmas.Slice.Eq.{bytes_eq-Decides}
 use Rattle.reg_base.specs.Names.{texts, repeat_after, first_repeat}
@@ -20,12 +24,16 @@ pub record Seeks (names : List (List ℕ)) (name : List ℕ) (place turn : ℕ) 
   pub turns : place + turn ≤ 4095
 
 -- a name at a place has that place's chain
-chain_there : (names : List (List ℕ)) (name : List ℕ) (place : ℕ) → slice_get names place ≡ Some name → chain_at names place ≡ chain name
+chain_there : (names : List (List ℕ)) (name : List ℕ) (place : ℕ) → slice_get names place ≡ Some name
+    → chain_at names place ≡ chain name
 chain_there names name place e = ap chain (get_or_from_slice_get names place name [] e)
 
 -- a search begins at the last name of the chain
-pub begins : (names : List (List ℕ)) (heads earlier : List ℕ) (name : List ℕ) (c place : ℕ) → AreChains names heads earlier → length names ≤ 4096 → c ≡ chain name → c < 4096 → place ≡ get_or heads c 0 → Seeks names name place 0
-begins names heads earlier name c place ok few is within at = record { behind = behind; here = here last.1; turns = turns last.1 }
+pub begins : (names : List (List ℕ)) (heads earlier : List ℕ) (name : List ℕ) (c place : ℕ)
+    → AreChains names heads earlier → length names ≤ 4096 → c ≡ chain name → c < 4096 → place ≡ get_or heads c 0
+    → Seeks names name place 0
+begins names heads earlier name c place ok few is within at =
+    record { behind = behind; here = here last.1; turns = turns last.1 }
   where
     last : IsLastBelow names c (length names) place
     last = subst (IsLastBelow names c (length names)) (sym at) (ok.last c within)
@@ -42,7 +50,9 @@ begins names heads earlier name c place ok few is within at = record { behind = 
     turns (inr w) = omega (arith, w.0)
 
 -- the next turn looks at the name before
-pub goes_on : (names : List (List ℕ)) (heads earlier : List ℕ) (name : List ℕ) (place turn before : ℕ) → AreChains names heads earlier → Seeks names name place turn → slice_get names place ≢ Some name → place ≢ 0 → before ≡ get_or earlier place 0 → Seeks names name before (turn + 1)
+pub goes_on : (names : List (List ℕ)) (heads earlier : List ℕ) (name : List ℕ) (place turn before : ℕ)
+    → AreChains names heads earlier → Seeks names name place turn → slice_get names place ≢ Some name → place ≢ 0
+    → before ≡ get_or earlier place 0 → Seeks names name before (turn + 1)
 goes_on names heads earlier name place turn before ok seeks other_name inside at = from seeks.here
   where
     from : (place ≡ 0) ⊎ ((place < length names) × (chain_at names place ≡ chain name)) → Seeks names name before (turn + 1)
@@ -77,7 +87,8 @@ goes_on names heads earlier name place turn before ok seeks other_name inside at
         turns (inr v) = omega (arith, v.0, seeks.turns)
 
 -- one more name changes nothing below
-kept : (names : List (List ℕ)) (name : List ℕ) (c end place : ℕ) → end ≤ length names → IsLastBelow names c end place → IsLastBelow (names ++ name ∷ []) c end place
+kept : (names : List (List ℕ)) (name : List ℕ) (c end place : ℕ) → end ≤ length names → IsLastBelow names c end place
+    → IsLastBelow (names ++ name ∷ []) c end place
 kept names name c end place le last = (behind, here last.1)
   where
     same : (k : ℕ) → k < end → chain_at (names ++ name ∷ []) k ≡ chain_at names k
@@ -91,7 +102,8 @@ kept names name c end place le last = (behind, here last.1)
     here (inr w) = inr (w.0, same place w.0 ∙ w.1)
 
 -- a name of another chain after
-passed : (names : List (List ℕ)) (c end place : ℕ) → chain_at names end ≢ c → IsLastBelow names c end place → IsLastBelow names c (end + 1) place
+passed : (names : List (List ℕ)) (c end place : ℕ) → chain_at names end ≢ c → IsLastBelow names c end place
+    → IsLastBelow names c (end + 1) place
 passed names c end place differs last = (behind, here last.1)
   where
     behind : (other : ℕ) → place < other → other < end + 1 → chain_at names other ≢ c
@@ -107,7 +119,10 @@ passed names c end place differs last = (behind, here last.1)
     here (inr w) = inr (omega (arith, w.0), w.1)
 
 -- one more name, at the head of its chain
-pub one_more : (names : List (List ℕ)) (heads earlier : List ℕ) (name : List ℕ) → chain name < 4096 → AreChains names heads earlier → length names < length earlier → length heads ≡ 4096 → AreChains (names ++ name ∷ []) (set heads (chain name) (length names)) (set earlier (length names) (get_or heads (chain name) 0))
+pub one_more : (names : List (List ℕ)) (heads earlier : List ℕ) (name : List ℕ) → chain name < 4096
+    → AreChains names heads earlier → length names < length earlier → length heads ≡ 4096
+    → AreChains (names ++ name ∷ []) (set heads (chain name) (length names))
+    (set earlier (length names) (get_or heads (chain name) 0))
 one_more names heads earlier name within ok room wide = record { last = last; before = before }
   where
     more : List (List ℕ)
@@ -157,22 +172,27 @@ one_more names heads earlier name within ok room wide = record { last = last; be
         by (inr (inr g)) = absurd (omega (arith, g, lt, long))
 
 -- a name that stands at a place is one of them
-pub stands_in : (names : List (List ℕ)) (name : List ℕ) (place : ℕ) → slice_get names place ≡ Some name → list_any (bytes_eq name) names ≡ true
+pub stands_in : (names : List (List ℕ)) (name : List ℕ) (place : ℕ) → slice_get names place ≡ Some name
+    → list_any (bytes_eq name) names ≡ true
 stands_in [] name place e = absurd (cc)
-stands_in (x ∷ xs) name zero e = let same : x ≡ name = cc in ap (λ b. b || list_any (bytes_eq name) xs) ((bytes_eq-Decides name x).1 (sym same))
-stands_in (x ∷ xs) name (suc place) e = ap (λ b. bytes_eq name x || b) (stands_in xs name place e) ∙ or_true (bytes_eq name x)
+stands_in (x ∷ xs) name zero e =
+    let same : x ≡ name = cc in ap (λ b. b || list_any (bytes_eq name) xs) ((bytes_eq-Decides name x).1 (sym same))
+stands_in (x ∷ xs) name (suc place) e =
+    ap (λ b. bytes_eq name x || b) (stands_in xs name place e) ∙ or_true (bytes_eq name x)
   where
     or_true : (b : Bool) → (b || true) ≡ true
     or_true true = refl
     or_true false = refl
 
 -- a name that stands at no place is none of them
-pub stands_out : (names : List (List ℕ)) (name : List ℕ) → ((place : ℕ) → slice_get names place ≢ Some name) → list_any (bytes_eq name) names ≡ false
+pub stands_out : (names : List (List ℕ)) (name : List ℕ) → ((place : ℕ) → slice_get names place ≢ Some name)
+    → list_any (bytes_eq name) names ≡ false
 stands_out [] name none = refl
-stands_out (x ∷ xs) name none = elim (bytes_eq name x) as (λ b. bytes_eq name x ≡ b → (b || list_any (bytes_eq name) xs) ≡ false) [
-  | true ↦ λ e. absurd (none 0 (ap Some (sym ((bytes_eq-Decides name x).0 e))))
-  | false ↦ λ e. stands_out xs name (λ place. none (suc place))
-] refl
+stands_out (x ∷ xs) name none =
+    elim (bytes_eq name x) as (λ b. bytes_eq name x ≡ b → (b || list_any (bytes_eq name) xs) ≡ false) [
+      | true ↦ λ e. absurd (none 0 (ap Some (sym ((bytes_eq-Decides name x).0 e))))
+      | false ↦ λ e. stands_out xs name (λ place. none (suc place))
+    ] refl
 
 -- a hash is the number of a chain
 within : (hash : ℕ) (name : List ℕ) → hash < 4096 → fold mix hash name < 4096
@@ -201,7 +221,10 @@ none_yet names = record {
 }
 
 -- one more name, which does not stand earlier
-pub chained_next : (names : List (List ℕ)) (place : ℕ) (heads earlier heads' earlier' : List ℕ) (name : List ℕ) → Chained names place heads earlier → place < length names → length names ≤ 4096 → get_or names place [] ≡ name → list_any (bytes_eq name) (take place names) ≡ false → heads' ≡ set heads (chain name) place → earlier' ≡ set earlier place (get_or heads (chain name) 0) → Chained names (place + 1) heads' earlier'
+pub chained_next : (names : List (List ℕ)) (place : ℕ) (heads earlier heads' earlier' : List ℕ) (name : List ℕ)
+    → Chained names place heads earlier → place < length names → length names ≤ 4096 → get_or names place [] ≡ name
+    → list_any (bytes_eq name) (take place names) ≡ false → heads' ≡ set heads (chain name) place
+    → earlier' ≡ set earlier place (get_or heads (chain name) 0) → Chained names (place + 1) heads' earlier'
 chained_next names place heads earlier heads' earlier' name so lt few is out h e = record {
   chains = subst (λ ns. AreChains ns heads' earlier') (sym (take_more names place [] lt ∙ ap (λ n. take place names ++ n ∷ []) is)) more;
   wide = ap length h ∙ length-set heads (chain name) place ∙ so.wide;
@@ -220,18 +243,28 @@ chained_next names place heads earlier heads' earlier' name so lt few is out h e
         subst (λ y. P heads' y) (sym (e ∙ ap (λ k. set earlier k (get_or heads (chain name) 0)) (sym count)))
         (subst (λ x. P x (set earlier (length (take place names)) (get_or heads (chain name) 0))) (sym (h ∙ ap (set heads (chain name)) (sym count))) made)
 
-named : {A : Type 0} (names : List (String A)) (i : ℕ) (n : String A) (s : List ℕ) → i < length names → n ≡ get_or names i n → s ≡ string_bytes n → get_or (texts names) i [] ≡ s
+named : {A : Type 0} (names : List (String A)) (i : ℕ) (n : String A) (s : List ℕ) → i < length names
+    → n ≡ get_or names i n → s ≡ string_bytes n → get_or (texts names) i [] ≡ s
 named names i n s l e t = get_or-map string_bytes names i n [] l ∙ ap string_bytes (sym e) ∙ sym t
 
 -- a name that was found among those so far is the first repeat
-pub is_repeat : {A : Type 0} (names : List (String A)) (i : ℕ) (heads earlier : List ℕ) (n : String A) (s : List ℕ) (r : Option ℕ) → Chained (texts names) i heads earlier → i < length names → n ≡ get_or names i n → s ≡ string_bytes n → IfSome r (λ p. slice_get (texts (take i names)) p ≡ Some s) → is_some r ≡ true → first_repeat (texts names) ≡ Some i
+pub is_repeat : {A : Type 0} (names : List (String A)) (i : ℕ) (heads earlier : List ℕ) (n : String A) (s : List ℕ)
+    (r : Option ℕ)
+    → Chained (texts names) i heads earlier → i < length names → n ≡ get_or names i n → s ≡ string_bytes n
+    → IfSome r (λ p. slice_get (texts (take i names)) p ≡ Some s) → is_some r ≡ true
+    → first_repeat (texts names) ≡ Some i
 is_repeat names i heads earlier n s None so lt e t found some = absurd (cc)
 is_repeat names i heads earlier n s (Some p) so lt e t found some =
     let stands : list_any (bytes_eq s) (take i (texts names)) ≡ true = ap (list_any (bytes_eq s)) (take-map string_bytes i names) ∙ stands_in (texts (take i names)) s p found in
     sym so.repeats ∙ repeat_here (texts names) i (omega (arith, lt, length-map names string_bytes)) (ap (λ x. list_any (bytes_eq x) (take i (texts names))) (named names i n s lt e t) ∙ stands)
 
 -- a name that was not found is chained
-pub is_new : {A : Type 0} (names : List (String A)) (i : ℕ) (heads earlier heads' earlier' : List ℕ) (n : String A) (s : List ℕ) (r : Option ℕ) → Chained (texts names) i heads earlier → i < length names → length names ≤ 4096 → n ≡ get_or names i n → s ≡ string_bytes n → IfNone r ((p : ℕ) → slice_get (texts (take i names)) p ≢ Some s) → is_some r ≡ false → heads' ≡ set heads (chain s) i → earlier' ≡ set earlier i (get_or heads (chain s) 0) → Chained (texts names) (i + 1) heads' earlier'
+pub is_new : {A : Type 0} (names : List (String A)) (i : ℕ) (heads earlier heads' earlier' : List ℕ) (n : String A)
+    (s : List ℕ) (r : Option ℕ)
+    → Chained (texts names) i heads earlier → i < length names → length names ≤ 4096 → n ≡ get_or names i n
+    → s ≡ string_bytes n → IfNone r ((p : ℕ) → slice_get (texts (take i names)) p ≢ Some s) → is_some r ≡ false
+    → heads' ≡ set heads (chain s) i → earlier' ≡ set earlier i (get_or heads (chain s) 0)
+    → Chained (texts names) (i + 1) heads' earlier'
 is_new names i heads earlier heads' earlier' n s (Some p) so lt few e t none some h k = absurd (cc)
 is_new names i heads earlier heads' earlier' n s None so lt few e t none some h k =
     let out : list_any (bytes_eq s) (take i (texts names)) ≡ false = ap (list_any (bytes_eq s)) (take-map string_bytes i names) ∙ stands_out (texts (take i names)) s none in
@@ -239,11 +272,14 @@ is_new names i heads earlier heads' earlier' n s None so lt few e t none some h 
     chained_next (texts names) i heads earlier heads' earlier' s so (omega (arith, lt, long)) (omega (arith, few, long)) (named names i n s lt e t) out h k
 
 -- the names so far are a list of their own
-pub so_far : {A : Type 0} (names : List (String A)) (i : ℕ) (heads earlier : List ℕ) → Chained (texts names) i heads earlier → AreChains (texts (take i names)) heads earlier
+pub so_far : {A : Type 0} (names : List (String A)) (i : ℕ) (heads earlier : List ℕ)
+    → Chained (texts names) i heads earlier → AreChains (texts (take i names)) heads earlier
 so_far names i heads earlier so = subst (λ ns. AreChains ns heads earlier) (take-map string_bytes i names) so.chains
 
 -- at the end all are chained, and none stands earlier
-pub all_chained : {A : Type 0} (names : List (String A)) (i : ℕ) (heads earlier : List ℕ) → Chained (texts names) i heads earlier → i ≡ length names → AreChains (texts names) heads earlier × (first_repeat (texts names) ≡ None)
+pub all_chained : {A : Type 0} (names : List (String A)) (i : ℕ) (heads earlier : List ℕ)
+    → Chained (texts names) i heads earlier → i ≡ length names
+    → AreChains (texts names) heads earlier × (first_repeat (texts names) ≡ None)
 all_chained names i heads earlier so is =
     let all : take i (texts names) ≡ texts names = take_all i (texts names) (omega (arith, is, length-map names string_bytes)) in
     let nil : drop i (texts names) ≡ [] = drop_all i (texts names) (omega (arith, is, length-map names string_bytes)) in (

@@ -1,5 +1,6 @@
 -- Which answers an operation can have, and what it leaves of a memory.
-use Rattle.std.proofs.Common.{◌≡◌, ℕ, zero, suc, Bool, true, false, cond, [], ◌∷◌, ◌==◌, refl, sym, ap, ◌∙◌, length, length-set, arith}
+use Rattle.std.proofs.Common.{◌≡◌, ℕ, zero, suc, Bool, true, false, cond, [], ◌∷◌, ◌==◌, refl, sym, ap, ◌∙◌, length}
+use Rattle.std.proofs.Common.{length-set, arith}
 use Rattle.std.specs.Prelude.{slice_index, slice_set}
 use Rattle.std.proofs.lemmas.Bool.{eq-eqb, ne_eqb}
 use Rattle.reg_base.specs.declared.memory.Op.TheVariants.{Read, Write, Swap, CompareAndSwap}
@@ -30,7 +31,8 @@ write_fits register value = ([], refl)
 pub swap_fits : (register value old : ℕ) → Fits (Swap register value) (Value old)
 swap_fits register value old = (with_value register old, ap Value (sym (value_there register old)))
 
-told : (register expected value : ℕ) (m : Memory) (b : Bool) → (slice_index m register == expected) ≡ b → answer_of (CompareAndSwap register expected value) m ≡ cond b Done Unequal
+told : (register expected value : ℕ) (m : Memory) (b : Bool) → (slice_index m register == expected) ≡ b
+    → answer_of (CompareAndSwap register expected value) m ≡ cond b Done Unequal
 told register expected value m b e = ap (λ (x : Bool). cond x Done Unequal) e
 
 pub equal_fits : (register expected value : ℕ) → Fits (CompareAndSwap register expected value) Done
@@ -72,7 +74,8 @@ pub compared_fits : (op : Op) (a : Answer) (r e v : ℕ) → op ≡ CompareAndSw
 compared_fits op a r e v e1 e2 = let h = equal_fits r e v in (h.0, e2 ∙ h.1 ∙ ap (λ (o : Op). answer_of o h.0) (sym e1))
 
 pub differing_fits : (op : Op) (a : Answer) (r e v : ℕ) → op ≡ CompareAndSwap r e v → a ≡ Unequal → Fits op a
-differing_fits op a r e v e1 e2 = let h = unequal_fits r e v in (h.0, e2 ∙ h.1 ∙ ap (λ (o : Op). answer_of o h.0) (sym e1))
+differing_fits op a r e v e1 e2 =
+    let h = unequal_fits r e v in (h.0, e2 ∙ h.1 ∙ ap (λ (o : Op). answer_of o h.0) (sym e1))
 
 length-either : (b : Bool) (r v : ℕ) (m : Memory) → length (cond b (slice_set m r v) m) ≡ length m
 length-either true r v m = length-set m r v

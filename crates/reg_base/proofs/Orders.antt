@@ -3,7 +3,8 @@ use Rattle.std.proofs.Common.{◌≡◌, ℕ, ◌⊎◌, refl, inl, inr, arith}
 use Rattle.std.specs.Prelude.{◌==◌, ◌||◌}
 use Rattle.std.specs.Bool.{Decides}
 use Rattle.std.proofs.lemmas.Bool.{leb-true, le-leb, cases_eq, cases_order}
-use Rattle.std.proofs.lemmas.Bool.Decides.{Decides-eqb, Decides-ltb, Decides-and, Decides-or, Decides-like, Decides-below_and}
+use Rattle.std.proofs.lemmas.Bool.Decides.{Decides-eqb, Decides-ltb, Decides-and, Decides-or, Decides-like}
+use Rattle.std.proofs.lemmas.Bool.Decides.{Decides-below_and}
 use Rattle.reg_base.specs.declared.stamps.Stamp.{Stamp}
 use Rattle.reg_base.specs.declared.stamps.Delivered.{Delivered}
 use Rattle.reg_base.specs.Order.{stamp_at, all_below, Below, AtMost, below, at_most, IsClear, is_clear}
@@ -45,7 +46,8 @@ cases_stamps a b = grind (arith, same_stamp, cases_order)
 pub same_cast : (a b : Delivered) → a.stamp ≡ b.stamp → a.op ≡ b.op → a ≡ b
 same_cast a b p q = λ i. record { stamp = p i; op = q i }
 
-pub Decides-clear : (me : ℕ) (seen : ℕ → ℕ) (n : ℕ) (stamp : Stamp) → Decides (is_clear me seen n stamp) (IsClear me seen n stamp)
+pub Decides-clear : (me : ℕ) (seen : ℕ → ℕ) (n : ℕ) (stamp : Stamp)
+    → Decides (is_clear me seen n stamp) (IsClear me seen n stamp)
 Decides-clear me seen n stamp =
     let test = λ (r : ℕ). (r == me) || at_most stamp (stamp_at (seen r) r) in
     let P : ℕ → Type 0 = λ r. (r ≡ me) ⊎ AtMost stamp (stamp_at (seen r) r) in

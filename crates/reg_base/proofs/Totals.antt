@@ -1,5 +1,6 @@
 -- Sums of values at numbers.
-use Rattle.std.proofs.Common.{◌≡◌, ℕ, zero, suc, ◌+◌, ◌*◌, ◌<◌, ◌≤◌, List, [], ◌∷◌, length, refl, sym, ap, inl, inr, arith}
+use Rattle.std.proofs.Common.{◌≡◌, ℕ, zero, suc, ◌+◌, ◌*◌, ◌<◌, ◌≤◌, List, [], ◌∷◌, length, refl, sym, ap, inl, inr}
+use Rattle.std.proofs.Common.{arith}
 use Rattle.std.specs.Prelude.{cond, ◌==◌, slice_index_or}
 use Rattle.std.specs.List.{sum_by}
 use Rattle.std.proofs.lemmas.Bool.{cases_eq, cases_lt, cond-true, cond-false, eq-eqb, ne_eqb}
@@ -29,7 +30,8 @@ total_least (suc n) f g h =
     omega (arith, a, b)
 
 -- where one value changes
-pub total_one : (n p : ℕ) (f g : ℕ → ℕ) → p < n → ((q : ℕ) → q < n → (q ≡ p → ⊥) → f q ≡ g q) → total n f + g p ≡ total n g + f p
+pub total_one : (n p : ℕ) (f g : ℕ → ℕ) → p < n → ((q : ℕ) → q < n → (q ≡ p → ⊥) → f q ≡ g q)
+    → total n f + g p ≡ total n g + f p
 total_one zero p f g l h = absurd (omega (arith, l))
 total_one (suc n) p f g l h =
     elim (cases_eq p n) [
@@ -71,7 +73,8 @@ total_others n p c l =
     omega (arith, a, b, d)
 
 -- the values along a list
-pub total_along : {X : Type 0} (f : X → ℕ) (xs : List X) (x0 : X) → total (length xs) (λ i. f (slice_index_or xs i x0)) ≡ sum_by f xs
+pub total_along : {X : Type 0} (f : X → ℕ) (xs : List X) (x0 : X)
+    → total (length xs) (λ i. f (slice_index_or xs i x0)) ≡ sum_by f xs
 total_along f [] x0 = refl
 total_along f (x ∷ xs) x0 =
     let a = total_first (length xs) (λ i. f (slice_index_or (x ∷ xs) i x0)) in

@@ -1,7 +1,8 @@
 -- One memory (the sequential specification of read and write registers, Herlihy and Wing 1990, section 2, with a swap
 -- and a compare-and-swap, Herlihy 1991).
 -- A further kind of operation changes `register_of`, `updates`, `tells`, `answer_of` and `after` alone.
-use Rattle.std.specs.Prelude.{◌≡◌, replicate, ℕ, Bool, true, false, List, [], ◌∷◌, ◌==◌, slice_index, slice_set, if◌then◌else◌}
+use Rattle.std.specs.Prelude.{◌≡◌, replicate, ℕ, Bool, true, false, List, [], ◌∷◌, ◌==◌, slice_index, slice_set}
+use Rattle.std.specs.Prelude.{if◌then◌else◌}
 use Rattle.reg_base.specs.declared.memory.Op.{Op}
 use Rattle.reg_base.specs.declared.memory.Op.TheVariants.{Read, Write, Swap, CompareAndSwap}
 use Rattle.reg_base.specs.declared.memory.Answer.{Answer}

@@ -1,5 +1,6 @@
 -- The names of registers, and why a list of words can't be names.
-use Rattle.std.specs.Prelude.{ℕ, ◌++◌, Bool, ◌&&◌, nat_lt, nat_le, nat_eq, not, List, [], ◌∷◌, length, map, Option, Some, None, String, string_bytes, if◌then◌else◌}
+use Rattle.std.specs.Prelude.{ℕ, ◌++◌, Bool, ◌&&◌, nat_lt, nat_le, nat_eq, not, List, [], ◌∷◌, length, map, Option}
+use Rattle.std.specs.Prelude.{Some, None, String, string_bytes, if◌then◌else◌}
 use Rattle.std.specs.List.{list_all, list_any, position_from}
 use Rattle.std.specs.Char.{is_ascii_lowercase}
 use Rattle.std.specs.Str.{bytes_eq}

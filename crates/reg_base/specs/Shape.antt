@@ -2,7 +2,8 @@
 use Rattle.std.specs.Prelude.{ℕ, ◌<◌, ◌≤◌, nat_eq, nat_lt, Result, Ok, Err, if◌then◌else◌}
 use Rattle.reg_base.specs.declared.limits.TheConstants.{MOST_PROCESSES, MOST_REGISTERS}
 use Rattle.reg_base.specs.declared.shapes.ShapeFault.{ShapeFault}
-use Rattle.reg_base.specs.declared.shapes.ShapeFault.TheVariants.{NoProcess, TooManyProcesses, NoRegister, TooManyRegisters}
+use Rattle.reg_base.specs.declared.shapes.ShapeFault.TheVariants.{NoProcess, TooManyProcesses, NoRegister}
+use Rattle.reg_base.specs.declared.shapes.ShapeFault.TheVariants.{TooManyRegisters}
 
 -- how many processes and registers there are
 pub record Extent : Type 0 where

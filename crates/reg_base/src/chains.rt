@@ -1,5 +1,6 @@
 //! Chains of names, so that a name is looked for in one chain alone.
-ghost use Rattle.std.specs.Prelude.{◌≡◌, ◌≢◌, ◌<◌, ◌≤◌, ◌↔◌, ℕ, length, get_or, set, Some, None, IfSome, IfNone, IsTrue, slice_get, MatchResult};
+ghost use Rattle.std.specs.Prelude.{◌≡◌, ◌≢◌, ◌<◌, ◌≤◌, ◌↔◌, ℕ, length, get_or, set, Some, None, IfSome, IfNone};
+ghost use Rattle.std.specs.Prelude.{IsTrue, slice_get, MatchResult};
 ghost use Rattle.reg_base.specs.Names.{texts, first_repeat as first_repeat_of};
 ghost use Rattle.reg_base.specs.Chains.{chain, AreChains};
 ghost use Rattle.reg_base.specs.declared.limits.TheConstants.{MOST_REGISTERS};
@@ -79,7 +80,9 @@ impl Chains {
 /// The chains of names that all differ, or the place of the first that stands earlier too.
 pub fn chains_of<A: Allocator>(names: &[String<A>]) -> Result<Chains, usize>
     requires { length names.now ≤ MOST_REGISTERS }
-    ensures { MatchResult result (λ c. AreChains (texts names.now) c.heads c.earlier × (first_repeat_of (texts names.now) ≡ None)) (λ place. first_repeat_of (texts names.now) ≡ Some place) }
+    ensures { MatchResult result
+        (λ c. AreChains (texts names.now) c.heads c.earlier × (first_repeat_of (texts names.now) ≡ None))
+        (λ place. first_repeat_of (texts names.now) ≡ Some place) }
 {
     let mut chains = Chains {
         heads: [0; CHAINS],

@@ -12,7 +12,8 @@ use Rattle.reg_c.specs.Beginning.{BeginsLog, SaysNames, id_in}
 use Rattle.reg_c.specs.Fronts.{front_at}
 
 -- it is within the limits of a log
-pub begins : (row : LogRow) (text bytes : List ℕ) (crc : ℕ) (front : Front) (names : List (List ℕ)) (shape : Extent) (id : LogId)
+pub begins : (row : LogRow) (text bytes : List ℕ) (crc : ℕ) (front : Front) (names : List (List ℕ)) (shape : Extent)
+    (id : LogId)
     → front_at row.front ≡ Some front → SaysNames text names → names_fault names ≡ None
     → shape ≡ record { processes = row.processes; registers = length names } → 0 < row.processes → row.processes ≤ MOST_PROCESSES → row.process < row.processes
     → id ≡ id_in row → row.cluster < 2 ^ 64 → row.chapter < 2 ^ 64 → row.begun < 2 ^ 64

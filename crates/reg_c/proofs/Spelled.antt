@@ -7,7 +7,8 @@ use Rattle.reg_frames.specs.declared.puts.Put.{Put}
 use Rattle.reg_c.specs.Processes.{AllFit, all_bytes, put_bytes}
 
 -- the frame at this place is spelled too
-pub spelled_more : (puts : List Put) (k : ℕ) (d : Put) (old new : List ℕ) → k < length puts → AllFit (take k puts) × (old ≡ all_bytes (take k puts))
+pub spelled_more : (puts : List Put) (k : ℕ) (d : Put) (old new : List ℕ) → k < length puts
+    → AllFit (take k puts) × (old ≡ all_bytes (take k puts))
     → Fits (get_or puts k d).frame × (new ≡ old ++ put_bytes (get_or puts k d)) → AllFit (take (k + 1) puts) × (new ≡ all_bytes (take (k + 1) puts))
 spelled_more puts k d old new lt (fit, is) (fits, more) = (
   All-more (λ (p : Put). Fits p.frame) puts k d lt fit fits,

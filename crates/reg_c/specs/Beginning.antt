@@ -23,7 +23,8 @@ abbrev pub id_in : LogRow → LogId
 id_in row = record { cluster = row.cluster; process = row.process; chapter = row.chapter; begun = row.begun }
 
 abbrev pub begun_by : LogRow → Front → List (List ℕ) → Journal
-begun_by row front names = begun_with (id_in row) front (record { processes = row.processes; registers = length names }) names
+begun_by row front names =
+    begun_with (id_in row) front (record { processes = row.processes; registers = length names }) names
 
 -- the bytes are a log with no entries, which is read as what these numbers and these names say
 pub record BeginsLog (row : LogRow) (text bytes : List ℕ) : Type 0 where
@@ -37,7 +38,8 @@ pub record BeginsLog (row : LogRow) (text bytes : List ℕ) : Type 0 where
 -- these numbers are no shape, or it doesn't have the process
 abbrev pub IsMisplaced : ℕ → ℕ → ℕ → ℕ → Type 0
 IsMisplaced processes process registers code =
-    ((code ≡ no_shape) × (is_err (shape_of processes registers) ≡ true)) ⊎ ((code ≡ refusal_code NoProcess) × (processes ≤ process))
+    ((code ≡ no_shape) × (is_err (shape_of processes registers) ≡ true))
+    ⊎ ((code ≡ refusal_code NoProcess) × (processes ≤ process))
 
 -- why no log is begun: there is no such front end, the text has no names, or the numbers are misplaced beside them; or
 -- there was no memory
@@ -51,11 +53,13 @@ IsUnbegun row text code =
 -- the room holds the front of a log that begins, and the length is its length; or nothing has changed
 abbrev pub TellsBegun : LogRow → List ℕ → ℕ → List ℕ → List ℕ → ℕ → ℕ → Type 0
 TellsBegun row text code old new old_length new_length =
-    ((code ≡ 0) × ((bytes : List ℕ) × BeginsLog row text bytes × (new ≡ filled bytes old) × (new_length ≡ length bytes)))
+    ((code ≡ 0)
+    × ((bytes : List ℕ) × BeginsLog row text bytes × (new ≡ filled bytes old) × (new_length ≡ length bytes)))
     ⊎ ((0 < code) × IsUnbegun row text code × (new ≡ old) × (new_length ≡ old_length))
 
 -- 1 says that the text is what a crash can leave of the log with these numbers before its head is whole, and 0 that it
 -- isn't; or there was no memory, and nothing has changed
 abbrev pub TellsHeadless : LogRow → List ℕ → ℕ → ℕ → ℕ → Type 0
 TellsHeadless row text code old new =
-    ((code ≡ 0) × (((new ≡ 1) × IsHeadless (id_in row) text) ⊎ ((new ≡ 0) × (¬ IsHeadless (id_in row) text)))) ⊎ ((code ≡ refusal_code OutOfMemory) × (new ≡ old))
+    ((code ≡ 0) × (((new ≡ 1) × IsHeadless (id_in row) text) ⊎ ((new ≡ 0) × (¬ IsHeadless (id_in row) text))))
+    ⊎ ((code ≡ refusal_code OutOfMemory) × (new ≡ old))

@@ -10,7 +10,8 @@ use Rattle.reg_process.specs.declared.faults.ProcessFault.TheVariants as refusal
 use Rattle.reg_process.specs.declared.events.Event.{Event}
 use Rattle.reg_process.specs.declared.events.Event.TheVariants.{Call, Take, Tick}
 use Rattle.reg_world.specs.declared.faults.WorldFault.{WorldFault}
-use Rattle.reg_world.specs.declared.faults.WorldFault.TheVariants.{Failed, TooManyEvents, NoProcess, Busy, NoRegister, TooManyOperations, NoFrame, OutOfMemory}
+use Rattle.reg_world.specs.declared.faults.WorldFault.TheVariants.{Failed, TooManyEvents, NoProcess, Busy, NoRegister}
+use Rattle.reg_world.specs.declared.faults.WorldFault.TheVariants.{TooManyOperations, NoFrame, OutOfMemory}
 
 -- the operation that these numbers say
 abbrev pub op_of : ℕ → ℕ → ℕ → Option Op
@@ -22,11 +23,13 @@ op_of kind register value =
 
 -- the compare-and-swap that these numbers say
 abbrev pub compare_and_swap_of : ℕ → ℕ → ℕ → Option Op
-compare_and_swap_of register expected value = (if nat_lt register 65536 then Some (CompareAndSwap register expected value) else None)
+compare_and_swap_of register expected value =
+    (if nat_lt register 65536 then Some (CompareAndSwap register expected value) else None)
 
 -- its call at a process
 abbrev pub compare_and_swap_event : ℕ → ℕ → ℕ → ℕ → Option Event
-compare_and_swap_event process register expected value = option_map (λ op. Call process op) (compare_and_swap_of register expected value)
+compare_and_swap_event process register expected value =
+    option_map (λ op. Call process op) (compare_and_swap_of register expected value)
 
 -- the event that these numbers say
 abbrev pub event_of : ℕ → ℕ → ℕ → ℕ → ℕ → Option Event

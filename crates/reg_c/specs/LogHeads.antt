@@ -32,5 +32,6 @@ IsUntold text code = (0 < code) × ((code ≡ refusal_code OutOfMemory) ⊎ Begi
 -- changed
 abbrev pub TellsHead : List ℕ → ℕ → LogRow → LogRow → List ℕ → List ℕ → ℕ → ℕ → Type 0
 TellsHead text code row_old row_new old new old_length new_length =
-    ((code ≡ 0) × ((bytes : List ℕ) × SaysHead text row_new bytes × (new ≡ filled bytes old) × (new_length ≡ length bytes)))
+    ((code ≡ 0)
+    × ((bytes : List ℕ) × SaysHead text row_new bytes × (new ≡ filled bytes old) × (new_length ≡ length bytes)))
     ⊎ (IsUntold text code × (row_new ≡ row_old) × (new ≡ old) × (new_length ≡ old_length))

@@ -7,7 +7,8 @@ use Rattle.reg_verify.specs.Gathers.{IsLogsFault, MergesLogs}
 use Rattle.reg_verify.specs.declared.gathering.HeadPart.{HeadPart}
 use Rattle.reg_verify.specs.declared.gathering.HeadPart.TheVariants.{Cluster, Chapter, Front, Processes, Registers}
 use Rattle.reg_verify.specs.declared.gathering.LogsFault.{LogsFault}
-use Rattle.reg_verify.specs.declared.gathering.LogsFault.TheVariants.{NoLog, Unread, Other, Twice, Missing, TooMany, Unfaithful, OutOfMemory}
+use Rattle.reg_verify.specs.declared.gathering.LogsFault.TheVariants.{NoLog, Unread, Other, Twice, Missing, TooMany}
+use Rattle.reg_verify.specs.declared.gathering.LogsFault.TheVariants.{Unfaithful, OutOfMemory}
 use Rattle.reg_c.specs.declared.log_merges.MergedRow.{MergedRow}
 use Rattle.reg_c.specs.Events.{refusal_code}
 use Rattle.reg_c.specs.NodeCodes.{log_code, log_place}
@@ -68,5 +69,9 @@ with_fault row fault = record row { log = logs_log fault; place = logs_place fau
 -- the room holds the front of the text of the merged record, and its length is told; or why there is none
 abbrev pub TellsMergedLogs : List (List ℕ) → List ℕ → List ℕ → MergedRow → MergedRow → ℕ → Type 0
 TellsMergedLogs texts old new row_old row_new code =
-    ((code ≡ 0) × ((r : Account) × MergesLogs texts r × (new ≡ filled (account_text r) old) × (row_new ≡ with_length row_old (length (account_text r)))))
-    ⊎ ((0 < code) × ((fault : LogsFault) × IsLogsFault texts fault × (code ≡ logs_code fault) × (row_new ≡ with_fault row_old fault) × (new ≡ old)))
+    ((code ≡ 0)
+    × ((r : Account) × MergesLogs texts r × (new ≡ filled (account_text r) old)
+    × (row_new ≡ with_length row_old (length (account_text r)))))
+    ⊎ ((0 < code)
+    × ((fault : LogsFault) × IsLogsFault texts fault × (code ≡ logs_code fault) × (row_new ≡ with_fault row_old fault)
+    × (new ≡ old)))

@@ -1,12 +1,15 @@
 -- How messages between nodes begin, and what they are to the process that they came to, by numbers. Promises cite it.
-use Rattle.std.specs.Prelude.{ℕ, ◌≡◌, ◌≢◌, ◌<◌, ◌≤◌, ◌^◌, ◌⊎◌, ◌==◌, nat_lt, not, is_some, true, List, length, slice_index_or, slice_set, Option, None, Some, if◌then◌else◌}
+use Rattle.std.specs.Prelude.{ℕ, ◌≡◌, ◌≢◌, ◌<◌, ◌≤◌, ◌^◌, ◌⊎◌, ◌==◌, nat_lt, not, is_some, true, List, length}
+use Rattle.std.specs.Prelude.{slice_index_or, slice_set, Option, None, Some, if◌then◌else◌}
 use Rattle.reg_base.specs.Names.{names_fault}
 use Rattle.reg_node.specs.Messages.{SpellsMessage, SpellsStart, greeting_bytes, heard_then, met, names_crc, start_bytes}
 use Rattle.reg_node.specs.declared.messages.Greeting.{Greeting}
 use Rattle.reg_node.specs.declared.messages.Message.{Message}
 use Rattle.reg_node.specs.declared.messages.MessageStart.{MessageStart}
 use Rattle.reg_node.specs.declared.messages.Met.{Met}
-use Rattle.reg_node.specs.declared.messages.Met.TheVariants.{BegunAnew, Elsewhere, Late, OtherCluster, OtherFront, OtherProcesses, OtherReceiver, OtherRegisters, OtherSender, Peer, Unknown}
+use Rattle.reg_node.specs.declared.messages.Met.TheVariants.{BegunAnew, Elsewhere, Late, OtherCluster, OtherFront}
+use Rattle.reg_node.specs.declared.messages.Met.TheVariants.{OtherProcesses, OtherReceiver, OtherRegisters, OtherSender}
+use Rattle.reg_node.specs.declared.messages.Met.TheVariants.{Peer, Unknown}
 use Rattle.reg_commands.specs.Lent.{filled}
 use Rattle.reg_c.specs.declared.beginning.LogRow.{LogRow}
 use Rattle.reg_c.specs.declared.messages.GreetingRow.{GreetingRow}
@@ -50,7 +53,8 @@ IsUnstarted row text code = IsUnbegun row text code ⊎ ((code ≡ no_chapter) �
 -- the room holds its start, as far as it takes it; or nothing has changed
 abbrev pub TellsStart : LogRow → List ℕ → ℕ → ℕ → List ℕ → List ℕ → Type 0
 TellsStart row text to code old new =
-    ((code ≡ 0) × ((s : MessageStart) × StartsMessage row text to s × (new ≡ filled (start_bytes s) old))) ⊎ ((0 < code) × IsUnstarted row text code × (new ≡ old))
+    ((code ≡ 0) × ((s : MessageStart) × StartsMessage row text to s × (new ≡ filled (start_bytes s) old)))
+    ⊎ ((0 < code) × IsUnstarted row text code × (new ≡ old))
 
 -- What it is to its receiver
 
@@ -85,7 +89,20 @@ met_row m told = record {
 
 -- 11: the bytes are no message
 abbrev pub no_row : MetRow
-no_row = record { cluster = 0; begun = 0; names = 0; chapter = 0; met = 11; registers = 0; front = 0; processes = 0; sender = 0; receiver = 0; brings = 0 }
+no_row =
+    record {
+      cluster = 0;
+      begun = 0;
+      names = 0;
+      chapter = 0;
+      met = 11;
+      registers = 0;
+      front = 0;
+      processes = 0;
+      sender = 0;
+      receiver = 0;
+      brings = 0;
+    }
 
 -- a number below 256 is that of the process by whose key it came; else there are no keys
 abbrev pub key_in : ℕ → Option ℕ
@@ -108,12 +125,14 @@ met_by own key heard m = met own key (first_of heard m.start.sender) m
 
 -- and which ones were then
 abbrev pub heard_by : MessageStart → Option ℕ → List HeardRow → Message → List HeardRow
-heard_by own key heard m = kept heard m.start.sender (heard_then (first_of heard m.start.sender) m (met_by own key heard m))
+heard_by own key heard m =
+    kept heard m.start.sender (heard_then (first_of heard m.start.sender) m (met_by own key heard m))
 
 -- what these bytes are is told, and which logs were heard first is kept
 abbrev pub TellsOf : MessageStart → ℕ → List ℕ → List HeardRow → List HeardRow → MetRow → Type 0
 TellsOf own key bytes old new row =
-    ((m : Message) × SpellsMessage bytes m × (row ≡ met_row m (met_by own (key_in key) old m)) × (new ≡ heard_by own (key_in key) old m))
+    ((m : Message) × SpellsMessage bytes m × (row ≡ met_row m (met_by own (key_in key) old m))
+    × (new ≡ heard_by own (key_in key) old m))
     ⊎ (((m : Message) → ¬ SpellsMessage bytes m) × (row ≡ no_row) × (new ≡ old))
 
 -- the bytes are a start of a cluster of so many processes
@@ -135,5 +154,7 @@ greeting_by wants accepted = record { is_wanting = not (wants == 0); accepted = 
 -- the greeting of these bytes is told; or they are none, and nothing has changed
 abbrev pub TellsGreeting : List ℕ → GreetingRow → GreetingRow → ℕ → Type 0
 TellsGreeting bytes old new code =
-    ((code ≡ 0) × ((g : Greeting) × (bytes ≡ greeting_bytes g) × (new ≡ record { accepted = g.accepted; is_wanting = flag g.is_wanting })))
+    ((code ≡ 0)
+    × ((g : Greeting) × (bytes ≡ greeting_bytes g)
+    × (new ≡ record { accepted = g.accepted; is_wanting = flag g.is_wanting })))
     ⊎ ((code ≡ no_greeting) × ((g : Greeting) → bytes ≢ greeting_bytes g) × (new ≡ old))

@@ -28,10 +28,12 @@ HearsIn sender bytes (Some old) new code =
 
 -- the same of what is held; nothing else changes
 abbrev pub NodeHearsState : ℕ → List ℕ → HeldNode → HeldNode → ℕ → Type 0
-NodeHearsState sender bytes old new code = HearsIn sender bytes old.chapter new.chapter code × (new ≡ record old { chapter = new.chapter })
+NodeHearsState sender bytes old new code =
+    HearsIn sender bytes old.chapter new.chapter code × (new ≡ record old { chapter = new.chapter })
 
 -- the bytes tell how far the process has come, and it is kept
-pub record TellsIn (process : Option State) (is_quiet : Bool) (old : Option ChapterState) (bytes : List ℕ) (new : Option ChapterState) : Type 0 where
+pub record TellsIn (process : Option State) (is_quiet : Bool) (old : Option ChapterState) (bytes : List ℕ)
+    (new : Option ChapterState) : Type 0 where
   pub state : State
   pub before : ChapterState
   pub after : ChapterState

@@ -1,15 +1,18 @@
 -- The course of a chapter, as the caller sees it of a node that it holds. Promises cite it.
-use Rattle.std.specs.Prelude.{ℕ, ◌≡◌, ◌==◌, ◌<◌, ◌≤◌, ◌⊎◌, Bool, true, not, is_some, List, length, Option, None, Some, option_map, if◌then◌else◌}
+use Rattle.std.specs.Prelude.{ℕ, ◌≡◌, ◌==◌, ◌<◌, ◌≤◌, ◌⊎◌, Bool, true, not, is_some, List, length, Option, None, Some}
+use Rattle.std.specs.Prelude.{option_map, if◌then◌else◌}
 use Rattle.reg_base.specs.Memory.{register_of}
 use Rattle.reg_base.specs.declared.limits.TheConstants.{MOST_REGISTERS}
 use Rattle.reg_base.specs.declared.memory.Op.{Op}
 use Rattle.reg_base.specs.declared.memory.Op.TheVariants.{Read, Write, Swap, CompareAndSwap}
 use Rattle.reg_process.specs.declared.faults.ProcessFault.TheVariants as refusals
-use Rattle.reg_node.specs.Courses.{CourseState, course_at_first, is_ending, is_far_ahead, is_opening, is_quiet, next_opening, own_calls, progress_of}
+use Rattle.reg_node.specs.Courses.{CourseState, course_at_first, is_ending, is_far_ahead, is_opening, is_quiet}
+use Rattle.reg_node.specs.Courses.{next_opening, own_calls, progress_of}
 use Rattle.reg_node.specs.Openings.{opening_of}
 use Rattle.reg_node.specs.declared.courses.Progress.{Progress}
 use Rattle.reg_c.specs.declared.node_courses.CoursePart.{CoursePart}
-use Rattle.reg_c.specs.declared.node_courses.CoursePart.TheVariants.{Ending, FarAhead, Opening, Quiet, OwnCalls, Next, NextRegister, NextValue}
+use Rattle.reg_c.specs.declared.node_courses.CoursePart.TheVariants.{Ending, FarAhead, Opening, Quiet, OwnCalls, Next}
+use Rattle.reg_c.specs.declared.node_courses.CoursePart.TheVariants.{NextRegister, NextValue}
 use Rattle.reg_c.specs.declared.nodes.HeldNode.{HeldNode}
 use Rattle.reg_c.specs.Events.{no_shape, no_world, refusal_code}
 use Rattle.reg_c.specs.Nodes.{flag, logged_in}
@@ -36,7 +39,8 @@ FollowsIn values (Some old) new code =
 
 -- the same of what is held; nothing else changes
 abbrev pub NodeFollows : List ℕ → HeldNode → HeldNode → ℕ → Type 0
-NodeFollows values old new code = FollowsIn values old.course new.course code × (new ≡ record old { course = new.course })
+NodeFollows values old new code =
+    FollowsIn values old.course new.course code × (new ≡ record old { course = new.course })
 
 abbrev pub EndsBy : HeldNode → Option CourseState → HeldNode → ℕ → Type 0
 EndsBy old None new code = (code ≡ no_world) × (new ≡ old)
@@ -87,4 +91,5 @@ progress_in h is_running = option_map (λ l. progress_of l is_running) (logged_i
 
 -- the number that a caller gets: 0 where it asks for nothing that there is
 abbrev pub course_number : HeldNode → ℕ → ℕ → ℕ
-course_number h what running = seen (λ part. course_seen part h.course (progress_in h (not (running == 0)))) (course_look_of what)
+course_number h what running =
+    seen (λ part. course_seen part h.course (progress_in h (not (running == 0)))) (course_look_of what)

@@ -29,7 +29,8 @@ LooksIn (Some m) peer old look new = LooksAt m peer old look new
 abbrev pub WatchesBy : HeldNode → ℕ → Option (List Watched) → HeldNode → ℕ → Type 0
 WatchesBy old peer None new code = (code ≡ 0) × (new ≡ old)
 WatchesBy old peer (Some all) new code =
-    (look : Look) × (after : List Watched) × LooksIn (meeting_in old.node) peer all look after × (code ≡ look_code look) × (new ≡ record old { peers = Some after })
+    (look : Look) × (after : List Watched) × LooksIn (meeting_in old.node) peer all look after × (code ≡ look_code look)
+    × (new ≡ record old { peers = Some after })
 
 -- the node that is held looks at a peer, and what is due is told; nothing is where no node was opened
 abbrev pub NodeWatches : ℕ → HeldNode → HeldNode → ℕ → Type 0
@@ -43,7 +44,8 @@ HearsIn (Some m) peer old ticks new = HearsOf m peer old ticks new
 abbrev pub CameBy : HeldNode → ℕ → Option (List Watched) → HeldNode → ℕ → Type 0
 CameBy old peer None new code = (code ≡ 0) × (new ≡ old)
 CameBy old peer (Some all) new code =
-    (ticks : Bool) × (after : List Watched) × HearsIn (meeting_in old.node) peer all ticks after × (code ≡ 2 * flag ticks) × (new ≡ record old { peers = Some after })
+    (ticks : Bool) × (after : List Watched) × HearsIn (meeting_in old.node) peer all ticks after
+    × (code ≡ 2 * flag ticks) × (new ≡ record old { peers = Some after })
 
 -- something came from a peer of the node that is held: 2 where it is to tick, and 0 where no node was opened
 abbrev pub CameFrom : ℕ → HeldNode → HeldNode → ℕ → Type 0

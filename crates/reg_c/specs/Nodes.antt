@@ -1,5 +1,6 @@
 -- A node that a caller holds, under the front end that its log names. Promises cite it.
-use Rattle.std.specs.Prelude.{ℕ, ◌≡◌, ◌==◌, ◌<◌, ◌≤◌, ◌⊎◌, MatchOption, Bool, false, List, [], length, replicate, Option, None, Some, option_map, cond, if◌then◌else◌}
+use Rattle.std.specs.Prelude.{ℕ, ◌≡◌, ◌==◌, ◌<◌, ◌≤◌, ◌⊎◌, MatchOption, Bool, false, List, [], length, replicate}
+use Rattle.std.specs.Prelude.{Option, None, Some, option_map, cond, if◌then◌else◌}
 use Rattle.reg_base.specs.declared.memory.Op.{Op}
 use Rattle.reg_frames.specs.Spelling.{Spells}
 use Rattle.reg_frames.specs.declared.bodies.Frame.{Frame}
@@ -34,13 +35,16 @@ use Rattle.reg_c.specs.declared.node_parts.NodePart.{NodePart}
 use Rattle.reg_c.specs.declared.node_parts.NodePart.TheVariants.{Logged, Durable, Calls, Stopped, Lost, HeardAll}
 use Rattle.reg_c.specs.declared.parts.ProcessLook.TheVariants.{OfState, ReplyValue, ReplyPlace}
 use Rattle.reg_c.specs.Events.{no_event, no_frame, no_world}
-use Rattle.reg_c.specs.NodeCodes.{handed_code, hello_code, log_code, log_place, logged_code, not_logged, open_code, open_place}
+use Rattle.reg_c.specs.NodeCodes.{handed_code, hello_code, log_code, log_place, logged_code, not_logged, open_code}
+use Rattle.reg_c.specs.NodeCodes.{open_place}
 use Rattle.reg_c.specs.Processes.{process_look_of, state_part}
 use Rattle.reg_c.specs.Worlds.{reply_place, reply_value, seen}
 
 -- what is held at first: no node, no bytes, and nothing that was handed out
 abbrev pub IsNothing : HeldNode → Type 0
-IsNothing h = (h.node ≡ Closed) × (h.bytes.items ≡ []) × (h.output ≡ None) × (h.chapter ≡ None) × (h.peers ≡ None) × (h.course ≡ None) × (h.whole ≡ 0) × (h.place ≡ 0)
+IsNothing h =
+    (h.node ≡ Closed) × (h.bytes.items ≡ []) × (h.output ≡ None) × (h.chapter ≡ None) × (h.peers ≡ None)
+    × (h.course ≡ None) × (h.whole ≡ 0) × (h.place ≡ 0)
 
 -- Opening
 
@@ -103,7 +107,8 @@ pub record IsUnopened (text : List ℕ) (durable code place : ℕ) : Type 0 wher
 abbrev pub Opens : List ℕ → ℕ → HeldNode → HeldNode → ℕ → Type 0
 Opens text durable old new code =
     ((code ≡ 0) × OpensNode text durable new)
-    ⊎ ((0 < code) × (IsUnread text durable code new.place ⊎ IsUnopened text durable code new.place) × (new ≡ record old { place = new.place }))
+    ⊎ ((0 < code) × (IsUnread text durable code new.place ⊎ IsUnopened text durable code new.place)
+    × (new ≡ record old { place = new.place }))
 
 -- Steps
 
@@ -115,14 +120,18 @@ Steps start e old new bytes code =
     ⊎ ((fault : LoggedFault) × WritesNothing start old e fault new × (bytes ≡ []) × (code ≡ logged_code fault))
 
 abbrev pub StepsIn : Step → KeptNode → KeptNode → List ℕ → ℕ → Type 0
-StepsIn e (Linear old) new bytes code = (after : LoggedState) × (new ≡ Linear after) × Steps linear e old after bytes code
-StepsIn e (LocalRead old) new bytes code = (after : LoggedState) × (new ≡ LocalRead after) × Steps local_read e old after bytes code
-StepsIn e (LocalWrite old) new bytes code = (after : LoggedState) × (new ≡ LocalWrite after) × Steps local_write e old after bytes code
+StepsIn e (Linear old) new bytes code =
+    (after : LoggedState) × (new ≡ Linear after) × Steps linear e old after bytes code
+StepsIn e (LocalRead old) new bytes code =
+    (after : LoggedState) × (new ≡ LocalRead after) × Steps local_read e old after bytes code
+StepsIn e (LocalWrite old) new bytes code =
+    (after : LoggedState) × (new ≡ LocalWrite after) × Steps local_write e old after bytes code
 StepsIn e Closed new bytes code = (new ≡ Closed) × (bytes ≡ []) × (code ≡ no_world)
 
 -- a step of the node that is held, whose bytes are held; nothing else changes
 abbrev pub NodeSteps : Step → HeldNode → HeldNode → ℕ → Type 0
-NodeSteps e old new code = StepsIn e old.node new.node new.bytes.items code × (new ≡ record old { node = new.node; bytes = new.bytes })
+NodeSteps e old new code =
+    StepsIn e old.node new.node new.bytes.items code × (new ≡ record old { node = new.node; bytes = new.bytes })
 
 -- no step: no bytes are held, and nothing else changes
 abbrev pub NoStep : HeldNode → HeldNode → Type 0
@@ -152,9 +161,12 @@ HearsAs other count old new code =
     × (new ≡ record old { meeting = new.meeting })
 
 abbrev pub HearsIn : ℕ → ℕ → KeptNode → KeptNode → ℕ → Type 0
-HearsIn other count (Linear old) new code = (after : LoggedState) × (new ≡ Linear after) × HearsAs other count old after code
-HearsIn other count (LocalRead old) new code = (after : LoggedState) × (new ≡ LocalRead after) × HearsAs other count old after code
-HearsIn other count (LocalWrite old) new code = (after : LoggedState) × (new ≡ LocalWrite after) × HearsAs other count old after code
+HearsIn other count (Linear old) new code =
+    (after : LoggedState) × (new ≡ Linear after) × HearsAs other count old after code
+HearsIn other count (LocalRead old) new code =
+    (after : LoggedState) × (new ≡ LocalRead after) × HearsAs other count old after code
+HearsIn other count (LocalWrite old) new code =
+    (after : LoggedState) × (new ≡ LocalWrite after) × HearsAs other count old after code
 HearsIn other count Closed new code = (new ≡ Closed) × (code ≡ no_world)
 
 -- the node that is held hears that another process accepted so many bodies
@@ -163,13 +175,15 @@ NodeHears other count old new code = HearsIn other count old.node new.node code 
 
 abbrev pub MarksAs : ℕ → LoggedState → LoggedState → ℕ → Type 0
 MarksAs count old new code =
-    ((count ≤ old.meeting.node.logged) × (new ≡ record old { meeting = record old.meeting { node = marked old.meeting.node count } }) × (code ≡ 0))
+    ((count ≤ old.meeting.node.logged)
+    × (new ≡ record old { meeting = record old.meeting { node = marked old.meeting.node count } }) × (code ≡ 0))
     ⊎ ((old.meeting.node.logged < count) × (new ≡ old) × (code ≡ not_logged))
 
 abbrev pub MarksIn : ℕ → KeptNode → KeptNode → ℕ → Type 0
 MarksIn count (Linear old) new code = (after : LoggedState) × (new ≡ Linear after) × MarksAs count old after code
 MarksIn count (LocalRead old) new code = (after : LoggedState) × (new ≡ LocalRead after) × MarksAs count old after code
-MarksIn count (LocalWrite old) new code = (after : LoggedState) × (new ≡ LocalWrite after) × MarksAs count old after code
+MarksIn count (LocalWrite old) new code =
+    (after : LoggedState) × (new ≡ LocalWrite after) × MarksAs count old after code
 MarksIn count Closed new code = (new ≡ Closed) × (code ≡ no_world)
 
 -- the node that is held notes that the first entries are durable
@@ -179,17 +193,21 @@ NodeMarks count old new code = MarksIn count old.node new.node code × (new ≡ 
 -- What is handed out
 
 abbrev pub HandsAs : LoggedState → LoggedState → Option Outgoing → ℕ → Type 0
-HandsAs old new output code = MatchOption output (LoggedHandsOutNothing old new) (λ o. LoggedHandsOut old o new) × (code ≡ handed_code output)
+HandsAs old new output code =
+    MatchOption output (LoggedHandsOutNothing old new) (λ o. LoggedHandsOut old o new) × (code ≡ handed_code output)
 
 abbrev pub HandsIn : KeptNode → KeptNode → Option Outgoing → ℕ → Type 0
 HandsIn (Linear old) new output code = (after : LoggedState) × (new ≡ Linear after) × HandsAs old after output code
-HandsIn (LocalRead old) new output code = (after : LoggedState) × (new ≡ LocalRead after) × HandsAs old after output code
-HandsIn (LocalWrite old) new output code = (after : LoggedState) × (new ≡ LocalWrite after) × HandsAs old after output code
+HandsIn (LocalRead old) new output code =
+    (after : LoggedState) × (new ≡ LocalRead after) × HandsAs old after output code
+HandsIn (LocalWrite old) new output code =
+    (after : LoggedState) × (new ≡ LocalWrite after) × HandsAs old after output code
 HandsIn Closed new output code = (new ≡ Closed) × (output ≡ None) × (code ≡ no_world)
 
 -- the node that is held hands something out, which is held, or nothing
 abbrev pub NodeHands : HeldNode → HeldNode → ℕ → Type 0
-NodeHands old new code = HandsIn old.node new.node new.output code × (new ≡ record old { node = new.node; output = new.output })
+NodeHands old new code =
+    HandsIn old.node new.node new.output code × (new ≡ record old { node = new.node; output = new.output })
 
 -- What a caller looks at, by a number
 

@@ -1,5 +1,6 @@
 -- A process that a caller holds, under one of the three front ends.
-use Rattle.std.specs.Prelude.{nat_lt, is_err, max, ℕ, List, [], ◌∷◌, ◌≡◌, ◌==◌, ◌<◌, ◌⊎◌, length, slice_get, vec_capacity, false, Option, Some, None, unwrap_or, option_map, if◌then◌else◌}
+use Rattle.std.specs.Prelude.{nat_lt, is_err, max, ℕ, List, [], ◌∷◌, ◌≡◌, ◌==◌, ◌<◌, ◌⊎◌, length, slice_get}
+use Rattle.std.specs.Prelude.{vec_capacity, false, Option, Some, None, unwrap_or, option_map, if◌then◌else◌}
 use Rattle.std.specs.List.{All, flat_map}
 use Rattle.reg_base.specs.Shape.{Extent, shape_of}
 use Rattle.reg_base.specs.declared.memory.Op.{Op}
@@ -9,7 +10,8 @@ use Rattle.reg_frames.specs.Spelling.{Fits, Spells, spelling}
 use Rattle.reg_frames.specs.declared.bodies.Frame.{Frame}
 use Rattle.reg_frames.specs.declared.puts.Put.{Put}
 use Rattle.reg_front.specs.declared.named.Front.{Front}
-use Rattle.reg_front.specs.declared.named.Front.TheVariants.{Linear as LinearFront, LocalRead as LocalReadFront, LocalWrite as LocalWriteFront}
+use Rattle.reg_front.specs.declared.named.Front.TheVariants.{Linear as LinearFront, LocalRead as LocalReadFront}
+use Rattle.reg_front.specs.declared.named.Front.TheVariants.{LocalWrite as LocalWriteFront}
 use Rattle.reg_front.specs.declared.starts.Start.{Start}
 use Rattle.reg_front.specs.Table.{linear, local_read, local_write}
 use Rattle.reg_process.specs.Events.{Kept, Refused, Steps}
@@ -26,7 +28,8 @@ use Rattle.reg_c.specs.declared.processes.KeptProcess.{KeptProcess}
 use Rattle.reg_c.specs.declared.processes.KeptProcess.TheVariants.{Linear, LocalRead, LocalWrite, Closed}
 use Rattle.reg_c.specs.declared.processes.HeldProcess.{HeldProcess}
 use Rattle.reg_c.specs.declared.parts.StatePart.{StatePart}
-use Rattle.reg_c.specs.declared.parts.StatePart.TheVariants.{Clock, Delivered as DeliveredCount, Unsettled, Pending, Running as RunningCode, Register}
+use Rattle.reg_c.specs.declared.parts.StatePart.TheVariants.{Clock, Delivered as DeliveredCount, Unsettled, Pending}
+use Rattle.reg_c.specs.declared.parts.StatePart.TheVariants.{Running as RunningCode, Register}
 use Rattle.reg_c.specs.declared.parts.PeerPart.{PeerPart}
 use Rattle.reg_c.specs.declared.parts.PeerPart.TheVariants.{First, Next, Expected, Seen}
 use Rattle.reg_c.specs.declared.parts.ProcessLook.{ProcessLook}
@@ -38,7 +41,8 @@ use Rattle.reg_c.specs.Worlds.{reply_place, reply_value, seen}
 
 -- a process that did nothing yet
 abbrev pub first_process : ℕ → Extent → Kept
-first_process me shape = record { failed = false; state = state_of (first_parts me shape.processes shape.registers); room = 0 }
+first_process me shape =
+    record { failed = false; state = state_of (first_parts me shape.processes shape.registers); room = 0 }
 
 -- what is kept of a process, under its front end
 abbrev pub kept_process : Front → Kept → KeptProcess
@@ -54,15 +58,21 @@ process_at_first front me shape = option_map (λ f. kept_process f (first_proces
 -- memory
 abbrev pub unmade_process : ℕ → ℕ → ℕ → ℕ
 unmade_process front me processes =
-    unwrap_or (option_map (λ _. if nat_lt me processes then refusal_code refusals.OutOfMemory else refusal_code refusals.NoProcess) (front_at front)) no_front
+    unwrap_or (option_map
+    (λ _. if nat_lt me processes then refusal_code refusals.OutOfMemory else refusal_code refusals.NoProcess)
+    (front_at front))
+    no_front
 
 -- why there is no process: these numbers are no shape, or there is none of their shape
 abbrev pub process_refusal : ℕ → ℕ → ℕ → ℕ → ℕ
-process_refusal front processes registers me = (if is_err (shape_of processes registers) then no_shape else unmade_process front me processes)
+process_refusal front processes registers me =
+    (if is_err (shape_of processes registers) then no_shape else unmade_process front me processes)
 
 -- what a caller holds at first: a process of the shape that did nothing yet, with no reply and no frames
 abbrev pub IsFirstProcess : ℕ → ℕ → Extent → HeldProcess → Type 0
-IsFirstProcess front me shape h = (process_at_first front me shape ≡ Some h.process) × (me < shape.processes) × (h.reply ≡ None) × (h.frames.items ≡ [])
+IsFirstProcess front me shape h =
+    (process_at_first front me shape ≡ Some h.process) × (me < shape.processes) × (h.reply ≡ None)
+    × (h.frames.items ≡ [])
 
 -- a process with a list for the frames of its next step in which this number of them fits
 abbrev pub with_room : ℕ → Kept → Kept
@@ -72,15 +82,20 @@ with_room room k = record k { room = max k.room room }
 -- frames and no reply
 abbrev pub Makes : (Op → ℕ → Start) → Step → Kept → Kept → List Put → Option Reply → ℕ → Type 0
 Makes start step old new frames reply code =
-    ((cast : Option Stamp) × (delivered : List Delivered) × Steps start old step frames cast delivered reply new × (code ≡ reply_code reply))
-    ⊎ ((fault : ProcessFault) × Refused start old step fault new × (frames ≡ []) × (reply ≡ None) × (code ≡ refusal_code fault))
+    ((cast : Option Stamp) × (delivered : List Delivered) × Steps start old step frames cast delivered reply new
+    × (code ≡ reply_code reply))
+    ⊎ ((fault : ProcessFault) × Refused start old step fault new × (frames ≡ []) × (reply ≡ None)
+    × (code ≡ refusal_code fault))
 
 -- what a step does to the process that is held, whose list for frames is that of the step before; or nothing where it
 -- was closed
 abbrev pub MakesIn : Step → ℕ → KeptProcess → KeptProcess → List Put → Option Reply → ℕ → Type 0
-MakesIn step room (Linear old) new frames reply code = (after : Kept) × (new ≡ Linear after) × Makes linear step (with_room room old) after frames reply code
-MakesIn step room (LocalRead old) new frames reply code = (after : Kept) × (new ≡ LocalRead after) × Makes local_read step (with_room room old) after frames reply code
-MakesIn step room (LocalWrite old) new frames reply code = (after : Kept) × (new ≡ LocalWrite after) × Makes local_write step (with_room room old) after frames reply code
+MakesIn step room (Linear old) new frames reply code =
+    (after : Kept) × (new ≡ Linear after) × Makes linear step (with_room room old) after frames reply code
+MakesIn step room (LocalRead old) new frames reply code =
+    (after : Kept) × (new ≡ LocalRead after) × Makes local_read step (with_room room old) after frames reply code
+MakesIn step room (LocalWrite old) new frames reply code =
+    (after : Kept) × (new ≡ LocalWrite after) × Makes local_write step (with_room room old) after frames reply code
 MakesIn step room Closed new frames reply code = (new ≡ Closed) × (frames ≡ []) × (reply ≡ None) × (code ≡ no_world)
 
 -- what a step does to what is held: its frames and its reply are those of this step

@@ -13,7 +13,8 @@ abbrev pub given : ℕ → Option ℕ
 given number = if number == 18446744073709551615 then None else Some number
 
 abbrev pub with_room : RoomRow → Room → RoomRow
-with_room row room = record row { operations = room.operations; total = room.total; entries = room.entries; ahead = room.ahead }
+with_room row room =
+    record row { operations = room.operations; total = room.total; entries = room.entries; ahead = room.ahead }
 
 -- the numbers that there can be
 abbrev pub with_limits : RoomRow → NoRoom → RoomRow
@@ -30,10 +31,12 @@ no_room_code (BadEntries least most) = 83
 abbrev pub TellsRoomOf : Extent → ℕ → ℕ → RoomRow → RoomRow → ℕ → Type 0
 TellsRoomOf shape operations entries old new code =
     ((room : Room) × HasRoom shape operations entries room × (code ≡ 0) × (new ≡ with_room old room))
-    ⊎ ((fault : NoRoom) × IsNoRoom shape operations entries fault × (code ≡ no_room_code fault) × (new ≡ with_limits old fault))
+    ⊎ ((fault : NoRoom) × IsNoRoom shape operations entries fault × (code ≡ no_room_code fault)
+    × (new ≡ with_limits old fault))
 
 -- the same by numbers that may be no shape
 abbrev pub TellsRoom : ℕ → ℕ → ℕ → ℕ → RoomRow → RoomRow → ℕ → Type 0
 TellsRoom processes registers operations entries old new code =
     ((code ≡ no_shape) × (is_err (shape_of processes registers) ≡ true) × (new ≡ old))
-    ⊎ ((shape : Extent) × (shape_of processes registers ≡ Ok shape) × TellsRoomOf shape (operations_of (given operations)) (entries_of shape (given entries)) old new code)
+    ⊎ ((shape : Extent) × (shape_of processes registers ≡ Ok shape)
+    × TellsRoomOf shape (operations_of (given operations)) (entries_of shape (given entries)) old new code)

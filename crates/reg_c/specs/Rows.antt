@@ -29,10 +29,12 @@ entry_of r expected =
     (if r.kind == 2 then Some (Called r.at (operation_of r) (Swap r.register r.value)) else
     (if r.kind == 3 then Some (Answered r.at (operation_of r) Done) else
     (if r.kind == 4 then Some (Answered r.at (operation_of r) (Value r.value)) else
-    (if r.kind == 5 then option_map (λ e. Called r.at (operation_of r) (CompareAndSwap r.register e r.value)) expected else
+    (if r.kind == 5 then option_map (λ e. Called r.at (operation_of r) (CompareAndSwap r.register e r.value))
+    expected else
     (if r.kind == 6 then Some (Answered r.at (operation_of r) Unequal) else None)))))))
 
 -- the rows say these entries, one for each, with the expected value that stands at the same place
 pub record Say (rows : List EntryRow) (expected : List ℕ) (es : List Entry) : Type 0 where
   pub many : length es ≡ length rows
-  pub each : (k : ℕ) (r : EntryRow) (e : Entry) → IsAt rows k r → IsAt es k e → entry_of r (slice_get expected k) ≡ Some e
+  pub each : (k : ℕ) (r : EntryRow) (e : Entry) → IsAt rows k r → IsAt es k e
+      → entry_of r (slice_get expected k) ≡ Some e

@@ -37,19 +37,23 @@ IsStoryTold = IsTold ⊤ (λ (fault : Fault). fault) fault_line BlamesStory Stor
 
 -- what a command tells of a text
 abbrev pub Tells : Command → List ℕ → ℕ → List ℕ → List ℕ → List ℕ → List ℕ → Lengths → Type 0
-Tells command text status old new errors_old errors_new lengths = Fills (IsAnswer command text) status old new errors_old errors_new lengths
+Tells command text status old new errors_old errors_new lengths =
+    Fills (IsAnswer command text) status old new errors_old errors_new lengths
 
 -- what the check of a record tells of a text
 abbrev pub TellsVerdict : List ℕ → ℕ → List ℕ → List ℕ → List ℕ → List ℕ → Lengths → Type 0
-TellsVerdict text status old new errors_old errors_new lengths = Fills (IsVerdict text) status old new errors_old errors_new lengths
+TellsVerdict text status old new errors_old errors_new lengths =
+    Fills (IsVerdict text) status old new errors_old errors_new lengths
 
 -- what the merge tells of a text
 abbrev pub TellsMerged : List ℕ → ℕ → List ℕ → List ℕ → List ℕ → List ℕ → Lengths → Type 0
-TellsMerged text status old new errors_old errors_new lengths = Fills (IsMerged text) status old new errors_old errors_new lengths
+TellsMerged text status old new errors_old errors_new lengths =
+    Fills (IsMerged text) status old new errors_old errors_new lengths
 
 -- what is told of the reports that a text is
 abbrev pub TellsStory : List ℕ → ℕ → List ℕ → List ℕ → List ℕ → List ℕ → Lengths → Type 0
-TellsStory text status old new errors_old errors_new lengths = Fills (IsStoryTold text) status old new errors_old errors_new lengths
+TellsStory text status old new errors_old errors_new lengths =
+    Fills (IsStoryTold text) status old new errors_old errors_new lengths
 
 -- how the judge of histories is asked: the usual first value is meant
 abbrev pub judge_flags : Bool → JudgeFlags
@@ -61,9 +65,12 @@ pub record IsJudgement (flags : JudgeFlags) (text : List ℕ) (status : ℕ) (an
   pub range : status ≤ 1
   pub within : status ≡ 0 → length text ≤ LONGEST_INPUT
   pub found : status ≡ 0 → IsAnyJudged flags true (Appends (Some []) (Some answer)) text
-  pub none : status ≡ 1 → (IsAnyJudged flags false (Appends (Some []) (Some answer)) text × (told ≡ [])) ⊎ ((f : CommandFault) × (f ≢ JudgeCommand Output → answer ≡ []))
+  pub none : status ≡ 1
+      → (IsAnyJudged flags false (Appends (Some []) (Some answer)) text × (told ≡ []))
+      ⊎ ((f : CommandFault) × (f ≢ JudgeCommand Output → answer ≡ []))
   pub quiet : status ≡ 0 → told ≡ []
 
 -- what the judge of histories tells of a text
 abbrev pub TellsJudgement : JudgeFlags → List ℕ → ℕ → List ℕ → List ℕ → List ℕ → List ℕ → Lengths → Type 0
-TellsJudgement flags text status old new errors_old errors_new lengths = Fills (IsJudgement flags text) status old new errors_old errors_new lengths
+TellsJudgement flags text status old new errors_old errors_new lengths =
+    Fills (IsJudgement flags text) status old new errors_old errors_new lengths

@@ -4,7 +4,8 @@ use Rattle.reg_base.specs.Shape.{shape_of}
 use Rattle.reg_base.specs.declared.shapes.ShapeFault.{ShapeFault}
 use Rattle.reg_checkers.specs.declared.entries.Entry.{Entry}
 use Rattle.reg_checkers.specs.declared.faults.CheckFault.{CheckFault}
-use Rattle.reg_checkers.specs.declared.faults.CheckFault.TheVariants.{Unknown, Twice, Missing, OwnOrder, Answer, Outside, Falling}
+use Rattle.reg_checkers.specs.declared.faults.CheckFault.TheVariants.{Unknown, Twice, Missing, OwnOrder, Answer}
+use Rattle.reg_checkers.specs.declared.faults.CheckFault.TheVariants.{Outside, Falling}
 use Rattle.reg_checkers.specs.declared.faults.CheckFault.TheVariants.{OutOfMemory as NoMemory}
 use Rattle.reg_checkers.specs.History.{IsAt, IsHistory, IsInPlace}
 use Rattle.reg_checkers.specs.Orders.{IsSerial, IsPointOrder}
@@ -20,7 +21,9 @@ use Rattle.reg_c.specs.Rows.{Say, entry_of, id_of, point_of}
 
 -- the rows before this place say a history, and the row at it says no entry, or one that is out of place after them
 abbrev pub EndsAt : ℕ → ℕ → List EntryRow → List ℕ → ℕ → Type 0
-EndsAt n registers rows expected k = (es : List Entry) × (r : EntryRow) × Say (take k rows) expected es × IsHistory n registers es × IsAt rows k r × MatchOption (entry_of r (slice_get expected k)) (Unit {0}) (λ e. ¬ IsInPlace n registers es e)
+EndsAt n registers rows expected k =
+    (es : List Entry) × (r : EntryRow) × Say (take k rows) expected es × IsHistory n registers es × IsAt rows k r
+    × MatchOption (entry_of r (slice_get expected k)) (Unit {0}) (λ e. ¬ IsInPlace n registers es e)
 
 -- why rows say no history of such a shape. `OutOfMemory` says nothing
 abbrev pub IsUnread : ℕ → ℕ → List EntryRow → List ℕ → Unread → Type 0
@@ -34,14 +37,18 @@ SayHistory n registers rows expected es = Say rows expected es × IsHistory n re
 
 -- what is told of an order: that it is serial, or the first fault that there is, or why the rows say no history
 abbrev pub IsSerialVerdict : ℕ → ℕ → List EntryRow → List ℕ → List IdRow → Verdict → Type 0
-IsSerialVerdict n registers rows expected ids Holds = (es : List Entry) × SayHistory n registers rows expected es × IsSerial registers es (map id_of ids)
-IsSerialVerdict n registers rows expected ids (Refused fault) = (es : List Entry) × SayHistory n registers rows expected es × IsSerialFault registers es (map id_of ids) fault
+IsSerialVerdict n registers rows expected ids Holds =
+    (es : List Entry) × SayHistory n registers rows expected es × IsSerial registers es (map id_of ids)
+IsSerialVerdict n registers rows expected ids (Refused fault) =
+    (es : List Entry) × SayHistory n registers rows expected es × IsSerialFault registers es (map id_of ids) fault
 IsSerialVerdict n registers rows expected ids (NoHistory why) = IsUnread n registers rows expected why
 
 -- what is told of points: that they are a point order, or the first fault that there is, or why the rows say no history
 abbrev pub IsPointVerdict : ℕ → ℕ → List EntryRow → List ℕ → List PointRow → Verdict → Type 0
-IsPointVerdict n registers rows expected points Holds = (es : List Entry) × SayHistory n registers rows expected es × IsPointOrder registers es (map point_of points)
-IsPointVerdict n registers rows expected points (Refused fault) = (es : List Entry) × SayHistory n registers rows expected es × IsPointFault registers es (map point_of points) fault
+IsPointVerdict n registers rows expected points Holds =
+    (es : List Entry) × SayHistory n registers rows expected es × IsPointOrder registers es (map point_of points)
+IsPointVerdict n registers rows expected points (Refused fault) =
+    (es : List Entry) × SayHistory n registers rows expected es × IsPointFault registers es (map point_of points) fault
 IsPointVerdict n registers rows expected points (NoHistory why) = IsUnread n registers rows expected why
 
 -- the numbers by which a verdict is told

@@ -1,5 +1,6 @@
 -- A world that a caller holds, under one of the three front ends.
-use Rattle.std.specs.Prelude.{nat_lt, is_err, ℕ, List, [], ◌≡◌, ◌==◌, ◌⊎◌, length, slice_get, Option, Some, None, option_map, unwrap_or, if◌then◌else◌}
+use Rattle.std.specs.Prelude.{nat_lt, is_err, ℕ, List, [], ◌≡◌, ◌==◌, ◌⊎◌, length, slice_get, Option, Some, None}
+use Rattle.std.specs.Prelude.{option_map, unwrap_or, if◌then◌else◌}
 use Rattle.reg_base.specs.Shape.{Extent, shape_of}
 use Rattle.reg_base.specs.declared.memory.Op.{Op}
 use Rattle.reg_base.specs.declared.memory.OpId.{OpId}
@@ -7,7 +8,8 @@ use Rattle.reg_base.specs.declared.memory.Op.TheVariants.{Read, Write, Swap, Com
 use Rattle.reg_base.specs.declared.memory.Answer.{Answer}
 use Rattle.reg_base.specs.declared.memory.Answer.TheVariants.{Done, Value, Unequal}
 use Rattle.reg_front.specs.declared.named.Front.{Front}
-use Rattle.reg_front.specs.declared.named.Front.TheVariants.{Linear as LinearFront, LocalRead as LocalReadFront, LocalWrite as LocalWriteFront}
+use Rattle.reg_front.specs.declared.named.Front.TheVariants.{Linear as LinearFront, LocalRead as LocalReadFront}
+use Rattle.reg_front.specs.declared.named.Front.TheVariants.{LocalWrite as LocalWriteFront}
 use Rattle.reg_front.specs.declared.starts.Start.{Start}
 use Rattle.reg_front.specs.Table.{linear, local_read, local_write}
 use Rattle.reg_checkers.specs.declared.entries.Entry.{Entry}
@@ -25,13 +27,18 @@ use Rattle.reg_c.specs.declared.holding.Kept.{Kept}
 use Rattle.reg_c.specs.declared.holding.Kept.TheVariants.{Linear, LocalRead, LocalWrite, Closed}
 use Rattle.reg_c.specs.declared.holding.Held.{Held}
 use Rattle.reg_c.specs.declared.looking.Look.{Look}
-use Rattle.reg_c.specs.declared.looking.Look.TheVariants.{Events, Entries, OfEntry, ReplyValue, ReplyPlace, Ids, OfId, Points, OfPoint}
+use Rattle.reg_c.specs.declared.looking.Look.TheVariants.{Events, Entries, OfEntry, ReplyValue, ReplyPlace, Ids, OfId}
+use Rattle.reg_c.specs.declared.looking.Look.TheVariants.{Points, OfPoint}
 use Rattle.reg_c.specs.declared.looking.EntryPart.{EntryPart}
-use Rattle.reg_c.specs.declared.looking.EntryPart.TheVariants.{Event as EntryEvent, Process as EntryProcess, Number as EntryNumber, Kind as EntryKind, Register as EntryRegister, Value as EntryValue, Expected as EntryExpected}
+use Rattle.reg_c.specs.declared.looking.EntryPart.TheVariants.{Event as EntryEvent, Process as EntryProcess}
+use Rattle.reg_c.specs.declared.looking.EntryPart.TheVariants.{Number as EntryNumber, Kind as EntryKind}
+use Rattle.reg_c.specs.declared.looking.EntryPart.TheVariants.{Register as EntryRegister, Value as EntryValue}
+use Rattle.reg_c.specs.declared.looking.EntryPart.TheVariants.{Expected as EntryExpected}
 use Rattle.reg_c.specs.declared.looking.IdPart.{IdPart}
 use Rattle.reg_c.specs.declared.looking.IdPart.TheVariants.{Process as IdProcess, Number as IdNumber}
 use Rattle.reg_c.specs.declared.looking.PointPart.{PointPart}
-use Rattle.reg_c.specs.declared.looking.PointPart.TheVariants.{Process as PointProcess, Number as PointNumber, Event as PointEvent}
+use Rattle.reg_c.specs.declared.looking.PointPart.TheVariants.{Process as PointProcess, Number as PointNumber}
+use Rattle.reg_c.specs.declared.looking.PointPart.TheVariants.{Event as PointEvent}
 use Rattle.reg_c.specs.Fronts.{front_at}
 use Rattle.reg_c.specs.Events.{answer_value, fault_code, no_event, no_front, no_shape, no_world, reply_code}
 
@@ -55,23 +62,29 @@ refusal_of front processes registers = (if is_err (shape_of processes registers)
 
 -- what a caller holds at first: a world in which nothing happened yet, with no reply, and no orders that it asked for
 abbrev pub IsOpened : ℕ → Extent → Held → Type 0
-IsOpened front shape h = (kept_at_first front shape ≡ Some h.world) × (h.reply ≡ None) × (h.order.items ≡ []) × (h.points.items ≡ [])
+IsOpened front shape h =
+    (kept_at_first front shape ≡ Some h.world) × (h.reply ≡ None) × (h.order.items ≡ []) × (h.points.items ≡ [])
 
 -- an event was accepted, with its reply and that reply's number; or refused, with its fault's number and no reply
 abbrev pub Goes : (Op → ℕ → Start) → Event → Made → Made → Option Reply → ℕ → Type 0
-Goes start e old new reply code = (Accepts start old e new × (reply ≡ reply_in start old e) × (code ≡ reply_code reply)) ⊎ ((fault : WorldFault) × Refuses start old e fault new × (reply ≡ None) × (code ≡ fault_code fault))
+Goes start e old new reply code =
+    (Accepts start old e new × (reply ≡ reply_in start old e) × (code ≡ reply_code reply))
+    ⊎ ((fault : WorldFault) × Refuses start old e fault new × (reply ≡ None) × (code ≡ fault_code fault))
 
 -- what an event does to a world, where there is one, or nothing where it was closed
 abbrev pub GoesIn : Event → Kept → Kept → Option Reply → ℕ → Type 0
 GoesIn e (Linear old) new reply code = (after : Made) × (new ≡ Linear after) × Goes linear e old after reply code
-GoesIn e (LocalRead old) new reply code = (after : Made) × (new ≡ LocalRead after) × Goes local_read e old after reply code
-GoesIn e (LocalWrite old) new reply code = (after : Made) × (new ≡ LocalWrite after) × Goes local_write e old after reply code
+GoesIn e (LocalRead old) new reply code =
+    (after : Made) × (new ≡ LocalRead after) × Goes local_read e old after reply code
+GoesIn e (LocalWrite old) new reply code =
+    (after : Made) × (new ≡ LocalWrite after) × Goes local_write e old after reply code
 GoesIn e Closed new reply code = (new ≡ Closed) × (reply ≡ None) × (code ≡ no_world)
 
 -- what an event does to what is held, or nothing where the numbers say no event
 abbrev pub Steps : Option Event → Held → Held → ℕ → Type 0
 Steps None old new code = (code ≡ no_event) × (new ≡ old)
-Steps (Some e) old new code = GoesIn e old.world new.world new.reply code × (new.order ≡ old.order) × (new.points ≡ old.points)
+Steps (Some e) old new code =
+    GoesIn e old.world new.world new.reply code × (new.order ≡ old.order) × (new.points ≡ old.points)
 
 -- the ids are those of `World::witness`, a serial order of the world's history
 abbrev pub IsOrder : (Op → ℕ → Start) → Made → List OpId → Type 0
@@ -79,7 +92,8 @@ IsOrder start w ids = IsSerial w.registers w.history ids × IsWitness (run_of w.
 
 -- the points are those of `World::points`, a point order of the world's history
 abbrev pub HasPoints : (Op → ℕ → Start) → Made → List Point → Type 0
-HasPoints start w points = IsPointOrder w.registers w.history points × ArePoints (run_of w.registers (run_in start w)) points
+HasPoints start w points =
+    IsPointOrder w.registers w.history points × ArePoints (run_of w.registers (run_in start w)) points
 
 -- What was asked of the order: the world's serial order, and under the front end that has one its point order, else no
 -- point; and nothing where the world was closed.

@@ -1,5 +1,6 @@
 //! The bytes that begin a log.
-ghost use Rattle.std.specs.Prelude.{◌≡◌, ◌≤◌, ◌<◌, ◌^◌, ◌⊎◌, ◌++◌, ◌∷◌, [], ℕ, List, None, IfErr, IfOk, MatchResult, codes, length};
+ghost use Rattle.std.specs.Prelude.{◌≡◌, ◌≤◌, ◌<◌, ◌^◌, ◌⊎◌, ◌++◌, ◌∷◌, [], ℕ, List, None, IfErr, IfOk, MatchResult};
+ghost use Rattle.std.specs.Prelude.{codes, length};
 ghost use Rattle.reg_base.specs.Names.{names_fault};
 ghost use Rattle.reg_base.specs.declared.limits.TheConstants.{MOST_PROCESSES};
 ghost use Rattle.reg_process.specs.declared.faults.ProcessFault.{ProcessFault};
@@ -64,8 +65,11 @@ fn names_line(alloc: Global, text: &[u8]) -> Result<Vec<u8>, AllocError>
 
 /// The names of this line, which is the only one.
 fn names_of(alloc: Global, line: &[u8]) -> Result<Names, TextFault>
-    ensures read { IfOk result (λ n. (lines_of line.now ≡ (codes "registers" ++ names_text n) ∷ []) × (names_fault n ≡ None)) }
-    ensures whole { (names : List (List ℕ)) → names_fault names ≡ None → lines_of line.now ≡ (codes "registers" ++ names_text names) ∷ [] → MatchResult result (λ n. n ≡ names) (λ f. f ≡ TextFault.OutOfMemory) }
+    ensures read { IfOk result
+        (λ n. (lines_of line.now ≡ (codes "registers" ++ names_text n) ∷ []) × (names_fault n ≡ None)) }
+    ensures whole { (names : List (List ℕ)) → names_fault names ≡ None
+        → lines_of line.now ≡ (codes "registers" ++ names_text names) ∷ []
+        → MatchResult result (λ n. n ≡ names) (λ f. f ≡ TextFault.OutOfMemory) }
 {
     let mut lines = Lines::new(line);
     let names = match read_names(alloc, &mut lines, MOST_REGISTERS) {
@@ -81,7 +85,10 @@ fn names_of(alloc: Global, line: &[u8]) -> Result<Names, TextFault>
 /// The names that the text has, one space between them.
 pub(crate) fn names_in(alloc: Global, text: &[u8]) -> Result<Names, u32>
     ensures read { IfOk result (λ n. SaysNames text.now n × (names_fault n ≡ None)) }
-    ensures why { IfErr result (λ code. ((code ≡ bad_names) × ((names : List (List ℕ)) → names_fault names ≡ None → ¬ SaysNames text.now names)) ⊎ (code ≡ refusal_code ProcessFault.OutOfMemory)) }
+    ensures why { IfErr result
+        (λ code.
+        ((code ≡ bad_names) × ((names : List (List ℕ)) → names_fault names ≡ None → ¬ SaysNames text.now names))
+        ⊎ (code ≡ refusal_code ProcessFault.OutOfMemory)) }
 {
     let Ok(line) = names_line(alloc, text) else {
         return Err(code_of_refusal(ProcessFault::OutOfMemory));
@@ -95,7 +102,9 @@ pub(crate) fn names_in(alloc: Global, text: &[u8]) -> Result<Names, u32>
 
 /// A shape of so many processes, which has this one, with a register for each name.
 pub(crate) fn shape_of_names(processes: u32, process: u8, names: &Names) -> Result<Shape, u32>
-    ensures made { IfOk result (λ s. (s ≡ record { processes = processes; registers = length names.now }) × (0 < processes) × (processes ≤ MOST_PROCESSES) × (process < processes)) }
+    ensures made { IfOk result
+        (λ s. (s ≡ record { processes = processes; registers = length names.now }) × (0 < processes)
+        × (processes ≤ MOST_PROCESSES) × (process < processes)) }
     ensures why { IfErr result (IsMisplaced processes process (length names.now)) }
 {
     let Ok(shape) = Shape::new(processes, names.count() as u32) else {

@@ -21,7 +21,9 @@ pub unsafe extern "C" fn tellwydar_node_tell_state(
 ) -> u32
     ghost held: { HeldNode }
     requires* { sem 𝓛 (lies_at the_row full_share handle held) }
-    ensures* { ∃ₛ (λ (after : HeldNode). sem 𝓛 (lies_at the_row full_share handle after) ∗ ⌜ NodeTellsState is_quiet held after result room.old room.new length.old length.new ⌝) }
+    ensures* { ∃ₛ
+        (λ (after : HeldNode). sem 𝓛 (lies_at the_row full_share handle after)
+        ∗ ⌜ NodeTellsState is_quiet held after result room.old room.new length.old length.new ⌝) }
 {
     tell_state(&mut *(handle as *mut HeldNode), is_quiet, room, length)
 }
@@ -32,7 +34,9 @@ pub unsafe extern "C" fn tellwydar_node_tell_state(
 pub unsafe extern "C" fn tellwydar_node_hear_state(handle: *mut u8, sender: u8, bytes: &[u8]) -> u32
     ghost held: { HeldNode }
     requires* { sem 𝓛 (lies_at the_row full_share handle held) }
-    ensures* { ∃ₛ (λ (after : HeldNode). sem 𝓛 (lies_at the_row full_share handle after) ∗ ⌜ NodeHearsState sender bytes.now held after result ⌝) }
+    ensures* { ∃ₛ
+        (λ (after : HeldNode). sem 𝓛 (lies_at the_row full_share handle after)
+        ∗ ⌜ NodeHearsState sender bytes.now held after result ⌝) }
 {
     hear_state(&mut *(handle as *mut HeldNode), sender, bytes)
 }
@@ -42,7 +46,9 @@ pub unsafe extern "C" fn tellwydar_node_hear_state(handle: *mut u8, sender: u8, 
 pub unsafe extern "C" fn tellwydar_node_is_over(handle: *mut u8) -> u32
     ghost held: { HeldNode }
     requires* { sem 𝓛 (lies_at the_row full_share handle held) }
-    ensures* { ∃ₛ (λ (after : HeldNode). sem 𝓛 (lies_at the_row full_share handle after) ∗ ⌜ (after ≡ held) × TellsOver held.chapter result ⌝) }
+    ensures* { ∃ₛ
+        (λ (after : HeldNode). sem 𝓛 (lies_at the_row full_share handle after)
+        ∗ ⌜ (after ≡ held) × TellsOver held.chapter result ⌝) }
 {
     is_over(&mut *(handle as *mut HeldNode))
 }

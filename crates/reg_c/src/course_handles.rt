@@ -20,7 +20,9 @@ pub unsafe extern "C" fn tellwydar_node_set_room(
 ) -> u32
     ghost held: { HeldNode }
     requires* { sem 𝓛 (lies_at the_row full_share handle held) }
-    ensures* { ∃ₛ (λ (after : HeldNode). sem 𝓛 (lies_at the_row full_share handle after) ∗ ⌜ NodeHasRoom operations entries ahead held after result ⌝) }
+    ensures* { ∃ₛ
+        (λ (after : HeldNode). sem 𝓛 (lies_at the_row full_share handle after)
+        ∗ ⌜ NodeHasRoom operations entries ahead held after result ⌝) }
 {
     set_room(&mut *(handle as *mut HeldNode), operations, entries, ahead)
 }
@@ -31,7 +33,9 @@ pub unsafe extern "C" fn tellwydar_node_set_room(
 pub unsafe extern "C" fn tellwydar_node_follow(handle: *mut u8, values: &[u64]) -> u32
     ghost held: { HeldNode }
     requires* { sem 𝓛 (lies_at the_row full_share handle held) }
-    ensures* { ∃ₛ (λ (after : HeldNode). sem 𝓛 (lies_at the_row full_share handle after) ∗ ⌜ NodeFollows values.now held after result ⌝) }
+    ensures* { ∃ₛ
+        (λ (after : HeldNode). sem 𝓛 (lies_at the_row full_share handle after)
+        ∗ ⌜ NodeFollows values.now held after result ⌝) }
 {
     follow(&mut *(handle as *mut HeldNode), values)
 }
@@ -42,7 +46,8 @@ pub unsafe extern "C" fn tellwydar_node_follow(handle: *mut u8, values: &[u64]) 
 pub unsafe extern "C" fn tellwydar_node_end(handle: *mut u8) -> u32
     ghost held: { HeldNode }
     requires* { sem 𝓛 (lies_at the_row full_share handle held) }
-    ensures* { ∃ₛ (λ (after : HeldNode). sem 𝓛 (lies_at the_row full_share handle after) ∗ ⌜ NodeEnds held after result ⌝) }
+    ensures* { ∃ₛ
+        (λ (after : HeldNode). sem 𝓛 (lies_at the_row full_share handle after) ∗ ⌜ NodeEnds held after result ⌝) }
 {
     end(&mut *(handle as *mut HeldNode))
 }
@@ -53,7 +58,9 @@ pub unsafe extern "C" fn tellwydar_node_end(handle: *mut u8) -> u32
 pub unsafe extern "C" fn tellwydar_node_course(handle: *mut u8, what: u32, running: u32) -> u64
     ghost held: { HeldNode }
     requires* { sem 𝓛 (lies_at the_row full_share handle held) }
-    ensures* { ∃ₛ (λ (after : HeldNode). sem 𝓛 (lies_at the_row full_share handle after) ∗ ⌜ (after ≡ held) × (result ≡ course_number held what running) ⌝) }
+    ensures* { ∃ₛ
+        (λ (after : HeldNode). sem 𝓛 (lies_at the_row full_share handle after)
+        ∗ ⌜ (after ≡ held) × (result ≡ course_number held what running) ⌝) }
 {
     course(&mut *(handle as *mut HeldNode), what, running)
 }

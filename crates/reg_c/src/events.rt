@@ -1,6 +1,7 @@
 //! Events, replies and faults as numbers.
 ghost use Rattle.std.specs.Prelude.{◌≡◌};
-ghost use Rattle.reg_c.specs.Events.{answer_code, answer_value, compare_and_swap_event, compare_and_swap_of, event_of, fault_code, op_of, refusal_code, reply_code};
+ghost use Rattle.reg_c.specs.Events.{answer_code, answer_value, compare_and_swap_event, compare_and_swap_of, event_of};
+ghost use Rattle.reg_c.specs.Events.{fault_code, op_of, refusal_code, reply_code};
 
 use reg_base::{Answer, Op};
 use reg_process::{ProcessFault, Reply};

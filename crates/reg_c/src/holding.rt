@@ -5,7 +5,8 @@ ghost use Rattle.reg_world.specs.declared.faults.WorldFault.{WorldFault};
 ghost use Rattle.reg_world.specs.Worlds.{new_world};
 ghost use Rattle.reg_c.specs.declared.holding.Kept.{Kept};
 ghost use Rattle.reg_c.specs.Events.{compare_and_swap_event, event_of, fault_code};
-ghost use Rattle.reg_c.specs.Worlds.{Goes, GoesIn, HasOrders, HasPoints, IsOrder, Steps, events_in, history_in, kept_at_first, kept_under as world_under, looked, number_of, refusal_of, unmade};
+ghost use Rattle.reg_c.specs.Worlds.{Goes, GoesIn, HasOrders, HasPoints, IsOrder, Steps, events_in, history_in};
+ghost use Rattle.reg_c.specs.Worlds.{kept_at_first, kept_under as world_under, looked, number_of, refusal_of, unmade};
 
 use crate::choosing::{front_of, kept_under, of_kept};
 use crate::codes::{CLOSED, NO_EVENT, NO_FRONT, NO_SHAPE};
@@ -68,8 +69,10 @@ fn begin(alloc: Global, front: u32, shape: Shape) -> Result<Kept, u32>
 ///
 /// 34: there is no such shape. 35: there is no such front end. 23: memory was refused.
 pub fn open(alloc: Global, front: u32, processes: u32, registers: u32) -> Result<Unboxed<Held>, u32>
-    ensures world { IfOk result (λ b. kept_at_first front (record { processes = processes; registers = registers }) ≡ Some b.value.world) }
-    ensures nothing_else { IfOk result (λ b. (b.value.reply ≡ None) × (b.value.order.items ≡ []) × (b.value.points.items ≡ [])) }
+    ensures world { IfOk result
+        (λ b. kept_at_first front (record { processes = processes; registers = registers }) ≡ Some b.value.world) }
+    ensures nothing_else { IfOk result
+        (λ b. (b.value.reply ≡ None) × (b.value.order.items ≡ []) × (b.value.points.items ≡ [])) }
     ensures refused { IfErr result (λ code. 0 < code) }
     ensures why { IfErr result (λ code. code ≡ refusal_of front processes registers) }
 {
@@ -248,7 +251,8 @@ pub fn look(held: &mut Held, what: u32, at: u32) -> u64
 
 /// Gives back what is held.
 pub fn close(held: &mut Held)
-    ensures { (held.new.world ≡ Kept.Closed) × (held.new.reply ≡ None) × (vec_capacity held.new.order ≡ 0) × (vec_capacity held.new.points ≡ 0) }
+    ensures { (held.new.world ≡ Kept.Closed) × (held.new.reply ≡ None) × (vec_capacity held.new.order ≡ 0)
+        × (vec_capacity held.new.points ≡ 0) }
 {
     let alloc = *held.order.allocator();
     held.world = Kept::Closed;

@@ -20,7 +20,8 @@ pub extern "C" fn tellwydar_check_serial(
     ids: &[IdRow],
     place: &mut usize,
 ) -> u32
-    ensures { (verdict : Verdict) × IsSerialVerdict processes registers entries.now [] ids.now verdict × (result ≡ verdict_code verdict) × (place.new ≡ verdict_place verdict) }
+    ensures { (verdict : Verdict) × IsSerialVerdict processes registers entries.now [] ids.now verdict
+        × (result ≡ verdict_code verdict) × (place.new ≡ verdict_place verdict) }
 {
     let size = Size {
         processes,
@@ -43,7 +44,8 @@ pub extern "C" fn tellwydar_check_points(
     points: &[PointRow],
     place: &mut usize,
 ) -> u32
-    ensures { (verdict : Verdict) × IsPointVerdict processes registers entries.now [] points.now verdict × (result ≡ verdict_code verdict) × (place.new ≡ verdict_place verdict) }
+    ensures { (verdict : Verdict) × IsPointVerdict processes registers entries.now [] points.now verdict
+        × (result ≡ verdict_code verdict) × (place.new ≡ verdict_place verdict) }
 {
     let size = Size {
         processes,
@@ -66,7 +68,8 @@ pub extern "C" fn tellwydar_check_serial_expecting(
     ids: &[IdRow],
     place: &mut usize,
 ) -> u32
-    ensures { (verdict : Verdict) × IsSerialVerdict processes registers entries.now expected.now ids.now verdict × (result ≡ verdict_code verdict) × (place.new ≡ verdict_place verdict) }
+    ensures { (verdict : Verdict) × IsSerialVerdict processes registers entries.now expected.now ids.now verdict
+        × (result ≡ verdict_code verdict) × (place.new ≡ verdict_place verdict) }
 {
     let size = Size {
         processes,
@@ -88,7 +91,8 @@ pub extern "C" fn tellwydar_check_points_expecting(
     points: &[PointRow],
     place: &mut usize,
 ) -> u32
-    ensures { (verdict : Verdict) × IsPointVerdict processes registers entries.now expected.now points.now verdict × (result ≡ verdict_code verdict) × (place.new ≡ verdict_place verdict) }
+    ensures { (verdict : Verdict) × IsPointVerdict processes registers entries.now expected.now points.now verdict
+        × (result ≡ verdict_code verdict) × (place.new ≡ verdict_place verdict) }
 {
     let size = Size {
         processes,

@@ -97,7 +97,8 @@ pub extern "C" fn tellwydar_log_head(
 #[unsafe(no_mangle)]
 pub extern "C" fn tellwydar_log_part(text: &[u8], entries: u64) -> usize
     ensures within { result ≤ length text.now }
-    ensures part { (j : Journal) → IsJournal j → BeginsWith text.now j → entries ≤ length j.entries → result ≡ length (log_text (first_entries j entries)) }
+    ensures part { (j : Journal) → IsJournal j → BeginsWith text.now j → entries ≤ length j.entries
+        → result ≡ length (log_text (first_entries j entries)) }
 {
     first_part(text, entries).len()
 }

@@ -1,7 +1,8 @@
 //! The logs of all processes of a chapter, merged over memory that the caller lends.
 ghost use Rattle.std.specs.Prelude.{◌≡◌, ◌<◌, IfOk, map};
 ghost use Rattle.reg_c.specs.NodeCodes.{log_code, log_place};
-ghost use Rattle.reg_c.specs.LogMerges.{TellsMergedLogs, logs_code, logs_log, logs_place, part_number, parts as parts_by, with_fault};
+ghost use Rattle.reg_c.specs.LogMerges.{TellsMergedLogs, logs_code, logs_log, logs_place, part_number};
+ghost use Rattle.reg_c.specs.LogMerges.{parts as parts_by, with_fault};
 
 use crate::events::code_of_refusal;
 use crate::node_codes::refusal_of_log;

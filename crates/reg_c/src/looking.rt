@@ -1,6 +1,8 @@
 //! What a caller sees of a world that it holds.
 ghost use Rattle.std.specs.Prelude.{◌≡◌};
-ghost use Rattle.reg_c.specs.Worlds.{entry_part, event_of_entry, expected_of_entry, expected_of_op, id_part, point_part, id_of_entry, kind_of_entry, kind_of_op, kind_of_answer, look_of, register_of_entry, register_of_op, value_of_entry, value_of_op};
+ghost use Rattle.reg_c.specs.Worlds.{entry_part, event_of_entry, expected_of_entry, expected_of_op, id_part};
+ghost use Rattle.reg_c.specs.Worlds.{point_part, id_of_entry, kind_of_entry, kind_of_op, kind_of_answer, look_of};
+ghost use Rattle.reg_c.specs.Worlds.{register_of_entry, register_of_op, value_of_entry, value_of_op};
 
 use crate::events::value_of_answer;
 use reg_base::{Answer, Op, OpId};

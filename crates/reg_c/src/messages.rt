@@ -3,7 +3,9 @@ ghost use Rattle.std.specs.Prelude.{◌≡◌, ◌<◌, is_some, true, None, IfE
 ghost use Rattle.reg_node.specs.Messages.{greeting_bytes};
 ghost use Rattle.reg_commands.specs.Lent.{filled};
 ghost use Rattle.reg_c.specs.Fronts.{front_at};
-ghost use Rattle.reg_c.specs.Messages.{IsOwn, IsUnstarted, StartsMessage, TellsGreeting, TellsMet, TellsStart, first_of as first_of_heard, greeting_by, heard_by, kept, key_in, met_by, met_code, met_row, no_row as no_row_is};
+ghost use Rattle.reg_c.specs.Messages.{IsOwn, IsUnstarted, StartsMessage, TellsGreeting, TellsMet, TellsStart};
+ghost use Rattle.reg_c.specs.Messages.{first_of as first_of_heard, greeting_by, heard_by, kept, key_in, met_by};
+ghost use Rattle.reg_c.specs.Messages.{met_code, met_row, no_row as no_row_is};
 
 use crate::beginning::{LogRow, names_in, shape_of_names};
 use crate::codes::{NO_FRONT, NO_SHAPE};
@@ -121,7 +123,8 @@ pub extern "C" fn tellwydar_message_start(
 
 /// The start that these bytes spell, if it is of a cluster of so many processes.
 fn own_of(bytes: &[u8], processes: usize) -> Option<MessageStart>
-    ensures { MatchOption result ((s : MessageStart) → ¬ IsOwn bytes.now processes s) (λ s. IsOwn bytes.now processes s) }
+    ensures { MatchOption result ((s : MessageStart) → ¬ IsOwn bytes.now processes s)
+        (λ s. IsOwn bytes.now processes s) }
 {
     let own = MessageStart::read(bytes)?;
     if usize::from(own.processes) == processes {

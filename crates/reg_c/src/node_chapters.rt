@@ -54,7 +54,9 @@ fn tell_of<F: FrontEnd>(
     chapter: &mut Chapter,
     is_quiet: bool,
 ) -> Result<Vec<u8>, u32>
-    ensures { MatchResult result (λ v. TellsStanding node.now.meeting.node.process.state is_quiet chapter.old v.items chapter.new) (λ code. (code ≡ refusal_code AnyFault.OutOfMemory) × (chapter.new ≡ chapter.old)) }
+    ensures { MatchResult result
+        (λ v. TellsStanding node.now.meeting.node.process.state is_quiet chapter.old v.items chapter.new)
+        (λ code. (code ≡ refusal_code AnyFault.OutOfMemory) × (chapter.new ≡ chapter.old)) }
 {
     match chapter.tell(node.meeting().node().process(), is_quiet) {
         Ok(bytes) => Ok(bytes),
@@ -63,7 +65,10 @@ fn tell_of<F: FrontEnd>(
 }
 
 fn tell_in(kept: &KeptNode, chapter: &mut Chapter, is_quiet: bool) -> Result<Vec<u8>, u32>
-    ensures { MatchResult result (λ v. (s : State) × (node_state_in kept.now ≡ Some s) × TellsStanding s is_quiet chapter.old v.items chapter.new) (λ code. IsUntold (node_state_in kept.now) (Some chapter.old) code × (chapter.new ≡ chapter.old)) }
+    ensures { MatchResult result
+        (λ v. (s : State) × (node_state_in kept.now ≡ Some s)
+        × TellsStanding s is_quiet chapter.old v.items chapter.new)
+        (λ code. IsUntold (node_state_in kept.now) (Some chapter.old) code × (chapter.new ≡ chapter.old)) }
 {
     of_kept!(kept, KeptNode, node => tell_of(node, chapter, is_quiet), Err(CLOSED))
 }

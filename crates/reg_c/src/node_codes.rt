@@ -1,6 +1,7 @@
 //! What a node refuses, and why no log is read or opened, as numbers.
 ghost use Rattle.std.specs.Prelude.{◌≡◌, ◌<◌};
-ghost use Rattle.reg_c.specs.NodeCodes.{hello_code, log_code, log_place, logged_code, meeting_code, node_code, open_code, open_place};
+ghost use Rattle.reg_c.specs.NodeCodes.{hello_code, log_code, log_place, logged_code, meeting_code, node_code};
+ghost use Rattle.reg_c.specs.NodeCodes.{open_code, open_place};
 
 use crate::events::code_of_refusal;
 use reg_node::{HelloFault, LogFault, LoggedFault, MeetingFault, NodeFault, OpenFault};

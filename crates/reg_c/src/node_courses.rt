@@ -1,7 +1,8 @@
 //! The course of a chapter of a node that a caller holds.
 ghost use Rattle.std.specs.Prelude.{◌≡◌, option_map};
 ghost use Rattle.reg_node.specs.Courses.{course_at_first, progress_of};
-ghost use Rattle.reg_c.specs.NodeCourses.{FollowsIn, NodeEnds, NodeFollows, NodeHasRoom, course_look_of, course_number, course_part, course_seen, value_of as value_in};
+ghost use Rattle.reg_c.specs.NodeCourses.{FollowsIn, NodeEnds, NodeFollows, NodeHasRoom, course_look_of, course_number};
+ghost use Rattle.reg_c.specs.NodeCourses.{course_part, course_seen, value_of as value_in};
 ghost use Rattle.reg_c.specs.Nodes.{logged_in};
 
 use crate::choosing::of_kept;

@@ -8,7 +8,8 @@ ghost use Rattle.reg_c.specs.declared.nodes.HeldNode.{HeldNode};
 ghost use Rattle.reg_c.specs.declared.nodes.KeptNode.{KeptNode};
 ghost use Rattle.reg_c.specs.contracts.nodes.HeldNode.{the_row};
 ghost use Rattle.reg_c.specs.Events.{compare_and_swap_of, op_of, refusal_code};
-ghost use Rattle.reg_c.specs.Nodes.{IsNothing, NodeCalls, NodeHands, NodeHears, NodeMarks, NodeSteps, NodeTakes, Opens, TellsBytes, frames_handed, node_number};
+ghost use Rattle.reg_c.specs.Nodes.{IsNothing, NodeCalls, NodeHands, NodeHears, NodeMarks, NodeSteps, NodeTakes, Opens};
+ghost use Rattle.reg_c.specs.Nodes.{TellsBytes, frames_handed, node_number};
 ghost use Rattle.reg_c.specs.NodePeers.{CameFrom, NodeTells, NodeWatches};
 ghost use Rattle.reg_c.specs.Processes.{TellsFrames};
 
@@ -34,7 +35,8 @@ fn put(handle: &mut *mut u8, held: *mut HeldNode)
 pub extern "C" fn tellwydar_node_new(alloc: Global, handle: &mut *mut u8) -> u32
     ensures room { 0 < result → handle.new ≡ handle.old }
     ensures why { 0 < result → result ≡ refusal_code OutOfMemory }
-    ensures* node { ⌜ result ≡ 0 ⌝ -∗ ∃ₛ (λ (held : HeldNode). sem 𝓛 (lies_at the_row full_share handle.new held) ∗ ⌜ IsNothing held ⌝) }
+    ensures* node { ⌜ result ≡ 0 ⌝
+        -∗ ∃ₛ (λ (held : HeldNode). sem 𝓛 (lies_at the_row full_share handle.new held) ∗ ⌜ IsNothing held ⌝) }
 {
     match new(alloc) {
         Ok(held) => {
@@ -52,7 +54,9 @@ pub extern "C" fn tellwydar_node_new(alloc: Global, handle: &mut *mut u8) -> u32
 pub unsafe extern "C" fn tellwydar_node_open(handle: *mut u8, text: &[u8], durable: u64) -> u32
     ghost held: { HeldNode }
     requires* { sem 𝓛 (lies_at the_row full_share handle held) }
-    ensures* { ∃ₛ (λ (after : HeldNode). sem 𝓛 (lies_at the_row full_share handle after) ∗ ⌜ Opens text.now durable held after result ⌝) }
+    ensures* { ∃ₛ
+        (λ (after : HeldNode). sem 𝓛 (lies_at the_row full_share handle after)
+        ∗ ⌜ Opens text.now durable held after result ⌝) }
 {
     open(&mut *(handle as *mut HeldNode), text, durable)
 }
@@ -67,7 +71,9 @@ pub unsafe extern "C" fn tellwydar_node_call(
 ) -> u32
     ghost held: { HeldNode }
     requires* { sem 𝓛 (lies_at the_row full_share handle held) }
-    ensures* { ∃ₛ (λ (after : HeldNode). sem 𝓛 (lies_at the_row full_share handle after) ∗ ⌜ NodeCalls (op_of kind register value) held after result ⌝) }
+    ensures* { ∃ₛ
+        (λ (after : HeldNode). sem 𝓛 (lies_at the_row full_share handle after)
+        ∗ ⌜ NodeCalls (op_of kind register value) held after result ⌝) }
 {
     call(&mut *(handle as *mut HeldNode), kind, register, value)
 }
@@ -82,7 +88,9 @@ pub unsafe extern "C" fn tellwydar_node_compare_and_swap(
 ) -> u32
     ghost held: { HeldNode }
     requires* { sem 𝓛 (lies_at the_row full_share handle held) }
-    ensures* { ∃ₛ (λ (after : HeldNode). sem 𝓛 (lies_at the_row full_share handle after) ∗ ⌜ NodeCalls (compare_and_swap_of register expected value) held after result ⌝) }
+    ensures* { ∃ₛ
+        (λ (after : HeldNode). sem 𝓛 (lies_at the_row full_share handle after)
+        ∗ ⌜ NodeCalls (compare_and_swap_of register expected value) held after result ⌝) }
 {
     compare_and_swap(&mut *(handle as *mut HeldNode), register, expected, value)
 }
@@ -92,7 +100,9 @@ pub unsafe extern "C" fn tellwydar_node_compare_and_swap(
 pub unsafe extern "C" fn tellwydar_node_take(handle: *mut u8, from: u8, bytes: &[u8]) -> u32
     ghost held: { HeldNode }
     requires* { sem 𝓛 (lies_at the_row full_share handle held) }
-    ensures* { ∃ₛ (λ (after : HeldNode). sem 𝓛 (lies_at the_row full_share handle after) ∗ ⌜ NodeTakes from bytes.now held after result ⌝) }
+    ensures* { ∃ₛ
+        (λ (after : HeldNode). sem 𝓛 (lies_at the_row full_share handle after)
+        ∗ ⌜ NodeTakes from bytes.now held after result ⌝) }
 {
     take(&mut *(handle as *mut HeldNode), from, bytes)
 }
@@ -102,7 +112,8 @@ pub unsafe extern "C" fn tellwydar_node_take(handle: *mut u8, from: u8, bytes: &
 pub unsafe extern "C" fn tellwydar_node_tick(handle: *mut u8) -> u32
     ghost held: { HeldNode }
     requires* { sem 𝓛 (lies_at the_row full_share handle held) }
-    ensures* { ∃ₛ (λ (after : HeldNode). sem 𝓛 (lies_at the_row full_share handle after) ∗ ⌜ NodeSteps Tick held after result ⌝) }
+    ensures* { ∃ₛ
+        (λ (after : HeldNode). sem 𝓛 (lies_at the_row full_share handle after) ∗ ⌜ NodeSteps Tick held after result ⌝) }
 {
     tick(&mut *(handle as *mut HeldNode))
 }
@@ -113,7 +124,9 @@ pub unsafe extern "C" fn tellwydar_node_tick(handle: *mut u8) -> u32
 pub unsafe extern "C" fn tellwydar_node_bytes(handle: *mut u8, room: &mut [u8]) -> usize
     ghost held: { HeldNode }
     requires* { sem 𝓛 (lies_at the_row full_share handle held) }
-    ensures* { ∃ₛ (λ (after : HeldNode). sem 𝓛 (lies_at the_row full_share handle after) ∗ ⌜ (after ≡ held) × TellsBytes held.bytes.items result room.old room.new ⌝) }
+    ensures* { ∃ₛ
+        (λ (after : HeldNode). sem 𝓛 (lies_at the_row full_share handle after)
+        ∗ ⌜ (after ≡ held) × TellsBytes held.bytes.items result room.old room.new ⌝) }
 {
     bytes(&mut *(handle as *mut HeldNode), room)
 }
@@ -123,7 +136,9 @@ pub unsafe extern "C" fn tellwydar_node_bytes(handle: *mut u8, room: &mut [u8]) 
 pub unsafe extern "C" fn tellwydar_node_hear(handle: *mut u8, other: u8, count: u64) -> u32
     ghost held: { HeldNode }
     requires* { sem 𝓛 (lies_at the_row full_share handle held) }
-    ensures* { ∃ₛ (λ (after : HeldNode). sem 𝓛 (lies_at the_row full_share handle after) ∗ ⌜ NodeHears other count held after result ⌝) }
+    ensures* { ∃ₛ
+        (λ (after : HeldNode). sem 𝓛 (lies_at the_row full_share handle after)
+        ∗ ⌜ NodeHears other count held after result ⌝) }
 {
     hear(&mut *(handle as *mut HeldNode), other, count)
 }
@@ -133,7 +148,9 @@ pub unsafe extern "C" fn tellwydar_node_hear(handle: *mut u8, other: u8, count: 
 pub unsafe extern "C" fn tellwydar_node_mark_durable(handle: *mut u8, count: u64) -> u32
     ghost held: { HeldNode }
     requires* { sem 𝓛 (lies_at the_row full_share handle held) }
-    ensures* { ∃ₛ (λ (after : HeldNode). sem 𝓛 (lies_at the_row full_share handle after) ∗ ⌜ NodeMarks count held after result ⌝) }
+    ensures* { ∃ₛ
+        (λ (after : HeldNode). sem 𝓛 (lies_at the_row full_share handle after)
+        ∗ ⌜ NodeMarks count held after result ⌝) }
 {
     mark_durable(&mut *(handle as *mut HeldNode), count)
 }
@@ -143,7 +160,8 @@ pub unsafe extern "C" fn tellwydar_node_mark_durable(handle: *mut u8, count: u64
 pub unsafe extern "C" fn tellwydar_node_hand_out(handle: *mut u8) -> u32
     ghost held: { HeldNode }
     requires* { sem 𝓛 (lies_at the_row full_share handle held) }
-    ensures* { ∃ₛ (λ (after : HeldNode). sem 𝓛 (lies_at the_row full_share handle after) ∗ ⌜ NodeHands held after result ⌝) }
+    ensures* { ∃ₛ
+        (λ (after : HeldNode). sem 𝓛 (lies_at the_row full_share handle after) ∗ ⌜ NodeHands held after result ⌝) }
 {
     hand_out(&mut *(handle as *mut HeldNode))
 }
@@ -158,7 +176,9 @@ pub unsafe extern "C" fn tellwydar_node_frames(
 ) -> u32
     ghost held: { HeldNode }
     requires* { sem 𝓛 (lies_at the_row full_share handle held) }
-    ensures* { ∃ₛ (λ (after : HeldNode). sem 𝓛 (lies_at the_row full_share handle after) ∗ ⌜ (after ≡ held) × TellsFrames (frames_handed held.output) result room.old room.new length.old length.new ⌝) }
+    ensures* { ∃ₛ
+        (λ (after : HeldNode). sem 𝓛 (lies_at the_row full_share handle after)
+        ∗ ⌜ (after ≡ held) × TellsFrames (frames_handed held.output) result room.old room.new length.old length.new ⌝) }
 {
     frames(&mut *(handle as *mut HeldNode), room, length)
 }
@@ -168,7 +188,9 @@ pub unsafe extern "C" fn tellwydar_node_frames(
 pub unsafe extern "C" fn tellwydar_node_look(handle: *mut u8, what: u32, register: u16) -> u64
     ghost held: { HeldNode }
     requires* { sem 𝓛 (lies_at the_row full_share handle held) }
-    ensures* { ∃ₛ (λ (after : HeldNode). sem 𝓛 (lies_at the_row full_share handle after) ∗ ⌜ (after ≡ held) × (result ≡ node_number held what register) ⌝) }
+    ensures* { ∃ₛ
+        (λ (after : HeldNode). sem 𝓛 (lies_at the_row full_share handle after)
+        ∗ ⌜ (after ≡ held) × (result ≡ node_number held what register) ⌝) }
 {
     look(&mut *(handle as *mut HeldNode), what, register)
 }
@@ -178,7 +200,9 @@ pub unsafe extern "C" fn tellwydar_node_look(handle: *mut u8, what: u32, registe
 pub unsafe extern "C" fn tellwydar_node_known(handle: *mut u8, what: u32, peer: u8) -> u64
     ghost held: { HeldNode }
     requires* { sem 𝓛 (lies_at the_row full_share handle held) }
-    ensures* { ∃ₛ (λ (after : HeldNode). sem 𝓛 (lies_at the_row full_share handle after) ∗ ⌜ (after ≡ held) × NodeTells held what peer result ⌝) }
+    ensures* { ∃ₛ
+        (λ (after : HeldNode). sem 𝓛 (lies_at the_row full_share handle after)
+        ∗ ⌜ (after ≡ held) × NodeTells held what peer result ⌝) }
 {
     known(&mut *(handle as *mut HeldNode), what, peer)
 }
@@ -189,7 +213,9 @@ pub unsafe extern "C" fn tellwydar_node_known(handle: *mut u8, what: u32, peer: 
 pub unsafe extern "C" fn tellwydar_node_watch(handle: *mut u8, peer: u8) -> u32
     ghost held: { HeldNode }
     requires* { sem 𝓛 (lies_at the_row full_share handle held) }
-    ensures* { ∃ₛ (λ (after : HeldNode). sem 𝓛 (lies_at the_row full_share handle after) ∗ ⌜ NodeWatches peer held after result ⌝) }
+    ensures* { ∃ₛ
+        (λ (after : HeldNode). sem 𝓛 (lies_at the_row full_share handle after)
+        ∗ ⌜ NodeWatches peer held after result ⌝) }
 {
     watch(&mut *(handle as *mut HeldNode), peer)
 }
@@ -199,7 +225,8 @@ pub unsafe extern "C" fn tellwydar_node_watch(handle: *mut u8, peer: u8) -> u32
 pub unsafe extern "C" fn tellwydar_node_came(handle: *mut u8, peer: u8) -> u32
     ghost held: { HeldNode }
     requires* { sem 𝓛 (lies_at the_row full_share handle held) }
-    ensures* { ∃ₛ (λ (after : HeldNode). sem 𝓛 (lies_at the_row full_share handle after) ∗ ⌜ CameFrom peer held after result ⌝) }
+    ensures* { ∃ₛ
+        (λ (after : HeldNode). sem 𝓛 (lies_at the_row full_share handle after) ∗ ⌜ CameFrom peer held after result ⌝) }
 {
     came(&mut *(handle as *mut HeldNode), peer)
 }
@@ -209,7 +236,10 @@ pub unsafe extern "C" fn tellwydar_node_came(handle: *mut u8, peer: u8) -> u32
 pub unsafe extern "C" fn tellwydar_node_close(handle: *mut u8)
     ghost held: { HeldNode }
     requires* { sem 𝓛 (lies_at the_row full_share handle held) }
-    ensures* { ∃ₛ (λ (after : HeldNode). sem 𝓛 (lies_at the_row full_share handle after) ∗ ⌜ (after.node ≡ KeptNode.Closed) × (after.output ≡ None) × (after.chapter ≡ None) × (after.peers ≡ None) × (after.course ≡ None) × (vec_capacity after.bytes ≡ 0) ⌝) }
+    ensures* { ∃ₛ
+        (λ (after : HeldNode). sem 𝓛 (lies_at the_row full_share handle after)
+        ∗ ⌜ (after.node ≡ KeptNode.Closed) × (after.output ≡ None) × (after.chapter ≡ None) × (after.peers ≡ None)
+        × (after.course ≡ None) × (vec_capacity after.bytes ≡ 0) ⌝) }
 {
     close(&mut *(handle as *mut HeldNode))
 }

@@ -1,6 +1,7 @@
 //! What a caller sees of a node that it holds.
 ghost use Rattle.std.specs.Prelude.{◌≡◌};
-ghost use Rattle.reg_c.specs.Nodes.{flag, logged_in, node_look_of, node_looked, node_number, node_part, node_state_in, reply_handed};
+ghost use Rattle.reg_c.specs.Nodes.{flag, logged_in, node_look_of, node_looked, node_number, node_part, node_state_in};
+ghost use Rattle.reg_c.specs.Nodes.{reply_handed};
 ghost use Rattle.reg_c.specs.Processes.{state_part};
 ghost use Rattle.reg_c.specs.Worlds.{seen};
 

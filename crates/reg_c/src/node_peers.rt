@@ -81,7 +81,8 @@ fn silent_in(peers: &Option<Peers>, peer: u8) -> u64
 
 /// What the process of the node that is held knows of another one.
 fn known_in(kept: &KeptNode, peer: u8) -> Option<Known>
-    ensures { MatchOption (node_state_in kept.now) (result ≡ None) (λ s. MatchOption result (IsNoPeer s peer) (λ k. k ≡ known_of (peer_at s peer))) }
+    ensures { MatchOption (node_state_in kept.now) (result ≡ None)
+        (λ s. MatchOption result (IsNoPeer s peer) (λ k. k ≡ known_of (peer_at s peer))) }
 {
     of_kept!(kept, KeptNode, node => node.meeting().node().process().known(peer), None)
 }

@@ -4,7 +4,9 @@ ghost use Rattle.reg_process.specs.declared.steps.Step.TheVariants.{Tick};
 ghost use Rattle.reg_node.specs.Logged.{Writes, WritesNothing};
 ghost use Rattle.reg_c.specs.declared.nodes.KeptNode.{KeptNode};
 ghost use Rattle.reg_c.specs.Events.{compare_and_swap_of, op_of, refusal_code};
-ghost use Rattle.reg_c.specs.Nodes.{HandsAs, HandsIn, HearsAs, HearsIn, IsNothing, MarksAs, MarksIn, NodeCalls, NodeHands, NodeHears, NodeMarks, NodeSteps, NodeTakes, NoStep, Steps, StepsIn, TellsBytes, frames_handed};
+ghost use Rattle.reg_c.specs.Nodes.{HandsAs, HandsIn, HearsAs, HearsIn, IsNothing, MarksAs, MarksIn, NodeCalls};
+ghost use Rattle.reg_c.specs.Nodes.{NodeHands, NodeHears, NodeMarks, NodeSteps, NodeTakes, NoStep, Steps, StepsIn};
+ghost use Rattle.reg_c.specs.Nodes.{TellsBytes, frames_handed};
 ghost use Rattle.reg_c.specs.Processes.{TellsFrames};
 
 use crate::choosing::of_kept;
@@ -88,7 +90,8 @@ pub fn new(alloc: Global) -> Result<Unboxed<HeldNode>, u32>
 
 /// Makes a step at a node.
 fn write<F: FrontEnd>(node: &mut LoggedNode<F>, step: &Step) -> Result<Vec<u8>, LoggedFault>
-    ensures { MatchResult result (λ v. Writes F.start node.old step.now v.items node.new) (λ fault. WritesNothing F.start node.old step.now fault node.new) }
+    ensures { MatchResult result (λ v. Writes F.start node.old step.now v.items node.new)
+        (λ fault. WritesNothing F.start node.old step.now fault node.new) }
 {
     match *step {
         Step::Call { op } => node.call(op),
@@ -287,7 +290,8 @@ pub fn frames(held: &mut HeldNode, room: &mut [u8], length: &mut usize) -> u32
 
 /// Gives back what is held.
 pub fn close(held: &mut HeldNode)
-    ensures { (held.new.node ≡ KeptNode.Closed) × (held.new.output ≡ None) × (held.new.chapter ≡ None) × (held.new.peers ≡ None) × (held.new.course ≡ None) × (vec_capacity held.new.bytes ≡ 0) }
+    ensures { (held.new.node ≡ KeptNode.Closed) × (held.new.output ≡ None) × (held.new.chapter ≡ None)
+        × (held.new.peers ≡ None) × (held.new.course ≡ None) × (vec_capacity held.new.bytes ≡ 0) }
 {
     let alloc = *held.bytes.allocator();
     held.node = KeptNode::Closed;

@@ -16,14 +16,16 @@ use std::alloc::Global;
 /// A node that goes on after the log that was read, under the front end that it names.
 fn keep(alloc: Global, read: ReadLog) -> Result<KeptNode, OpenFault>
     ensures kept { read.crc ≡ log_crc read.log → IfOk result (KeptAfter read.log) }
-    ensures why { IfErr result (IsOpenFault (start_of read.log.front) read.log.shape read.log.id.process read.log.entries) }
+    ensures why { IfErr result
+        (IsOpenFault (start_of read.log.front) read.log.shape read.log.id.process read.log.entries) }
 {
     kept_under!(read.log.front, KeptNode, LoggedNode::open(alloc, read))
 }
 
 /// The log that a text is, with how much of the text it is.
 fn read(alloc: Global, text: &[u8], durable: u64) -> Result<ReadLog, LogRefusal>
-    ensures read { IfOk result (λ r. IsReadAs text.now durable r.log × (r.whole ≡ length (log_text r.log)) × (r.crc ≡ log_crc r.log)) }
+    ensures read { IfOk result (λ r. IsReadAs text.now durable r.log × (r.whole ≡ length (log_text r.log))
+        × (r.crc ≡ log_crc r.log)) }
     ensures why { IfErr result (λ w. (0 < w.code) × IsUnread text.now durable w.code w.place) }
 {
     match read_log(alloc, text, durable) {
@@ -43,8 +45,11 @@ struct Begun {
 }
 
 fn begin(alloc: Global, text: &[u8], durable: u64) -> Result<Begun, LogRefusal>
-    ensures begun { IfOk result (λ b. (j : Journal) × IsReadAs text.now durable j × KeptAfter j b.node × (b.chapter ≡ first_chapter j) × (b.peers ≡ first_watched j.shape.processes) × (b.whole ≡ length (log_text j))) }
-    ensures why { IfErr result (λ w. (0 < w.code) × (IsUnread text.now durable w.code w.place ⊎ IsUnopened text.now durable w.code w.place)) }
+    ensures begun { IfOk result
+        (λ b. (j : Journal) × IsReadAs text.now durable j × KeptAfter j b.node × (b.chapter ≡ first_chapter j)
+        × (b.peers ≡ first_watched j.shape.processes) × (b.whole ≡ length (log_text j))) }
+    ensures why { IfErr result
+        (λ w. (0 < w.code) × (IsUnread text.now durable w.code w.place ⊎ IsUnopened text.now durable w.code w.place)) }
 {
     let read = read(alloc, text, durable)?;
     let whole = read.whole;

@@ -7,7 +7,8 @@ ghost use Rattle.reg_c.specs.declared.processes.HeldProcess.{HeldProcess};
 ghost use Rattle.reg_c.specs.declared.processes.KeptProcess.{KeptProcess};
 ghost use Rattle.reg_c.specs.contracts.processes.HeldProcess.{the_row};
 ghost use Rattle.reg_c.specs.Events.{compare_and_swap_of, op_of};
-ghost use Rattle.reg_c.specs.Processes.{Calls, IsFirstProcess, Made, Takes, TellsFrames, TellsKnown, process_number, process_refusal, state_in};
+ghost use Rattle.reg_c.specs.Processes.{Calls, IsFirstProcess, Made, Takes, TellsFrames, TellsKnown, process_number};
+ghost use Rattle.reg_c.specs.Processes.{process_refusal, state_in};
 
 use crate::processes::{
     HeldProcess, call, close, compare_and_swap, frames, known, look, open, take, tick,
@@ -37,7 +38,10 @@ pub extern "C" fn tellwydar_process_new(
     ensures why { 0 < result → result ≡ process_refusal front processes registers me }
     ensures front { result ≡ 0 → front < 3 }
     ensures me { result ≡ 0 → me < processes }
-    ensures* process { ⌜ result ≡ 0 ⌝ -∗ ∃ₛ (λ (held : HeldProcess). sem 𝓛 (lies_at the_row full_share handle.new held) ∗ ⌜ IsFirstProcess front me (record { processes = processes; registers = registers }) held ⌝) }
+    ensures* process { ⌜ result ≡ 0 ⌝
+        -∗ ∃ₛ
+        (λ (held : HeldProcess). sem 𝓛 (lies_at the_row full_share handle.new held)
+        ∗ ⌜ IsFirstProcess front me (record { processes = processes; registers = registers }) held ⌝) }
 {
     match open(alloc, front, processes, registers, me) {
         Ok(held) => {
@@ -59,7 +63,9 @@ pub unsafe extern "C" fn tellwydar_process_call(
 ) -> u32
     ghost held: { HeldProcess }
     requires* { sem 𝓛 (lies_at the_row full_share handle held) }
-    ensures* { ∃ₛ (λ (after : HeldProcess). sem 𝓛 (lies_at the_row full_share handle after) ∗ ⌜ Calls (op_of kind register value) held after result ⌝) }
+    ensures* { ∃ₛ
+        (λ (after : HeldProcess). sem 𝓛 (lies_at the_row full_share handle after)
+        ∗ ⌜ Calls (op_of kind register value) held after result ⌝) }
 {
     call(&mut *(handle as *mut HeldProcess), kind, register, value)
 }
@@ -74,7 +80,9 @@ pub unsafe extern "C" fn tellwydar_process_compare_and_swap(
 ) -> u32
     ghost held: { HeldProcess }
     requires* { sem 𝓛 (lies_at the_row full_share handle held) }
-    ensures* { ∃ₛ (λ (after : HeldProcess). sem 𝓛 (lies_at the_row full_share handle after) ∗ ⌜ Calls (compare_and_swap_of register expected value) held after result ⌝) }
+    ensures* { ∃ₛ
+        (λ (after : HeldProcess). sem 𝓛 (lies_at the_row full_share handle after)
+        ∗ ⌜ Calls (compare_and_swap_of register expected value) held after result ⌝) }
 {
     compare_and_swap(
         &mut *(handle as *mut HeldProcess),
@@ -90,7 +98,9 @@ pub unsafe extern "C" fn tellwydar_process_compare_and_swap(
 pub unsafe extern "C" fn tellwydar_process_take(handle: *mut u8, from: u8, bytes: &[u8]) -> u32
     ghost held: { HeldProcess }
     requires* { sem 𝓛 (lies_at the_row full_share handle held) }
-    ensures* { ∃ₛ (λ (after : HeldProcess). sem 𝓛 (lies_at the_row full_share handle after) ∗ ⌜ Takes from bytes.now held after result ⌝) }
+    ensures* { ∃ₛ
+        (λ (after : HeldProcess). sem 𝓛 (lies_at the_row full_share handle after)
+        ∗ ⌜ Takes from bytes.now held after result ⌝) }
 {
     take(&mut *(handle as *mut HeldProcess), from, bytes)
 }
@@ -100,7 +110,8 @@ pub unsafe extern "C" fn tellwydar_process_take(handle: *mut u8, from: u8, bytes
 pub unsafe extern "C" fn tellwydar_process_tick(handle: *mut u8) -> u32
     ghost held: { HeldProcess }
     requires* { sem 𝓛 (lies_at the_row full_share handle held) }
-    ensures* { ∃ₛ (λ (after : HeldProcess). sem 𝓛 (lies_at the_row full_share handle after) ∗ ⌜ Made Tick held after result ⌝) }
+    ensures* { ∃ₛ
+        (λ (after : HeldProcess). sem 𝓛 (lies_at the_row full_share handle after) ∗ ⌜ Made Tick held after result ⌝) }
 {
     tick(&mut *(handle as *mut HeldProcess))
 }
@@ -115,7 +126,9 @@ pub unsafe extern "C" fn tellwydar_process_frames(
 ) -> u32
     ghost held: { HeldProcess }
     requires* { sem 𝓛 (lies_at the_row full_share handle held) }
-    ensures* { ∃ₛ (λ (after : HeldProcess). sem 𝓛 (lies_at the_row full_share handle after) ∗ ⌜ (after ≡ held) × TellsFrames held.frames.items result room.old room.new length.old length.new ⌝) }
+    ensures* { ∃ₛ
+        (λ (after : HeldProcess). sem 𝓛 (lies_at the_row full_share handle after)
+        ∗ ⌜ (after ≡ held) × TellsFrames held.frames.items result room.old room.new length.old length.new ⌝) }
 {
     frames(&mut *(handle as *mut HeldProcess), room, length)
 }
@@ -125,7 +138,9 @@ pub unsafe extern "C" fn tellwydar_process_frames(
 pub unsafe extern "C" fn tellwydar_process_look(handle: *mut u8, what: u32, register: u16) -> u64
     ghost held: { HeldProcess }
     requires* { sem 𝓛 (lies_at the_row full_share handle held) }
-    ensures* { ∃ₛ (λ (after : HeldProcess). sem 𝓛 (lies_at the_row full_share handle after) ∗ ⌜ (after ≡ held) × (result ≡ process_number held what register) ⌝) }
+    ensures* { ∃ₛ
+        (λ (after : HeldProcess). sem 𝓛 (lies_at the_row full_share handle after)
+        ∗ ⌜ (after ≡ held) × (result ≡ process_number held what register) ⌝) }
 {
     look(&mut *(handle as *mut HeldProcess), what, register)
 }
@@ -135,7 +150,9 @@ pub unsafe extern "C" fn tellwydar_process_look(handle: *mut u8, what: u32, regi
 pub unsafe extern "C" fn tellwydar_process_known(handle: *mut u8, what: u32, peer: u8) -> u64
     ghost held: { HeldProcess }
     requires* { sem 𝓛 (lies_at the_row full_share handle held) }
-    ensures* { ∃ₛ (λ (after : HeldProcess). sem 𝓛 (lies_at the_row full_share handle after) ∗ ⌜ (after ≡ held) × TellsKnown (state_in held.process) what peer result ⌝) }
+    ensures* { ∃ₛ
+        (λ (after : HeldProcess). sem 𝓛 (lies_at the_row full_share handle after)
+        ∗ ⌜ (after ≡ held) × TellsKnown (state_in held.process) what peer result ⌝) }
 {
     known(&mut *(handle as *mut HeldProcess), what, peer)
 }
@@ -145,7 +162,9 @@ pub unsafe extern "C" fn tellwydar_process_known(handle: *mut u8, what: u32, pee
 pub unsafe extern "C" fn tellwydar_process_close(handle: *mut u8)
     ghost held: { HeldProcess }
     requires* { sem 𝓛 (lies_at the_row full_share handle held) }
-    ensures* { ∃ₛ (λ (after : HeldProcess). sem 𝓛 (lies_at the_row full_share handle after) ∗ ⌜ (after.process ≡ KeptProcess.Closed) × (after.reply ≡ None) × (vec_capacity after.frames ≡ 0) ⌝) }
+    ensures* { ∃ₛ
+        (λ (after : HeldProcess). sem 𝓛 (lies_at the_row full_share handle after)
+        ∗ ⌜ (after.process ≡ KeptProcess.Closed) × (after.reply ≡ None) × (vec_capacity after.frames ≡ 0) ⌝) }
 {
     close(&mut *(handle as *mut HeldProcess))
 }

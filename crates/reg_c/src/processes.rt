@@ -1,5 +1,6 @@
 //! A process that a caller holds.
-ghost use Rattle.std.specs.Prelude.{◌≡◌, ◌<◌, ◌⊎◌, ◌++◌, Some, None, IfErr, IfOk, MatchOption, MatchResult, vec_capacity};
+ghost use Rattle.std.specs.Prelude.{◌≡◌, ◌<◌, ◌⊎◌, ◌++◌, Some, None, IfErr, IfOk, MatchOption, MatchResult};
+ghost use Rattle.std.specs.Prelude.{vec_capacity};
 ghost use Rattle.reg_frames.specs.Spelling.{Fits};
 ghost use Rattle.reg_process.specs.Faults.{NewRefused};
 ghost use Rattle.reg_process.specs.Known.{IsNoPeer, known_of};
@@ -8,7 +9,10 @@ ghost use Rattle.reg_process.specs.declared.faults.ProcessFault.{ProcessFault};
 ghost use Rattle.reg_process.specs.declared.steps.Step.TheVariants.{Tick};
 ghost use Rattle.reg_c.specs.declared.processes.KeptProcess.{KeptProcess};
 ghost use Rattle.reg_c.specs.Events.{compare_and_swap_of, no_frame, op_of, refusal_code};
-ghost use Rattle.reg_c.specs.Processes.{AllFit, Calls, IsFirstProcess, IsUnspelled, Made, Makes, MakesIn, Takes, TellsFrames, TellsKnown, all_bytes, first_process, kept_process, process_at_first, process_looked, process_number, process_refusal, put_bytes, running_code, state_in, state_part, unmade_process, with_room};
+ghost use Rattle.reg_c.specs.Processes.{AllFit, Calls, IsFirstProcess, IsUnspelled, Made, Makes, MakesIn, Takes};
+ghost use Rattle.reg_c.specs.Processes.{TellsFrames, TellsKnown, all_bytes, first_process, kept_process};
+ghost use Rattle.reg_c.specs.Processes.{process_at_first, process_looked, process_number, process_refusal, put_bytes};
+ghost use Rattle.reg_c.specs.Processes.{running_code, state_in, state_part, unmade_process, with_room};
 
 use crate::choosing::{front_of, kept_under, of_kept};
 use crate::codes::{CLOSED, NO_EVENT, NO_FRAME, NO_FRONT, NO_SHAPE};
@@ -51,7 +55,8 @@ struct Given {
 
 /// A process of this front end that did nothing yet.
 fn new_kept(alloc: Global, front: Front, shape: Shape, me: u8) -> Result<KeptProcess, ProcessFault>
-    ensures process { IfOk result (λ kept. (kept ≡ kept_process front (first_process me shape)) × (me < shape.processes)) }
+    ensures process { IfOk result
+        (λ kept. (kept ≡ kept_process front (first_process me shape)) × (me < shape.processes)) }
     ensures why { IfErr result (λ fault. NewRefused shape.processes me fault) }
 {
     kept_under!(front, KeptProcess, Process::new(alloc, shape, me))
@@ -84,7 +89,8 @@ pub fn open(
     registers: u32,
     me: u8,
 ) -> Result<Unboxed<HeldProcess>, u32>
-    ensures process { IfOk result (λ b. IsFirstProcess front me (record { processes = processes; registers = registers }) b.value) }
+    ensures process { IfOk result
+        (λ b. IsFirstProcess front me (record { processes = processes; registers = registers }) b.value) }
     ensures refused { IfErr result (λ code. 0 < code) }
     ensures why { IfErr result (λ code. code ≡ process_refusal front processes registers me) }
 {
@@ -105,7 +111,8 @@ pub fn open(
 
 /// Makes a step at a process, with a list for its frames.
 fn make<F: FrontEnd>(process: &mut Process<F>, list: Vec<Put>, step: &Step) -> Given
-    ensures { Makes F.start step.now (with_room (vec_capacity list) process.old) process.new result.frames.items result.reply result.code }
+    ensures { Makes F.start step.now (with_room (vec_capacity list) process.old) process.new result.frames.items
+        result.reply result.code }
 {
     let alloc = *list.allocator();
     process.reuse(list);
@@ -188,7 +195,8 @@ pub fn tick(held: &mut HeldProcess) -> u32
 
 /// Adds a frame: a byte for its receiver, and what spells it.
 fn spell(bytes: &mut Vec<u8>, put: &Put) -> Result<(), u32>
-    ensures { MatchResult result (λ _. Fits put.now.frame × (bytes.new.items ≡ bytes.old.items ++ put_bytes put.now)) (λ code. (code ≡ refusal_code ProcessFault.OutOfMemory) ⊎ ((code ≡ no_frame) × ¬ Fits put.now.frame)) }
+    ensures { MatchResult result (λ _. Fits put.now.frame × (bytes.new.items ≡ bytes.old.items ++ put_bytes put.now))
+        (λ code. (code ≡ refusal_code ProcessFault.OutOfMemory) ⊎ ((code ≡ no_frame) × ¬ Fits put.now.frame)) }
 {
     let alloc = *bytes.allocator();
     let spelled = match encode(alloc, &put.frame) {
@@ -207,7 +215,8 @@ fn spell(bytes: &mut Vec<u8>, put: &Put) -> Result<(), u32>
 
 /// The bytes of all frames, in their order.
 fn spell_all(alloc: Global, puts: &[Put]) -> Result<Vec<u8>, u32>
-    ensures { MatchResult result (λ v. AllFit puts.now × (v.items ≡ all_bytes puts.now)) (λ code. IsUnspelled puts.now code) }
+    ensures { MatchResult result (λ v. AllFit puts.now × (v.items ≡ all_bytes puts.now))
+        (λ code. IsUnspelled puts.now code) }
 {
     let mut bytes = Vec::new(alloc);
     for put in puts {
@@ -298,7 +307,8 @@ pub fn look(held: &mut HeldProcess, what: u32, register: u16) -> u64
 
 /// What the process that is held knows of another one.
 fn known_in(kept: &KeptProcess, peer: u8) -> Option<Known>
-    ensures { MatchOption (state_in kept.now) (result ≡ None) (λ s. MatchOption result (IsNoPeer s peer) (λ k. k ≡ known_of (peer_at s peer))) }
+    ensures { MatchOption (state_in kept.now) (result ≡ None)
+        (λ s. MatchOption result (IsNoPeer s peer) (λ k. k ≡ known_of (peer_at s peer))) }
 {
     of_kept!(kept, KeptProcess, process => process.known(peer), None)
 }

@@ -35,7 +35,14 @@ fn add(
     expected: Option<u64>,
     place: usize,
 ) -> Result<(), Unread>
-    ensures ok { MatchResult result (λ _. (e : Entry) × (entry_of row.now expected ≡ Some e) × (history.new.entries ≡ history.old.entries ++ e ∷ [])) (λ why. (why ≡ Unread.OutOfMemory) ⊎ ((why ≡ Unread.OutOfPlace place) × IsHistory history.old.shape.processes history.old.shape.registers history.old.entries × MatchOption (entry_of row.now expected) (Unit {0}) (λ e. ¬ IsInPlace history.old.shape.processes history.old.shape.registers history.old.entries e))) }
+    ensures ok { MatchResult result
+        (λ _. (e : Entry) × (entry_of row.now expected ≡ Some e)
+        × (history.new.entries ≡ history.old.entries ++ e ∷ []))
+        (λ why. (why ≡ Unread.OutOfMemory)
+        ⊎ ((why ≡ Unread.OutOfPlace place)
+        × IsHistory history.old.shape.processes history.old.shape.registers history.old.entries
+        × MatchOption (entry_of row.now expected) (Unit {0})
+        (λ e. ¬ IsInPlace history.old.shape.processes history.old.shape.registers history.old.entries e))) }
     ensures shape { history.new.shape ≡ history.old.shape }
 {
     // (for the proof: by this getter's contract the history is one, each entry in place)
@@ -64,7 +71,10 @@ pub fn read(
     rows: &[EntryRow],
     expected: &[u64],
 ) -> Result<History, Unread>
-    ensures { MatchResult result (λ h. (h.shape ≡ record { processes = size.processes; registers = size.registers }) × Say rows.now expected.now h.entries) (λ why. IsUnread size.processes size.registers rows.now expected.now why) }
+    ensures { MatchResult result
+        (λ h. (h.shape ≡ record { processes = size.processes; registers = size.registers })
+        × Say rows.now expected.now h.entries)
+        (λ why. IsUnread size.processes size.registers rows.now expected.now why) }
 {
     let Ok(shape) = Shape::new(size.processes, size.registers) else {
         return Err(Unread::NoShape);

@@ -53,7 +53,8 @@ fn refuse(fault: NoRoom, row: &mut RoomRow) -> u32
 
 /// Tells the room in chapters of this shape.
 fn tell_room(shape: Shape, operations: u64, entries: u64, row: &mut RoomRow) -> u32
-    ensures { TellsRoomOf shape (operations_of (given_by operations)) (entries_of shape (given_by entries)) row.old row.new result }
+    ensures { TellsRoomOf shape (operations_of (given_by operations)) (entries_of shape (given_by entries)) row.old
+        row.new result }
 {
     match room_in(shape, given(operations), given(entries)) {
         Ok(room) => {

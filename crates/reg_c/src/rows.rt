@@ -70,7 +70,10 @@ pub fn entry(row: &EntryRow, expected: Option<u64>) -> Option<Entry>
 
 /// The call of a compare-and-swap, None where there is no expected value.
 fn compare_and_swap(row: &EntryRow, expected: Option<u64>) -> Option<Entry>
-    ensures { result ≡ option_map (λ e. Entry.Called row.now.at (operation_of row.now) (Op.CompareAndSwap row.now.register e row.now.value)) expected }
+    ensures { result
+        ≡ option_map
+        (λ e. Entry.Called row.now.at (operation_of row.now) (Op.CompareAndSwap row.now.register e row.now.value))
+        expected }
 {
     let EntryRow {
         value,

@@ -3,7 +3,8 @@ ghost use Rattle.std.specs.Prelude.{◌≡◌, ◌==◌, not, Some, option_copie
 ghost use Rattle.std.specs.Str.{IsUtf8};
 ghost use Rattle.reg_commands.specs.declared.command.Command.{Command};
 ghost use Rattle.reg_observed.specs.declared.flags.JudgeFlags.{JudgeFlags as AnyFlags};
-ghost use Rattle.reg_c.specs.Texts.{IsJudgement, Tells, TellsJudgement, TellsMerged, TellsStory, TellsVerdict, judge_flags};
+ghost use Rattle.reg_c.specs.Texts.{IsJudgement, Tells, TellsJudgement, TellsMerged, TellsStory, TellsVerdict};
+ghost use Rattle.reg_c.specs.Texts.{judge_flags};
 
 use reg_commands::{Command, Lengths, OverText, Response, tell};
 use reg_observed::{JudgeFlags, judge_text};
@@ -152,7 +153,8 @@ pub extern "C" fn tellwydar_judge(
     errors: &mut [u8],
     lengths: &mut Lengths,
 ) -> u8
-    ensures { TellsJudgement (judge_flags (not (report == 0))) text.now result output.old output.new errors.old errors.new lengths.new }
+    ensures { TellsJudgement (judge_flags (not (report == 0))) text.now result output.old output.new errors.old
+        errors.new lengths.new }
 {
     let flags = JudgeFlags {
         first: None,
@@ -188,7 +190,9 @@ pub extern "C" fn tellwydar_judge_from(
     errors: &mut [u8],
     lengths: &mut Lengths,
 ) -> u8
-    ensures { IsUtf8 first.now → (flags : AnyFlags) × (option_copied flags.first ≡ Some first.now) × (flags.report ≡ not (report == 0)) × TellsJudgement flags text.now result output.old output.new errors.old errors.new lengths.new }
+    ensures { IsUtf8 first.now
+        → (flags : AnyFlags) × (option_copied flags.first ≡ Some first.now) × (flags.report ≡ not (report == 0))
+        × TellsJudgement flags text.now result output.old output.new errors.old errors.new lengths.new }
 {
     judged(alloc, flags_from(first, report), text).put(output, errors, lengths)
 }

@@ -1,7 +1,8 @@
 //! The checkers, over histories and orders that the caller lends.
 ghost use Rattle.std.specs.Prelude.{◌≡◌, IfOk, map};
 ghost use Rattle.reg_c.specs.Rows.{id_of, point_of};
-ghost use Rattle.reg_c.specs.Verdicts.{IsSerialVerdict, IsPointVerdict, fault_code, fault_place, unread_code, unread_place, verdict_code, verdict_place};
+ghost use Rattle.reg_c.specs.Verdicts.{IsSerialVerdict, IsPointVerdict, fault_code, fault_place, unread_code};
+ghost use Rattle.reg_c.specs.Verdicts.{unread_place, verdict_code, verdict_place};
 
 use crate::reading::{Size, Unread, read};
 use crate::rows::{EntryRow, IdRow, PointRow, id, point};

@@ -33,7 +33,10 @@ pub extern "C" fn tellwydar_world_new(
     ensures room { 0 < result → handle.new ≡ handle.old }
     ensures why { 0 < result → result ≡ refusal_of front processes registers }
     ensures front { result ≡ 0 → front < 3 }
-    ensures* world { ⌜ result ≡ 0 ⌝ -∗ ∃ₛ (λ (held : Held). sem 𝓛 (lies_at the_row full_share handle.new held) ∗ ⌜ IsOpened front (record { processes = processes; registers = registers }) held ⌝) }
+    ensures* world { ⌜ result ≡ 0 ⌝
+        -∗ ∃ₛ
+        (λ (held : Held). sem 𝓛 (lies_at the_row full_share handle.new held)
+        ∗ ⌜ IsOpened front (record { processes = processes; registers = registers }) held ⌝) }
 {
     match open(alloc, front, processes, registers) {
         Ok(held) => {
@@ -57,7 +60,9 @@ pub unsafe extern "C" fn tellwydar_world_step(
 ) -> u32
     ghost held: { Held }
     requires* { sem 𝓛 (lies_at the_row full_share handle held) }
-    ensures* { ∃ₛ (λ (after : Held). sem 𝓛 (lies_at the_row full_share handle after) ∗ ⌜ Steps (event_of kind process number from value) held after result ⌝) }
+    ensures* { ∃ₛ
+        (λ (after : Held). sem 𝓛 (lies_at the_row full_share handle after)
+        ∗ ⌜ Steps (event_of kind process number from value) held after result ⌝) }
 {
     step(
         &mut *(handle as *mut Held),
@@ -80,7 +85,9 @@ pub unsafe extern "C" fn tellwydar_world_compare_and_swap(
 ) -> u32
     ghost held: { Held }
     requires* { sem 𝓛 (lies_at the_row full_share handle held) }
-    ensures* { ∃ₛ (λ (after : Held). sem 𝓛 (lies_at the_row full_share handle after) ∗ ⌜ Steps (compare_and_swap_event process register expected value) held after result ⌝) }
+    ensures* { ∃ₛ
+        (λ (after : Held). sem 𝓛 (lies_at the_row full_share handle after)
+        ∗ ⌜ Steps (compare_and_swap_event process register expected value) held after result ⌝) }
 {
     compare_and_swap(
         &mut *(handle as *mut Held),
@@ -97,7 +104,11 @@ pub unsafe extern "C" fn tellwydar_world_compare_and_swap(
 pub unsafe extern "C" fn tellwydar_world_arrange(handle: *mut u8) -> u32
     ghost held: { Held }
     requires* { sem 𝓛 (lies_at the_row full_share handle held) }
-    ensures* { ∃ₛ (λ (after : Held). sem 𝓛 (lies_at the_row full_share handle after) ∗ ⌜ (after.world ≡ held.world) × (after.reply ≡ held.reply) × (result ≡ 0 → HasOrders after.world after.order.items after.points.items) × (0 < result → result ≡ fault_code WorldFault.OutOfMemory) × (0 < result → after ≡ held) ⌝) }
+    ensures* { ∃ₛ
+        (λ (after : Held). sem 𝓛 (lies_at the_row full_share handle after)
+        ∗ ⌜ (after.world ≡ held.world) × (after.reply ≡ held.reply)
+        × (result ≡ 0 → HasOrders after.world after.order.items after.points.items)
+        × (0 < result → result ≡ fault_code WorldFault.OutOfMemory) × (0 < result → after ≡ held) ⌝) }
 {
     arrange(&mut *(handle as *mut Held))
 }
@@ -107,7 +118,9 @@ pub unsafe extern "C" fn tellwydar_world_arrange(handle: *mut u8) -> u32
 pub unsafe extern "C" fn tellwydar_world_look(handle: *mut u8, what: u32, at: u32) -> u64
     ghost held: { Held }
     requires* { sem 𝓛 (lies_at the_row full_share handle held) }
-    ensures* { ∃ₛ (λ (after : Held). sem 𝓛 (lies_at the_row full_share handle after) ∗ ⌜ (after ≡ held) × (result ≡ number_of held what at) ⌝) }
+    ensures* { ∃ₛ
+        (λ (after : Held). sem 𝓛 (lies_at the_row full_share handle after)
+        ∗ ⌜ (after ≡ held) × (result ≡ number_of held what at) ⌝) }
 {
     look(&mut *(handle as *mut Held), what, at)
 }
@@ -117,7 +130,10 @@ pub unsafe extern "C" fn tellwydar_world_look(handle: *mut u8, what: u32, at: u3
 pub unsafe extern "C" fn tellwydar_world_close(handle: *mut u8)
     ghost held: { Held }
     requires* { sem 𝓛 (lies_at the_row full_share handle held) }
-    ensures* { ∃ₛ (λ (after : Held). sem 𝓛 (lies_at the_row full_share handle after) ∗ ⌜ (after.world ≡ Kept.Closed) × (after.reply ≡ None) × (vec_capacity after.order ≡ 0) × (vec_capacity after.points ≡ 0) ⌝) }
+    ensures* { ∃ₛ
+        (λ (after : Held). sem 𝓛 (lies_at the_row full_share handle after)
+        ∗ ⌜ (after.world ≡ Kept.Closed) × (after.reply ≡ None) × (vec_capacity after.order ≡ 0)
+        × (vec_capacity after.points ≡ 0) ⌝) }
 {
     close(&mut *(handle as *mut Held))
 }

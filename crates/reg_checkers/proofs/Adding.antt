@@ -1,5 +1,6 @@
 -- What one more entry changes.
-use Rattle.std.proofs.Common.{◌≡◌, ℕ, suc, ◌+◌, ◌<◌, ◌⊎◌, inl, inr, ◌↔◌, List, Option, Some, None, refl, ap, ap₂, sym, ◌∙◌, subst, arith}
+use Rattle.std.proofs.Common.{◌≡◌, ℕ, suc, ◌+◌, ◌<◌, ◌⊎◌, inl, inr, ◌↔◌, List, Option, Some, None, refl, ap, ap₂, sym}
+use Rattle.std.proofs.Common.{◌∙◌, subst, arith}
 use Rattle.std.proofs.lemmas.Bool.{cases_order}
 use Rattle.reg_base.specs.declared.memory.OpId.{OpId}
 use Rattle.reg_base.specs.declared.memory.Op.{Op}
@@ -21,7 +22,8 @@ fin_more : (es ys : List Entry) (e : Entry) (x : OpId) → IsOneMore es e ys →
 fin_more es ys e x more (t, a, is) = (t, a, more.old (Answered t x a) is)
 
 module _ (count registers : ℕ) (es ys : List Entry) (p : ℕ) (g : Progress) (good : IsHistory count registers es) (kept : IsProgressOf es p g) where
-  pub after_call : (at : ℕ) (id : OpId) (op : Op) → p ≡ id.process → MayCall count registers es at id op → g.next ≡ id.number → IsOneMore es (Called at id op) ys
+  pub after_call : (at : ℕ) (id : OpId) (op : Op) → p ≡ id.process → MayCall count registers es at id op
+      → g.next ≡ id.number → IsOneMore es (Called at id op) ys
       → IsProgressOf ys p (record { next = g.next + 1; running = Some (record { at = at; op = op }) })
   after_call at id op same may next more = record { calls = calls; state = (g.next, next_suc, called, open_, before) }
     where
@@ -79,7 +81,8 @@ module _ (count registers : ℕ) (es ys : List Entry) (p : ℕ) (g : Progress) (
           go (inl h) = (kept.calls n).1 (t, o, h)
           go (inr e) = absurd cc
 
-  pub after_answer : (at : ℕ) (id : OpId) (a : Answer) → p ≡ id.process → (run : Running) → g.running ≡ Some run → MayAnswer es at id a → IsOneMore es (Answered at id a) ys
+  pub after_answer : (at : ℕ) (id : OpId) (a : Answer) → p ≡ id.process → (run : Running) → g.running ≡ Some run
+      → MayAnswer es at id a → IsOneMore es (Answered at id a) ys
       → IsProgressOf ys p (record { next = g.next; running = None })
   after_answer at id a same run is may more = record { calls = calls_stay at id a more; state = idle }
     where
@@ -125,7 +128,8 @@ elsewhere es ys p g e kept more back_call back_fin = record { calls = calls; sta
     go None idle = λ x proc was. fin_more es ys e x more (idle x proc (back_call x proc was))
     go (Some run) (n, is, called, open_, before) = (n, is, more.old (Called run.at (op_of p n) run.op) called, λ fin. open_ (back_fin (op_of p n) refl fin), λ m lt. fin_more es ys e (op_of p m) more (before m lt))
 
-pub call_elsewhere : (es ys : List Entry) (p : ℕ) (g : Progress) (at : ℕ) (id : OpId) (op : Op) → (p ≡ id.process → ⊥) → IsProgressOf es p g → IsOneMore es (Called at id op) ys → IsProgressOf ys p g
+pub call_elsewhere : (es ys : List Entry) (p : ℕ) (g : Progress) (at : ℕ) (id : OpId) (op : Op) → (p ≡ id.process → ⊥)
+    → IsProgressOf es p g → IsOneMore es (Called at id op) ys → IsProgressOf ys p g
 call_elsewhere es ys p g at id op other kept more = elsewhere es ys p g (Called at id op) kept more
     (λ x proc (t, o, is). was x proc t o (more.cases (Called t x o) is))
     (λ x proc (t, a, is). fin x t a (more.cases (Answered t x a) is))
@@ -138,7 +142,8 @@ call_elsewhere es ys p g at id op other kept more = elsewhere es ys p g (Called 
     fin x t a (inl h) = (t, a, h)
     fin x t a (inr e) = absurd cc
 
-pub answer_elsewhere : (es ys : List Entry) (p : ℕ) (g : Progress) (at : ℕ) (id : OpId) (b : Answer) → (p ≡ id.process → ⊥) → IsProgressOf es p g → IsOneMore es (Answered at id b) ys → IsProgressOf ys p g
+pub answer_elsewhere : (es ys : List Entry) (p : ℕ) (g : Progress) (at : ℕ) (id : OpId) (b : Answer)
+    → (p ≡ id.process → ⊥) → IsProgressOf es p g → IsOneMore es (Answered at id b) ys → IsProgressOf ys p g
 answer_elsewhere es ys p g at id b other kept more = elsewhere es ys p g (Answered at id b) kept more
     (λ x proc (t, o, is). was x t o (more.cases (Called t x o) is))
     (λ x proc (t, a, is). fin x proc t a (more.cases (Answered t x a) is))

@@ -1,5 +1,6 @@
 -- From the table and the facts to the history.
-use Rattle.std.proofs.Common.{◌≡◌, ◌≢◌, ℕ, zero, suc, ◌<◌, ◌⊎◌, inl, inr, All, List, [], ◌∷◌, map, take, get_or, Option, Some, None, IsSome, MatchOption, slice_get, refl, ap, sym, ◌∙◌, subst, arith}
+use Rattle.std.proofs.Common.{◌≡◌, ◌≢◌, ℕ, zero, suc, ◌<◌, ◌⊎◌, inl, inr, All, List, [], ◌∷◌, map, take, get_or, Option}
+use Rattle.std.proofs.Common.{Some, None, IsSome, MatchOption, slice_get, refl, ap, sym, ◌∙◌, subst, arith}
 use Rattle.std.specs.List.{AllZip}
 use Rattle.std.proofs.lemmas.Option.{same_Some, slice_get-get_or}
 use Rattle.std.proofs.lemmas.Bool.{cases_eq}
@@ -13,7 +14,8 @@ use Rattle.reg_checkers.specs.declared.entries.Entry.TheVariants.{Called}
 use Rattle.reg_base.specs.Memory.{IsUpdate, answer_of, memory, register_of}
 use Rattle.reg_checkers.specs.History.{IsAt, IsAnswered, IsFinished, IsHistory}
 use Rattle.reg_checkers.specs.Orders.{IsSelection, IsDistinct, KeepsOwnOrder, IsLegal}
-use Rattle.reg_checkers.specs.Checks.{AreCalled, HasUnknown, HasTwice, HasMissing, BreaksOwnOrder, NoneOfThree, IsWrong, IsFirst}
+use Rattle.reg_checkers.specs.Checks.{AreCalled, HasUnknown, HasTwice, HasMissing, BreaksOwnOrder, NoneOfThree, IsWrong}
+use Rattle.reg_checkers.specs.Checks.{IsFirst}
 use Rattle.reg_checkers.proofs.Histories.{answered_was_called, call_is, answer_is}
 use Rattle.reg_checkers.proofs.Places.{IsAt-map}
 use Rattle.reg_checkers.proofs.NoOrder.{same_ops}
@@ -61,31 +63,36 @@ module _ (count registers : ℕ) (h : List Entry) (good : IsHistory count regist
   facts_are (id ∷ ids) (f ∷ facts) all = (table.facts id f all.0, facts_are ids facts all.1)
 
   -- what is left of a selection once nothing is twice or missing
-  pub selected : (ids : List OpId) (facts : List Fact) (marks : Rows A) → AreResolved rows ids facts → IsDistinct ids → AreMarked marks ids → ((id : OpId) → IsFinished h id → Marked marks id) → IsSelected h ids facts
+  pub selected : (ids : List OpId) (facts : List Fact) (marks : Rows A) → AreResolved rows ids facts → IsDistinct ids
+      → AreMarked marks ids → ((id : OpId) → IsFinished h id → Marked marks id) → IsSelected h ids facts
   selected ids facts marks res distinct marked all = record {
     selection = record { distinct = distinct; finished = λ id fin. (marked id).0 (all id fin); known = λ k id at. stands_may id (res.stand k id at) };
     facts_of = facts_are ids facts res.each;
   }
 
-pub missing_here : (h : List Entry) (ids : List OpId) {A : Type 0} (marks : Rows A) → AreMarked marks ids → (id : OpId) × IsFinished h id × (¬ Marked marks id) → HasMissing h ids
+pub missing_here : (h : List Entry) (ids : List OpId) {A : Type 0} (marks : Rows A) → AreMarked marks ids
+    → (id : OpId) × IsFinished h id × (¬ Marked marks id) → HasMissing h ids
 missing_here h ids marks marked (id, fin, none) = (id, fin, λ k at. none ((marked id).1 (k, at)))
 
 -- an id and a fact at one place
-pub zip_left : {X Y : Type 0} (R : X → Y → Type 0) (xs : List X) (ys : List Y) (k : ℕ) (y : Y) → AllZip R xs ys → IsAt ys k y → (x : X) × IsAt xs k x × R x y
+pub zip_left : {X Y : Type 0} (R : X → Y → Type 0) (xs : List X) (ys : List Y) (k : ℕ) (y : Y) → AllZip R xs ys
+    → IsAt ys k y → (x : X) × IsAt xs k x × R x y
 zip_left R [] [] k y all at = absurd cc
 zip_left R [] (b ∷ ys) k y all at = absurd all
 zip_left R (a ∷ xs) [] k y all at = absurd all
 zip_left R (a ∷ xs) (b ∷ ys) zero y all at = (a, refl, subst (λ z. R a z) (same_Some b y at) all.0)
 zip_left R (a ∷ xs) (b ∷ ys) (suc k) y all at = zip_left R xs ys k y all.1 at
 
-pub zip_right : {X Y : Type 0} (R : X → Y → Type 0) (xs : List X) (ys : List Y) (k : ℕ) (x : X) → AllZip R xs ys → IsAt xs k x → (y : Y) × IsAt ys k y × R x y
+pub zip_right : {X Y : Type 0} (R : X → Y → Type 0) (xs : List X) (ys : List Y) (k : ℕ) (x : X) → AllZip R xs ys
+    → IsAt xs k x → (y : Y) × IsAt ys k y × R x y
 zip_right R [] [] k x all at = absurd cc
 zip_right R [] (b ∷ ys) k x all at = absurd all
 zip_right R (a ∷ xs) [] k x all at = absurd all
 zip_right R (a ∷ xs) (b ∷ ys) zero x all at = (b, refl, subst (λ z. R z b) (same_Some a x at) all.0)
 zip_right R (a ∷ xs) (b ∷ ys) (suc k) x all at = zip_right R xs ys k x all.1 at
 
-ops_called : (h : List Entry) (ids : List OpId) (facts : List Fact) → AreFacts h ids facts → AreCalled h ids (map (λ f. f.op) facts)
+ops_called : (h : List Entry) (ids : List OpId) (facts : List Fact) → AreFacts h ids facts
+    → AreCalled h ids (map (λ f. f.op) facts)
 ops_called h [] [] all = tt
 ops_called h [] (f ∷ facts) all = absurd all
 ops_called h (id ∷ ids) [] all = absurd all
@@ -111,7 +118,8 @@ front_ops facts k = take-map (λ (f : Fact). f.op) k facts
 
 module _ (count registers : ℕ) (h : List Entry) (good : IsHistory count registers h) (ids : List OpId) (facts : List Fact) (are : AreFacts h ids facts) where
   -- the fact of an answered operation has its answer
-  pub has_given : (id : OpId) (f : Fact) → IsFactOf h id f → (t : ℕ) (a : Answer) → IsAnswered h id t a → (g : Given) × (f.answered ≡ Some g) × (g.answer ≡ a)
+  pub has_given : (id : OpId) (f : Fact) → IsFactOf h id f → (t : ℕ) (a : Answer) → IsAnswered h id t a
+      → (g : Given) × (f.answered ≡ Some g) × (g.answer ≡ a)
   has_given id f fact t a is = go f.answered fact.answered
     where
       go : (o : Option Given) → MatchOption o (¬ IsFinished h id) (λ r. IsAnswered h id r.at r.answer) → (g : Given) × (o ≡ Some g) × (g.answer ≡ a)
@@ -178,8 +186,11 @@ pub not_twice : (ids : List OpId) → IsDistinct ids → ¬ HasTwice ids
 not_twice ids distinct (i, j, id, at1, at2, lt) = let same : i ≡ j = distinct i j id at1 at2 in omega arith
 
 pub not_broken : (ids : List OpId) → KeepsOwnOrder ids → ¬ BreaksOwnOrder ids
-not_broken ids own (i, j, a, b, at1, at2, lt, same, less) = let other : j < i = own j i b a at2 at1 (sym same) less in omega arith
+not_broken ids own (i, j, a, b, at1, at2, lt, same, less) =
+    let other : j < i = own j i b a at2 at1 (sym same) less in omega arith
 
 -- the first wrong fact is at the first wrong place
-pub first_is : (count registers : ℕ) (h : List Entry) → IsHistory count registers h → (ids : List OpId) (facts : List Fact) → AreFacts h ids facts → (k : ℕ) → IsFirst (IsWrongFact registers facts) k → IsFirst (IsWrong registers h ids) k
+pub first_is : (count registers : ℕ) (h : List Entry) → IsHistory count registers h
+    → (ids : List OpId) (facts : List Fact) → AreFacts h ids facts → (k : ℕ) → IsFirst (IsWrongFact registers facts) k
+    → IsFirst (IsWrong registers h ids) k
 first_is count registers h good ids facts are k (here, before) = (wrong_here count registers h good ids facts are k here, λ j lt w. before j lt (wrong_there count registers h good ids facts are j w))

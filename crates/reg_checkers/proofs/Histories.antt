@@ -1,12 +1,14 @@
 -- What holds of a history in which each entry was in place.
-use Rattle.std.proofs.Common.{◌≡◌, ℕ, ◌-◌, ◌<◌, ◌≤◌, ◌⊎◌, inl, inr, List, take, length, Option, Some, None, IfSome, refl, ap, sym, ◌∙◌, subst, arith}
+use Rattle.std.proofs.Common.{◌≡◌, ℕ, ◌-◌, ◌<◌, ◌≤◌, ◌⊎◌, inl, inr, List, take, length, Option, Some, None, IfSome}
+use Rattle.std.proofs.Common.{refl, ap, sym, ◌∙◌, subst, arith}
 use Rattle.std.proofs.lemmas.Bool.{cases_order}
 use Rattle.reg_base.specs.declared.memory.OpId.{OpId}
 use Rattle.reg_base.specs.declared.memory.Op.{Op}
 use Rattle.reg_base.specs.declared.memory.Answer.{Answer}
 use Rattle.reg_checkers.specs.declared.entries.Entry.{Entry}
 use Rattle.reg_checkers.specs.declared.entries.Entry.TheVariants.{Called, Answered}
-use Rattle.reg_checkers.specs.History.{IsAt, IsCalled, IsAnswered, IsFinished, WasCalled, MayCall, MayAnswer, IsHistory, event_of}
+use Rattle.reg_checkers.specs.History.{IsAt, IsCalled, IsAnswered, IsFinished, WasCalled, MayCall, MayAnswer, IsHistory}
+use Rattle.reg_checkers.specs.History.{event_of}
 use Rattle.reg_checkers.specs.Progress.{last_of, IsBehindLast}
 use Rattle.reg_checkers.proofs.Places.{within, same_at, at_take, in_take, element_at}
 
@@ -54,14 +56,16 @@ module _ (n registers : ℕ) (es : List Entry) (good : IsHistory n registers es)
       go (Some c) is = all (length es - 1) c is
 
   -- where a call stands last, all else is of earlier events
-  pub behind_call : (at : ℕ) (id : OpId) (op : Op) → last_of es ≡ Some (Called at id op) → (k : ℕ) (e : Entry) → IsAt es k e → (event_of e < at) ⊎ (e ≡ Called at id op)
+  pub behind_call : (at : ℕ) (id : OpId) (op : Op) → last_of es ≡ Some (Called at id op) → (k : ℕ) (e : Entry)
+      → IsAt es k e → (event_of e < at) ⊎ (e ≡ Called at id op)
   behind_call at id op last k e here = go (at_last k e (Called at id op) here last)
     where
       go : (e ≡ Called at id op) ⊎ (k < length es - 1) → (event_of e < at) ⊎ (e ≡ Called at id op)
       go (inl same) = inr same
       go (inr before) = inl ((good (length es - 1) (Called at id op) last).later k e (at_take es (length es - 1) k before ∙ here))
 
-  pub last_or_call : (at : ℕ) (id : OpId) (op : Op) → ((k : ℕ) (e : Entry) → IsAt es k e → (event_of e < at) ⊎ (e ≡ Called at id op))
+  pub last_or_call : (at : ℕ) (id : OpId) (op : Op)
+      → ((k : ℕ) (e : Entry) → IsAt es k e → (event_of e < at) ⊎ (e ≡ Called at id op))
       → IsBehindLast es at ⊎ ((op : Op) × (last_of es ≡ Some (Called at id op)))
   last_or_call at id op all = go (last_of es) refl
     where
@@ -74,7 +78,8 @@ module _ (n registers : ℕ) (es : List Entry) (good : IsHistory n registers es)
       go (Some c) is = pick c (all (length es - 1) c is)
 
   -- calls of one process come by their numbers
-  pub called_in_turn : (i j : ℕ) (a b : OpId) (s t : ℕ) (o p : Op) → IsAt es i (Called s a o) → IsAt es j (Called t b p) → a.process ≡ b.process → a.number < b.number → i < j
+  pub called_in_turn : (i j : ℕ) (a b : OpId) (s t : ℕ) (o p : Op) → IsAt es i (Called s a o) → IsAt es j (Called t b p)
+      → a.process ≡ b.process → a.number < b.number → i < j
   called_in_turn i j a b s t o p at1 at2 same lt = go (cases_order i j)
     where
       go : (i ≡ j) ⊎ ((i < j) ⊎ (j < i)) → i < j
@@ -94,7 +99,8 @@ module _ (n registers : ℕ) (es : List Entry) (good : IsHistory n registers es)
           absurd (omega arith)
 
   -- an id is called once
-  pub called_once : (i j : ℕ) (id : OpId) (s t : ℕ) (o p : Op) → IsAt es i (Called s id o) → IsAt es j (Called t id p) → i ≡ j
+  pub called_once : (i j : ℕ) (id : OpId) (s t : ℕ) (o p : Op) → IsAt es i (Called s id o) → IsAt es j (Called t id p)
+      → i ≡ j
   called_once i j id s t o p at1 at2 = go (cases_order i j)
     where
       again : (i j : ℕ) (s t : ℕ) (o p : Op) → IsAt es i (Called s id o) → IsAt es j (Called t id p) → i < j → ⊥
@@ -133,7 +139,8 @@ module _ (n registers : ℕ) (es : List Entry) (good : IsHistory n registers es)
       (may.called_at, may.op, (may.called.0, (in_take es j may.called.0 (Called may.called_at id may.op) may.called.1).1))
 
   -- a process calls only after its last answer, at a later event
-  pub answered_before_next : (a b : OpId) (t : ℕ) (p : Op) → WasCalled es a → IsCalled es b t p → a.process ≡ b.process → a.number < b.number
+  pub answered_before_next : (a b : OpId) (t : ℕ) (p : Op) → WasCalled es a → IsCalled es b t p → a.process ≡ b.process
+      → a.number < b.number
       → (s : ℕ) × (x : Answer) × IsAnswered es a s x × (s < t)
   answered_before_next a b t p (s, o, (i, at1)) (j, at2) same lt =
       let order : i < j = called_in_turn i j a b s t o p at1 at2 same lt in

@@ -1,5 +1,6 @@
 -- What is kept beside a history, after one more entry.
-use Rattle.std.proofs.Common.{◌≡◌, ℕ, ◌+◌, ◌<◌, ◌≤◌, ◌⊎◌, inl, inr, List, [], ◌∷◌, ◌++◌, set, length, get_or, slice_get, Option, Some, None, refl, ap, sym, ◌∙◌, subst, arith, length-set}
+use Rattle.std.proofs.Common.{◌≡◌, ℕ, ◌+◌, ◌<◌, ◌≤◌, ◌⊎◌, inl, inr, List, [], ◌∷◌, ◌++◌, set, length, get_or, slice_get}
+use Rattle.std.proofs.Common.{Option, Some, None, refl, ap, sym, ◌∙◌, subst, arith, length-set}
 use Rattle.std.proofs.lemmas.Option.{same_Some, slice_get-get_or}
 use Rattle.std.proofs.lemmas.Bool.{cases_eq}
 use Rattle.reg_base.specs.declared.memory.OpId.{OpId}
@@ -17,19 +18,29 @@ use Rattle.reg_checkers.proofs.Pushing.{history_more}
 use Rattle.reg_checkers.proofs.OneMore.{pushed}
 use Rattle.reg_checkers.proofs.Adding.{after_call, after_answer, call_elsewhere, answer_elsewhere}
 
-pub progress_at : (count registers : ℕ) (es : List Entry) (ps : List Progress) (i p : ℕ) (d : Progress) → IsKept count registers es ps → i < length ps → i ≡ p → IsProgressOf es p (get_or ps i d)
-progress_at count registers es ps i p d kept lt same = subst (λ (q : ℕ). IsProgressOf es q (get_or ps i d)) same (kept.each i (get_or ps i d) (slice_get-get_or ps i d lt))
+pub progress_at : (count registers : ℕ) (es : List Entry) (ps : List Progress) (i p : ℕ) (d : Progress)
+    → IsKept count registers es ps → i < length ps → i ≡ p → IsProgressOf es p (get_or ps i d)
+progress_at count registers es ps i p d kept lt same =
+    subst (λ (q : ℕ). IsProgressOf es q (get_or ps i d)) same (kept.each i (get_or ps i d) (slice_get-get_or ps i d lt))
 
 -- an answer in place is of a process of the shape
-pub answer_within : (count registers : ℕ) (es : List Entry) (at : ℕ) (id : OpId) (a : Answer) → IsHistory count registers es → MayAnswer es at id a → id.process < count
-answer_within count registers es at id a good may = (good may.called.0 (Called may.called_at id may.op) may.called.1).process
+pub answer_within : (count registers : ℕ) (es : List Entry) (at : ℕ) (id : OpId) (a : Answer)
+    → IsHistory count registers es → MayAnswer es at id a → id.process < count
+answer_within count registers es at id a good may =
+    (good may.called.0 (Called may.called_at id may.op) may.called.1).process
 
-pub entry_within : (count registers : ℕ) (es : List Entry) (ps : List Progress) (e : Entry) → IsKept count registers es ps → IsInPlace count registers es e → (id_of e).process < length ps
-entry_within count registers es ps (Called at id op) kept may = let l = kept.kept_each in let m = may.process in omega arith
-entry_within count registers es ps (Answered at id a) kept may = let l = kept.kept_each in let m = answer_within count registers es at id a kept.history may in omega arith
+pub entry_within : (count registers : ℕ) (es : List Entry) (ps : List Progress) (e : Entry)
+    → IsKept count registers es ps → IsInPlace count registers es e → (id_of e).process < length ps
+entry_within count registers es ps (Called at id op) kept may =
+    let l = kept.kept_each in let m = may.process in omega arith
+entry_within count registers es ps (Answered at id a) kept may =
+    let l = kept.kept_each in let m = answer_within count registers es at id a kept.history may in omega arith
 
 -- an answer of a process past the last is out of place
-pub answer_past : (count registers : ℕ) (es : List Entry) (ps : List Progress) (e : Entry) (at : ℕ) (id : OpId) (a : Answer) (i : ℕ) → IsKept count registers es ps → e ≡ Answered at id a → length ps ≤ i → i ≡ id.process → IsInPlace count registers es e → ⊥
+pub answer_past : (count registers : ℕ) (es : List Entry) (ps : List Progress) (e : Entry) (at : ℕ) (id : OpId)
+    (a : Answer) (i : ℕ)
+    → IsKept count registers es ps → e ≡ Answered at id a → length ps ≤ i → i ≡ id.process
+    → IsInPlace count registers es e → ⊥
 answer_past count registers es ps e at id a i kept is past same may =
     let within : (id_of e).process < length ps = entry_within count registers es ps e kept may in
     let own : (id_of e).process ≡ id.process = ap (λ (x : Entry). (id_of x).process) is in
@@ -76,7 +87,8 @@ module _ (count registers : ℕ) (es : List Entry) (ps : List Progress) (i : ℕ
           absurd (may.running (idle id (sym same) (may.called_at, may.op, may.called)))
       go (Some run) e = after_answer count registers es (es ++ Answered at id a ∷ []) i (get_or ps i d) kept.history own at id a same run e may (pushed es (Answered at id a))
 
-  pub kept_more : (e : Entry) → i ≡ (id_of e).process → IsInPlace count registers es e → IsKept count registers (es ++ e ∷ []) (set ps i (progress_after (get_or ps i d) e))
+  pub kept_more : (e : Entry) → i ≡ (id_of e).process → IsInPlace count registers es e
+      → IsKept count registers (es ++ e ∷ []) (set ps i (progress_after (get_or ps i d) e))
   kept_more (Called at id op) same may = record {
     history = history_more count registers es (Called at id op) kept.history may;
     kept_each = length_more (progress_after (get_or ps i d) (Called at id op));

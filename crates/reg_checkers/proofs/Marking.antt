@@ -1,5 +1,6 @@
 -- What marking an operation leaves.
-use Rattle.std.proofs.Common.{◌≡◌, ◌≢◌, ℕ, ◌+◌, ◌<◌, ◌≤◌, ◌⊎◌, inl, inr, ◌↔◌, List, [], length, Some, Bool, false, true, IsSome, is_some, slice_get, refl, ap, sym, ◌∙◌, subst, arith}
+use Rattle.std.proofs.Common.{◌≡◌, ◌≢◌, ℕ, ◌+◌, ◌<◌, ◌≤◌, ◌⊎◌, inl, inr, ◌↔◌, List, [], length, Some, Bool, false, true}
+use Rattle.std.proofs.Common.{IsSome, is_some, slice_get, refl, ap, sym, ◌∙◌, subst, arith}
 use Rattle.std.proofs.lemmas.Option.{same_Some, slice_get_within}
 use Rattle.std.proofs.lemmas.Bool.{cases_order}
 use Rattle.reg_base.specs.declared.memory.OpId.{OpId}
@@ -56,7 +57,8 @@ MarkedUpTo rows ids k = (id : OpId) → Marked rows id ↔ ((j : ℕ) × (j < k)
 abbrev pub DistinctUpTo : List OpId → ℕ → Type 0
 DistinctUpTo ids k = (i j : ℕ) (id : OpId) → i < k → j < k → IsAt ids i id → IsAt ids j id → i ≡ j
 
-pub marked_more : {A : Type 0} (rows rows' : Rows A) (ids : List OpId) (k : ℕ) (id : OpId) → IsAt ids k id → MarkedUpTo rows ids k → IsMarkedToo rows rows' id → MarkedUpTo rows' ids (k + 1)
+pub marked_more : {A : Type 0} (rows rows' : Rows A) (ids : List OpId) (k : ℕ) (id : OpId) → IsAt ids k id
+    → MarkedUpTo rows ids k → IsMarkedToo rows rows' id → MarkedUpTo rows' ids (k + 1)
 marked_more rows rows' ids k id here upto more x = (there, back)
   where
     there : Marked rows' x → (j : ℕ) × (j < k + 1) × IsAt ids j x
@@ -74,7 +76,8 @@ marked_more rows rows' ids k id here upto more x = (there, back)
         go (inr (inl h)) = (more.marks x).1 (inl ((upto x).1 (j, h, at)))
         go (inr (inr h)) = absurd (omega arith)
 
-pub distinct_more : {A : Type 0} (rows : Rows A) (ids : List OpId) (k : ℕ) (id : OpId) → IsAt ids k id → MarkedUpTo rows ids k → ¬ Marked rows id → DistinctUpTo ids k → DistinctUpTo ids (k + 1)
+pub distinct_more : {A : Type 0} (rows : Rows A) (ids : List OpId) (k : ℕ) (id : OpId) → IsAt ids k id
+    → MarkedUpTo rows ids k → ¬ Marked rows id → DistinctUpTo ids k → DistinctUpTo ids (k + 1)
 distinct_more rows ids k id here upto fresh distinct i j x lt1 lt2 at1 at2 = go (cases_order i k) (cases_order j k)
   where
     again : (j : ℕ) → j < k → IsAt ids j x → IsAt ids k x → ⊥
@@ -95,7 +98,8 @@ marked_none rows ids none x = (λ h. absurd (let r = (none x).0 h in empty r.0 r
     empty : (k : ℕ) → IsAt [] k x → ⊥
     empty k h = cc
 
-pub marked_all : {A : Type 0} (rows : Rows A) (ids : List OpId) (n : ℕ) → length ids ≤ n → MarkedUpTo rows ids n → AreMarked rows ids
+pub marked_all : {A : Type 0} (rows : Rows A) (ids : List OpId) (n : ℕ) → length ids ≤ n → MarkedUpTo rows ids n
+    → AreMarked rows ids
 marked_all rows ids n le upto x = (λ h. (let r = (upto x).0 h in (r.0, r.2)), λ r. (upto x).1 (r.0, (let inside : r.0 < length ids = slice_get_within ids r.0 x r.1 in omega arith), r.1))
 
 pub distinct_all : (ids : List OpId) (n : ℕ) → length ids ≤ n → DistinctUpTo ids n → IsDistinct ids
@@ -104,7 +108,8 @@ distinct_all ids n le upto i j x at1 at2 =
     let b : j < length ids = slice_get_within ids j x at2 in
     upto i j x (omega arith) (omega arith) at1 at2
 
-pub twice_here : {A : Type 0} (rows : Rows A) (ids : List OpId) (k : ℕ) (id : OpId) → IsAt ids k id → MarkedUpTo rows ids k → Marked rows id → HasTwice ids
+pub twice_here : {A : Type 0} (rows : Rows A) (ids : List OpId) (k : ℕ) (id : OpId) → IsAt ids k id
+    → MarkedUpTo rows ids k → Marked rows id → HasTwice ids
 twice_here rows ids k id here upto marked = let r = (upto id).0 marked in (r.0, k, id, r.2, here, r.1)
 
 pub unmarked_are : {A : Type 0} (rows : Rows A) → IsUnmarked rows → AreMarked rows []
@@ -127,5 +132,6 @@ finished_more rows es i before here j t id a less at = go (cases_order j i)
     go (inr (inr h)) = absurd (omega arith)
 
 -- an answer of a marked operation
-pub same_marked : {A : Type 0} (rows : Rows A) (at t : ℕ) (id x : OpId) (answer a : Answer) → Marked rows id → Answered at id answer ≡ Answered t x a → Marked rows x
+pub same_marked : {A : Type 0} (rows : Rows A) (at t : ℕ) (id x : OpId) (answer a : Answer) → Marked rows id
+    → Answered at id answer ≡ Answered t x a → Marked rows x
 same_marked rows at t id x answer a marked e = let same : id ≡ x = cc in subst (λ (y : OpId). Marked rows y) same marked

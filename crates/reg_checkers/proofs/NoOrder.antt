@@ -5,15 +5,18 @@ use Rattle.reg_base.specs.declared.memory.Op.{Op}
 use Rattle.reg_checkers.specs.declared.entries.Entry.{Entry}
 use Rattle.reg_checkers.specs.declared.entries.Point.{Point}
 use Rattle.reg_checkers.specs.declared.faults.CheckFault.{CheckFault}
-use Rattle.reg_checkers.specs.declared.faults.CheckFault.TheVariants.{Unknown, Twice, Missing, OwnOrder, Answer, Outside, Falling, OutOfMemory}
+use Rattle.reg_checkers.specs.declared.faults.CheckFault.TheVariants.{Unknown, Twice, Missing, OwnOrder, Answer}
+use Rattle.reg_checkers.specs.declared.faults.CheckFault.TheVariants.{Outside, Falling, OutOfMemory}
 use Rattle.reg_base.specs.Memory.{answer_of, memory}
 use Rattle.reg_checkers.specs.History.{IsAt, IsHistory}
 use Rattle.reg_checkers.specs.Orders.{IsSelection, IsLegal, KeepsOwnOrder, IsSerial, IsPointOrder}
-use Rattle.reg_checkers.specs.Checks.{AreCalled, HasUnknown, HasTwice, HasMissing, BreaksOwnOrder, IsWrong, IsOutside, IsFalling, IsSerialFault, IsPointFault, ids_of}
+use Rattle.reg_checkers.specs.Checks.{AreCalled, HasUnknown, HasTwice, HasMissing, BreaksOwnOrder, IsWrong, IsOutside}
+use Rattle.reg_checkers.specs.Checks.{IsFalling, IsSerialFault, IsPointFault, ids_of}
 use Rattle.reg_checkers.proofs.Histories.{call_is}
 
 -- the operations under a list of ids are determined
-pub same_ops : (n registers : ℕ) (h : List Entry) → IsHistory n registers h → (ids : List OpId) (xs ys : List Op) → AreCalled h ids xs → AreCalled h ids ys → xs ≡ ys
+pub same_ops : (n registers : ℕ) (h : List Entry) → IsHistory n registers h → (ids : List OpId) (xs ys : List Op)
+    → AreCalled h ids xs → AreCalled h ids ys → xs ≡ ys
 same_ops n registers h good [] [] [] p q = refl
 same_ops n registers h good [] [] (y ∷ ys) p q = absurd q
 same_ops n registers h good [] (x ∷ xs) ys p q = absurd p
@@ -49,22 +52,35 @@ module _ (n registers : ℕ) (h : List Entry) (good : IsHistory n registers h) w
   not_falling : (ps : List Point) → IsPointOrder registers h ps → (k : ℕ) → ¬ IsFalling ps k
   not_falling ps order k (j, p, q, e, at1, at2, lt) = let le : p.at ≤ q.at = order.rising j k p q at1 at2 (omega arith) in omega arith
 
-pub fault_not_serial : (n registers : ℕ) (h : List Entry) → IsHistory n registers h → (ids : List OpId) (f : CheckFault) → f ≢ OutOfMemory → IsSerialFault registers h ids f → ¬ IsSerial registers h ids
-fault_not_serial n registers h good ids Unknown other fault order = not_unknown n registers h good ids order.selection fault
-fault_not_serial n registers h good ids Twice other fault order = not_twice n registers h good ids order.selection fault.1
-fault_not_serial n registers h good ids Missing other fault order = not_missing n registers h good ids order.selection fault.2
-fault_not_serial n registers h good ids OwnOrder other fault order = not_broken n registers h good ids order.own_order fault.1
-fault_not_serial n registers h good ids (Answer place) other fault order = not_wrong n registers h good ids order.legal place fault.2.0
+pub fault_not_serial : (n registers : ℕ) (h : List Entry) → IsHistory n registers h → (ids : List OpId) (f : CheckFault)
+    → f ≢ OutOfMemory → IsSerialFault registers h ids f → ¬ IsSerial registers h ids
+fault_not_serial n registers h good ids Unknown other fault order =
+    not_unknown n registers h good ids order.selection fault
+fault_not_serial n registers h good ids Twice other fault order =
+    not_twice n registers h good ids order.selection fault.1
+fault_not_serial n registers h good ids Missing other fault order =
+    not_missing n registers h good ids order.selection fault.2
+fault_not_serial n registers h good ids OwnOrder other fault order =
+    not_broken n registers h good ids order.own_order fault.1
+fault_not_serial n registers h good ids (Answer place) other fault order =
+    not_wrong n registers h good ids order.legal place fault.2.0
 fault_not_serial n registers h good ids (Outside place) other fault order = fault
 fault_not_serial n registers h good ids (Falling place) other fault order = fault
 fault_not_serial n registers h good ids OutOfMemory other fault order = other refl
 
-pub fault_not_points : (n registers : ℕ) (h : List Entry) → IsHistory n registers h → (ps : List Point) (f : CheckFault) → f ≢ OutOfMemory → IsPointFault registers h ps f → ¬ IsPointOrder registers h ps
-fault_not_points n registers h good ps Unknown other fault order = not_unknown n registers h good (ids_of ps) order.selection fault
-fault_not_points n registers h good ps Twice other fault order = not_twice n registers h good (ids_of ps) order.selection fault.1
-fault_not_points n registers h good ps Missing other fault order = not_missing n registers h good (ids_of ps) order.selection fault.2
+pub fault_not_points : (n registers : ℕ) (h : List Entry) → IsHistory n registers h → (ps : List Point) (f : CheckFault)
+    → f ≢ OutOfMemory → IsPointFault registers h ps f → ¬ IsPointOrder registers h ps
+fault_not_points n registers h good ps Unknown other fault order =
+    not_unknown n registers h good (ids_of ps) order.selection fault
+fault_not_points n registers h good ps Twice other fault order =
+    not_twice n registers h good (ids_of ps) order.selection fault.1
+fault_not_points n registers h good ps Missing other fault order =
+    not_missing n registers h good (ids_of ps) order.selection fault.2
 fault_not_points n registers h good ps OwnOrder other fault order = fault
-fault_not_points n registers h good ps (Answer place) other fault order = not_wrong n registers h good (ids_of ps) order.legal place fault.1.0
-fault_not_points n registers h good ps (Outside place) other fault order = not_outside n registers h good ps order place fault.2.0
-fault_not_points n registers h good ps (Falling place) other fault order = not_falling n registers h good ps order place fault.3.0
+fault_not_points n registers h good ps (Answer place) other fault order =
+    not_wrong n registers h good (ids_of ps) order.legal place fault.1.0
+fault_not_points n registers h good ps (Outside place) other fault order =
+    not_outside n registers h good ps order place fault.2.0
+fault_not_points n registers h good ps (Falling place) other fault order =
+    not_falling n registers h good ps order place fault.3.0
 fault_not_points n registers h good ps OutOfMemory other fault order = other refl

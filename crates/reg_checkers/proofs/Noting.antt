@@ -1,5 +1,6 @@
 -- What an entry adds to the table.
-use Rattle.std.proofs.Common.{◌≡◌, ◌≢◌, ℕ, ◌<◌, ◌≤◌, ◌⊎◌, inl, inr, ◌↔◌, List, length, take, Option, Some, None, Bool, false, true, MatchOption, IsSome, get_or, refl, ap, sym, ◌∙◌, subst, arith}
+use Rattle.std.proofs.Common.{◌≡◌, ◌≢◌, ℕ, ◌<◌, ◌≤◌, ◌⊎◌, inl, inr, ◌↔◌, List, length, take, Option, Some, None, Bool}
+use Rattle.std.proofs.Common.{false, true, MatchOption, IsSome, get_or, refl, ap, sym, ◌∙◌, subst, arith}
 use Rattle.std.proofs.lemmas.Option.{same_Some, slice_get-get_or}
 use Rattle.std.proofs.lemmas.List.{take-take}
 use Rattle.reg_base.specs.declared.memory.OpId.{OpId}
@@ -18,7 +19,8 @@ use Rattle.reg_checkers.specs.Facts.{IsFactOf}
 use Rattle.reg_checkers.specs.Table.{Rows, cell, IsChangedAt, IsTable, Marked, IsUnmarked}
 
 -- a fact stays true
-kept : (xs ys : List Entry) (id : OpId) (f : Fact) → IsFactOf xs id f → (IsCalled xs id f.called f.op → IsCalled ys id f.called f.op)
+kept : (xs ys : List Entry) (id : OpId) (f : Fact) → IsFactOf xs id f
+    → (IsCalled xs id f.called f.op → IsCalled ys id f.called f.op)
     → (IsFinished ys id → IsFinished xs id) → ((t : ℕ) (a : Answer) → IsAnswered xs id t a → IsAnswered ys id t a) → IsFactOf ys id f
 kept xs ys id f fact called back on = record { called = called fact.called; answered = go f.answered fact.answered }
   where
@@ -27,7 +29,8 @@ kept xs ys id f fact called back on = record { called = called fact.called; answ
     go (Some r) some = on r.at r.answer some
 
 module _ (count registers : ℕ) (xs ys : List Entry) {A : Type 0} (rows rows' : Rows A) (at : ℕ) (id : OpId) (table : IsTable xs rows) where
-  pub called_step : (op : Op) → IsHistory count registers xs → MayCall count registers xs at id op → IsOneMore xs (Called at id op) ys
+  pub called_step : (op : Op) → IsHistory count registers xs → MayCall count registers xs at id op
+      → IsOneMore xs (Called at id op) ys
       → IsChangedAt rows rows' id (record { op = op; called = at; answered = None; stands = false }) → IsTable ys rows'
   called_step op good may more changed = record { facts = facts; all = all }
     where
@@ -96,7 +99,8 @@ module _ (count registers : ℕ) (xs ys : List Entry) {A : Type 0} (rows rows' :
           go (inr away) (inr e) = absurd cc
 
 -- the beginning of a history is one
-pub history_front : (count registers : ℕ) (xs : List Entry) (n : ℕ) → IsHistory count registers xs → IsHistory count registers (take n xs)
+pub history_front : (count registers : ℕ) (xs : List Entry) (n : ℕ) → IsHistory count registers xs
+    → IsHistory count registers (take n xs)
 history_front count registers xs n good k e at =
     let r = in_take xs n k e at in
     let less : k < n = r.0 in
@@ -112,7 +116,8 @@ some_value None h = absurd cc
 some_value (Some x) h = (x, refl)
 
 -- a process's row ends where its next number begins
-pub next_fits : (count registers : ℕ) (xs : List Entry) {A : Type 0} (rows : Rows A) (at : ℕ) (id : OpId) (op : Op) → IsTable xs rows → MayCall count registers xs at id op
+pub next_fits : (count registers : ℕ) (xs : List Entry) {A : Type 0} (rows : Rows A) (at : ℕ) (id : OpId) (op : Op)
+    → IsTable xs rows → MayCall count registers xs at id op
     → (n : ℕ) → (n < id.number) ↔ IsSome (cell rows (record { process = id.process; number = n }))
 next_fits count registers xs rows at id op table may n = (up, down)
   where
@@ -125,7 +130,8 @@ next_fits count registers xs rows at id op table may n = (up, down)
         (may.next n).1 (had.0.called, had.0.op, (table.facts (record { process = id.process; number = n }) had.0 had.1).called)
 
 -- a change to an unmarked fact marks nothing
-pub unmarked_kept : {A : Type 0} (rows rows' : Rows A) (id : OpId) (f : Fact) → IsUnmarked rows → f.stands ≡ false → IsChangedAt rows rows' id f → IsUnmarked rows'
+pub unmarked_kept : {A : Type 0} (rows rows' : Rows A) (id : OpId) (f : Fact) → IsUnmarked rows → f.stands ≡ false
+    → IsChangedAt rows rows' id f → IsUnmarked rows'
 unmarked_kept rows rows' id f none off changed x (g, e, on) = go (same_id x id)
   where
     clash : {b : Bool} → b ≡ false → b ≡ true → ⊥

@@ -1,5 +1,6 @@
 -- The pass over own order, and the one that looks up the facts.
-use Rattle.std.proofs.Common.{◌≡◌, ℕ, zero, suc, ◌+◌, ◌<◌, ◌≤◌, ◌⊎◌, inl, inr, List, [], ◌∷◌, ◌++◌, length, take, set, replicate, get_or, Some, slice_get, slice_index, refl, ap, ap₂, sym, ◌∙◌, subst, arith}
+use Rattle.std.proofs.Common.{◌≡◌, ℕ, zero, suc, ◌+◌, ◌<◌, ◌≤◌, ◌⊎◌, inl, inr, List, [], ◌∷◌, ◌++◌, length, take, set}
+use Rattle.std.proofs.Common.{replicate, get_or, Some, slice_get, slice_index, refl, ap, ap₂, sym, ◌∙◌, subst, arith}
 use Rattle.std.specs.List.{AllZip}
 use Rattle.std.proofs.lemmas.Option.{same_Some, slice_get_within}
 use Rattle.std.proofs.lemmas.Bool.{cases_order, cases_eq}
@@ -13,12 +14,15 @@ use Rattle.reg_checkers.specs.Table.{Rows, Stands}
 -- one more than the highest number of each process among the first k ids
 pub record IsHigh (ids : List OpId) (k : ℕ) (next : List ℕ) : Type 0 where
   pub above : (j : ℕ) (a : OpId) → j < k → IsAt ids j a → a.number < slice_index next a.process
-  pub reached : (p : ℕ) → (slice_index next p ≡ 0) ⊎ ((j : ℕ) × (a : OpId) × (j < k) × IsAt ids j a × (a.process ≡ p) × (a.number + 1 ≡ slice_index next p))
+  pub reached : (p : ℕ)
+      → (slice_index next p ≡ 0)
+      ⊎ ((j : ℕ) × (a : OpId) × (j < k) × IsAt ids j a × (a.process ≡ p) × (a.number + 1 ≡ slice_index next p))
 
 abbrev pub KeepsUpTo : List OpId → ℕ → Type 0
 KeepsUpTo ids k = (i j : ℕ) (a b : OpId) → i < k → j < k → IsAt ids i a → IsAt ids j b → a.process ≡ b.process → a.number < b.number → i < j
 
-pub own_broken : (ids : List OpId) (k : ℕ) (next : List ℕ) (id : OpId) → IsDistinct ids → IsHigh ids k next → IsAt ids k id → id.number < slice_index next id.process → BreaksOwnOrder ids
+pub own_broken : (ids : List OpId) (k : ℕ) (next : List ℕ) (id : OpId) → IsDistinct ids → IsHigh ids k next
+    → IsAt ids k id → id.number < slice_index next id.process → BreaksOwnOrder ids
 own_broken ids k next id distinct high here lt = go (high.reached id.process)
   where
     go : (slice_index next id.process ≡ 0) ⊎ ((j : ℕ) × (a : OpId) × (j < k) × IsAt ids j a × (a.process ≡ id.process) × (a.number + 1 ≡ slice_index next id.process)) → BreaksOwnOrder ids
@@ -36,7 +40,8 @@ own_broken ids k next id distinct high here lt = go (high.reached id.process)
 same_number : {u v : OpId} → u ≡ v → u.number < v.number → ⊥
 same_number e lt = grind arith
 
-pub keeps_more : (ids : List OpId) (k : ℕ) (next : List ℕ) (id : OpId) → IsHigh ids k next → IsAt ids k id → slice_index next id.process ≤ id.number → KeepsUpTo ids k → KeepsUpTo ids (k + 1)
+pub keeps_more : (ids : List OpId) (k : ℕ) (next : List ℕ) (id : OpId) → IsHigh ids k next → IsAt ids k id
+    → slice_index next id.process ≤ id.number → KeepsUpTo ids k → KeepsUpTo ids (k + 1)
 keeps_more ids k next id high here le keeps i j a b lt1 lt2 at1 at2 same less = go (cases_order i k) (cases_order j k)
   where
     go : (i ≡ k) ⊎ ((i < k) ⊎ (k < i)) → (j ≡ k) ⊎ ((j < k) ⊎ (k < j)) → i < j
@@ -55,7 +60,8 @@ keeps_more ids k next id high here le keeps i j a b lt1 lt2 at1 at2 same less = 
     go (inr (inl x)) (inr (inr y)) = absurd (omega arith)
     go (inr (inr x)) other = absurd (omega arith)
 
-pub high_more : (ids : List OpId) (k : ℕ) (next : List ℕ) (id : OpId) → id.process < length next → IsHigh ids k next → IsAt ids k id → slice_index next id.process ≤ id.number
+pub high_more : (ids : List OpId) (k : ℕ) (next : List ℕ) (id : OpId) → id.process < length next → IsHigh ids k next
+    → IsAt ids k id → slice_index next id.process ≤ id.number
     → IsHigh ids (k + 1) (set next id.process (id.number + 1))
 high_more ids k next id inside high here le = record { above = above; reached = reached }
   where
@@ -96,16 +102,19 @@ keeps_all ids n le keeps i j a b at1 at2 same less =
     keeps i j a b (omega arith) (omega arith) at1 at2 same less
 
 -- one more pair at the ends of two lists
-pub zip_push : {X Y : Type 0} (R : X → Y → Type 0) (xs : List X) (ys : List Y) (x : X) (y : Y) → AllZip R xs ys → R x y → AllZip R (xs ++ x ∷ []) (ys ++ y ∷ [])
+pub zip_push : {X Y : Type 0} (R : X → Y → Type 0) (xs : List X) (ys : List Y) (x : X) (y : Y) → AllZip R xs ys → R x y
+    → AllZip R (xs ++ x ∷ []) (ys ++ y ∷ [])
 zip_push R [] [] x y all new = (new, tt)
 zip_push R [] (b ∷ ys) x y all new = absurd all
 zip_push R (a ∷ xs) [] x y all new = absurd all
 zip_push R (a ∷ xs) (b ∷ ys) x y all new = (all.0, zip_push R xs ys x y all.1 new)
 
-pub zip_more : {X Y : Type 0} (R : X → Y → Type 0) (xs : List X) (ys : List Y) (k : ℕ) (d : X) (y : Y) → k < length xs → AllZip R (take k xs) ys → R (get_or xs k d) y → AllZip R (take (k + 1) xs) (ys ++ y ∷ [])
+pub zip_more : {X Y : Type 0} (R : X → Y → Type 0) (xs : List X) (ys : List Y) (k : ℕ) (d : X) (y : Y) → k < length xs
+    → AllZip R (take k xs) ys → R (get_or xs k d) y → AllZip R (take (k + 1) xs) (ys ++ y ∷ [])
 zip_more R xs ys k d y lt all new = rw (take_more xs k d lt) (zip_push R (take k xs) ys (get_or xs k d) y all new)
 
-pub zip_all : {X Y : Type 0} (R : X → Y → Type 0) (xs : List X) (ys : List Y) (n : ℕ) → length xs ≤ n → AllZip R (take n xs) ys → AllZip R xs ys
+pub zip_all : {X Y : Type 0} (R : X → Y → Type 0) (xs : List X) (ys : List Y) (n : ℕ) → length xs ≤ n
+    → AllZip R (take n xs) ys → AllZip R xs ys
 zip_all R xs ys n le all = rw (take_all n xs le) at all
 
 -- a list of zeros
@@ -117,7 +126,8 @@ zeros (suc n) (suc p) = zeros n p
 pub high_none : (ids : List OpId) (next : List ℕ) (n : ℕ) → next ≡ replicate n 0 → IsHigh ids 0 next
 high_none ids next n e = record { above = λ j a lt. absurd (omega arith); reached = λ p. inl (ap (λ (xs : List ℕ). slice_index xs p) e ∙ zeros n p) }
 
-pub stand_more : {A : Type 0} (rows : Rows A) (ids : List OpId) (k : ℕ) (x : OpId) → IsAt ids k x → Stands rows x → ((j : ℕ) (id : OpId) → j < k → IsAt ids j id → Stands rows id)
+pub stand_more : {A : Type 0} (rows : Rows A) (ids : List OpId) (k : ℕ) (x : OpId) → IsAt ids k x → Stands rows x
+    → ((j : ℕ) (id : OpId) → j < k → IsAt ids j id → Stands rows id)
     → (j : ℕ) (id : OpId) → j < k + 1 → IsAt ids j id → Stands rows id
 stand_more rows ids k x here new before j id lt at = go (cases_order j k)
   where

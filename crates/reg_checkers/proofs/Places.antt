@@ -1,5 +1,6 @@
 -- Places in lists.
-use Rattle.std.proofs.Common.{◌≡◌, ◌≢◌, ◌⊎◌, inl, inr, ap₂, ℕ, zero, suc, ◌<◌, List, [], ◌∷◌, ◌++◌, set, map, take, length, Some, slice_get, refl, ap, sym, ◌∙◌, arith, length-take}
+use Rattle.std.proofs.Common.{◌≡◌, ◌≢◌, ◌⊎◌, inl, inr, ap₂, ℕ, zero, suc, ◌<◌, List, [], ◌∷◌, ◌++◌, set, map, take}
+use Rattle.std.proofs.Common.{length, Some, slice_get, refl, ap, sym, ◌∙◌, arith, length-take}
 use Rattle.std.proofs.lemmas.Option.{slice_get_within, same_Some}
 use Rattle.std.proofs.lemmas.Bool.{cases_eq}
 use Rattle.reg_base.specs.declared.memory.OpId.{OpId}
@@ -24,7 +25,8 @@ IsAt-map f (y ∷ xs) zero x h = ap (λ z. Some (f z)) (same_Some y x h)
 IsAt-map f (y ∷ xs) (suc k) x h = IsAt-map f xs k x h
 
 -- what stands in a mapped list comes from the list
-pub at_map : {X Y : Type 0} (f : X → Y) (xs : List X) (k : ℕ) (y : Y) → IsAt (map f xs) k y → (x : X) × IsAt xs k x × (f x ≡ y)
+pub at_map : {X Y : Type 0} (f : X → Y) (xs : List X) (k : ℕ) (y : Y) → IsAt (map f xs) k y
+    → (x : X) × IsAt xs k x × (f x ≡ y)
 at_map f [] k y h = absurd cc
 at_map f (x ∷ xs) zero y h = (x, refl, same_Some (f x) y h)
 at_map f (x ∷ xs) (suc k) y h = at_map f xs k y h
@@ -47,7 +49,8 @@ get_set_same [] k v lt = absurd (omega arith)
 get_set_same (x ∷ xs) zero v lt = refl
 get_set_same (x ∷ xs) (suc k) v lt = get_set_same xs k v (omega arith)
 
-pub get_set_other : {X : Type 0} (xs : List X) (k j : ℕ) (v : X) → (j ≡ k → ⊥) → slice_get (set xs k v) j ≡ slice_get xs j
+pub get_set_other : {X : Type 0} (xs : List X) (k j : ℕ) (v : X) → (j ≡ k → ⊥)
+    → slice_get (set xs k v) j ≡ slice_get xs j
 get_set_other [] k j v other = refl
 get_set_other (x ∷ xs) zero zero v other = absurd (other refl)
 get_set_other (x ∷ xs) zero (suc j) v other = refl
@@ -60,7 +63,8 @@ get_push_same [] (suc k) v e = absurd (omega arith)
 get_push_same (x ∷ xs) zero v e = absurd (omega arith)
 get_push_same (x ∷ xs) (suc k) v e = get_push_same xs k v (omega arith)
 
-pub get_push_other : {X : Type 0} (xs : List X) (j : ℕ) (v : X) → (j ≡ length xs → ⊥) → slice_get (xs ++ v ∷ []) j ≡ slice_get xs j
+pub get_push_other : {X : Type 0} (xs : List X) (j : ℕ) (v : X) → (j ≡ length xs → ⊥)
+    → slice_get (xs ++ v ∷ []) j ≡ slice_get xs j
 get_push_other [] zero v other = absurd (other refl)
 get_push_other [] (suc j) v other = refl
 get_push_other (x ∷ xs) zero v other = refl

@@ -1,5 +1,6 @@
 -- When an entry is in place, by what is kept of its process.
-use Rattle.std.proofs.Common.{◌≡◌, ℕ, suc, ◌-◌, ◌<◌, ◌≤◌, ◌⊎◌, inl, inr, ◌↔◌, Bool, true, false, not, IsTrue, List, Option, Some, None, is_none, length, refl, ap, sym, ◌∙◌, subst, arith}
+use Rattle.std.proofs.Common.{◌≡◌, ℕ, suc, ◌-◌, ◌<◌, ◌≤◌, ◌⊎◌, inl, inr, ◌↔◌, Bool, true, false, not, IsTrue, List}
+use Rattle.std.proofs.Common.{Option, Some, None, is_none, length, refl, ap, sym, ◌∙◌, subst, arith}
 use Rattle.std.proofs.lemmas.Bool.{cases_order}
 use Rattle.reg_base.specs.declared.memory.OpId.{OpId}
 use Rattle.reg_base.specs.declared.memory.Op.{Op}
@@ -53,7 +54,8 @@ module _ (es : List Entry) (id : OpId) (g : Progress) (kept : IsProgressOf es id
           pick (inr (inr gt)) = let l : id.number < g.next = low in absurd (omega arith)
 
   -- and where the number fits, it is this one
-  pub running_is : (run : Running) → g.running ≡ Some run → g.next ≡ suc id.number → IsCalled es id run.at run.op × (¬ IsFinished es id)
+  pub running_is : (run : Running) → g.running ≡ Some run → g.next ≡ suc id.number
+      → IsCalled es id run.at run.op × (¬ IsFinished es id)
   running_is run e next = go (subst (λ (o : Option Running). IsState es id.process g.next o) e kept.state)
     where
       go : IsState es id.process g.next (Some run) → IsCalled es id run.at run.op × (¬ IsFinished es id)
@@ -62,8 +64,11 @@ module _ (es : List Entry) (id : OpId) (g : Progress) (kept : IsProgressOf es id
           (subst (λ (m : ℕ). IsCalled es (op_of id.process m) run.at run.op) same called, subst (λ (m : ℕ). ¬ IsFinished es (op_of id.process m)) same not_yet)
 
 -- the operation of an answer in place is the running one
-pub same_op : (count registers : ℕ) (es : List Entry) → IsHistory count registers es → (at : ℕ) (id : OpId) (a : Answer) (s : ℕ) (op : Op) → IsCalled es id s op → (may : MayAnswer es at id a) → may.op ≡ op
-same_op count registers es good at id a s op called may = (call_is count registers es good id may.called_at s may.op op may.called called).1
+pub same_op : (count registers : ℕ) (es : List Entry) → IsHistory count registers es
+    → (at : ℕ) (id : OpId) (a : Answer) (s : ℕ) (op : Op) → IsCalled es id s op → (may : MayAnswer es at id a)
+    → may.op ≡ op
+same_op count registers es good at id a s op called may =
+    (call_is count registers es good id may.called_at s may.op op may.called called).1
 
 pub no_truth : IsTrue false → ⊥
 no_truth h = cc
@@ -76,7 +81,8 @@ none_is None h = refl
 none_is (Some run) h = absurd cc
 
 -- whether a call is in place, of any operation of one of the memory's registers
-pub call_iff : (count registers : ℕ) (es : List Entry) → IsHistory count registers es → (g : Progress) (at : ℕ) (id : OpId) (b : Bool) → IsProgressOf es id.process g
+pub call_iff : (count registers : ℕ) (es : List Entry) → IsHistory count registers es
+    → (g : Progress) (at : ℕ) (id : OpId) (b : Bool) → IsProgressOf es id.process g
     → at ≤ LAST_EVENT → IsBehindLast es at → id.number ≡ g.next → id.number < MOST_OPERATIONS → b ≡ is_none g.running
     → (n most : ℕ) (op : Op) → id.process < n → register_of op < most → (IsTrue b → MayCall n most es at id op) × (MayCall n most es at id op → IsTrue b)
 call_iff count registers es good g at id b kept event later number small is n most op process register = (
@@ -93,17 +99,24 @@ call_iff count registers es good g at id b kept event later number small is n mo
 )
 
 -- an answer in place is one of the running operation
-pub not_last : (count registers : ℕ) (es : List Entry) (g : Progress) (at : ℕ) (id : OpId) (a : Answer) (run : Running) → IsProgressOf es id.process g → g.running ≡ Some run → (g.next ≡ suc id.number → ⊥) → ¬ MayAnswer es at id a
-not_last count registers es g at id a run kept e other may = other (runs_last es id g kept run e (may.called_at, may.op, may.called) may.running)
+pub not_last : (count registers : ℕ) (es : List Entry) (g : Progress) (at : ℕ) (id : OpId) (a : Answer) (run : Running)
+    → IsProgressOf es id.process g → g.running ≡ Some run → (g.next ≡ suc id.number → ⊥) → ¬ MayAnswer es at id a
+not_last count registers es g at id a run kept e other may =
+    other (runs_last es id g kept run e (may.called_at, may.op, may.called) may.running)
 
-pub not_fitting : (count registers : ℕ) (es : List Entry) → IsHistory count registers es → (g : Progress) (at : ℕ) (id : OpId) (a : Answer) (run : Running) → IsProgressOf es id.process g → g.running ≡ Some run → g.next ≡ suc id.number → ¬ Fits run.op a → ¬ MayAnswer es at id a
+pub not_fitting : (count registers : ℕ) (es : List Entry) → IsHistory count registers es
+    → (g : Progress) (at : ℕ) (id : OpId) (a : Answer) (run : Running) → IsProgressOf es id.process g
+    → g.running ≡ Some run → g.next ≡ suc id.number → ¬ Fits run.op a → ¬ MayAnswer es at id a
 not_fitting count registers es good g at id a run kept e next none may =
     none (subst (λ (o : Op). Fits o a) (same_op count registers es good at id a run.at run.op (running_is es id g kept run e next).0 may) may.fits)
 
-pub answer_iff : (count registers : ℕ) (es : List Entry) → IsHistory count registers es → (g : Progress) (at : ℕ) (id : OpId) (a : Answer) (run : Running) (b : Bool) → IsProgressOf es id.process g → g.running ≡ Some run → g.next ≡ suc id.number
+pub answer_iff : (count registers : ℕ) (es : List Entry) → IsHistory count registers es
+    → (g : Progress) (at : ℕ) (id : OpId) (a : Answer) (run : Running) (b : Bool) → IsProgressOf es id.process g
+    → g.running ≡ Some run → g.next ≡ suc id.number
     → at ≤ LAST_EVENT → Fits run.op a → (IsTrue b ↔ (IsBehindLast es at ⊎ ((op : Op) × (last_of es ≡ Some (Called at id op)))))
     → (IsTrue b → MayAnswer es at id a) × (MayAnswer es at id a → IsTrue b)
-answer_iff count registers es good g at id a run b kept e next event fits says = (λ t. make (says.0 t), λ may. says.1 (last_or_call count registers es good at id may.op may.later))
+answer_iff count registers es good g at id a run b kept e next event fits says =
+    (λ t. make (says.0 t), λ may. says.1 (last_or_call count registers es good at id may.op may.later))
   where
     runs : IsCalled es id run.at run.op × (¬ IsFinished es id)
     runs = running_is es id g kept run e next
@@ -120,7 +133,8 @@ answer_iff count registers es good g at id a run b kept e next event fits says =
 pub or_true : (P Q : Type 0) (b : Bool) → b ≡ true → (IsTrue true → P) × (P → IsTrue true) → IsTrue b ↔ (P ⊎ Q)
 or_true P Q b e says = (λ t. inl (says.0 refl), λ h. e)
 
-pub or_false : (P Q : Type 0) (b : Bool) → (IsTrue false → P) × (P → IsTrue false) → (IsTrue b → Q) × (Q → IsTrue b) → IsTrue b ↔ (P ⊎ Q)
+pub or_false : (P Q : Type 0) (b : Bool) → (IsTrue false → P) × (P → IsTrue false) → (IsTrue b → Q) × (Q → IsTrue b)
+    → IsTrue b ↔ (P ⊎ Q)
 or_false P Q b left right = (λ t. inr (right.0 t), back)
   where
     back : P ⊎ Q → IsTrue b

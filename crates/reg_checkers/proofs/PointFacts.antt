@@ -1,5 +1,6 @@
 -- The passes over points, and what they say of the history.
-use Rattle.std.proofs.Common.{◌≡◌, ℕ, zero, suc, ◌+◌, ◌-◌, ◌<◌, ◌≤◌, ◌⊎◌, inl, inr, List, [], ◌∷◌, length, get_or, Option, MatchOption, slice_get, refl, ap, sym, ◌∙◌, subst, arith}
+use Rattle.std.proofs.Common.{◌≡◌, ℕ, zero, suc, ◌+◌, ◌-◌, ◌<◌, ◌≤◌, ◌⊎◌, inl, inr, List, [], ◌∷◌, length, get_or}
+use Rattle.std.proofs.Common.{Option, MatchOption, slice_get, refl, ap, sym, ◌∙◌, subst, arith}
 use Rattle.std.specs.List.{AllZip}
 use Rattle.std.proofs.lemmas.Option.{same_Some, slice_get_within, slice_get-get_or}
 use Rattle.std.proofs.lemmas.Bool.{cases_order, cases_lt}
@@ -14,7 +15,8 @@ use Rattle.reg_checkers.specs.Checks.{IsOutside, IsFalling, IsFirst, IsPointFaul
 use Rattle.reg_checkers.specs.Facts.{IsFactOf, AreFacts, IsBeside, IsOutsideFact}
 use Rattle.reg_checkers.specs.Selections.{IsSelectionFault}
 use Rattle.reg_checkers.specs.declared.faults.CheckFault.{CheckFault}
-use Rattle.reg_checkers.specs.declared.faults.CheckFault.TheVariants.{Unknown, Twice, Missing, OwnOrder, Outside, Falling, OutOfMemory}
+use Rattle.reg_checkers.specs.declared.faults.CheckFault.TheVariants.{Unknown, Twice, Missing, OwnOrder, Outside}
+use Rattle.reg_checkers.specs.declared.faults.CheckFault.TheVariants.{Falling, OutOfMemory}
 use Rattle.reg_checkers.proofs.Histories.{call_is, answer_is}
 use Rattle.reg_checkers.proofs.Places.{IsAt-map, same_at, element_at}
 use Rattle.reg_checkers.specs.declared.facts.Fact.{Fact}
@@ -80,14 +82,17 @@ module _ (count registers : ℕ) (h : List Entry) (good : IsHistory count regist
   no_more (inl lt) no_less = absurd (no_less lt)
   no_more (inr h) no_less = h
 
-  pub inside_called : ((k : ℕ) → ¬ IsOutsideFact ps facts k) → (k : ℕ) (p : Point) (t : ℕ) (op : Op) → IsAt ps k p → IsCalled h p.id t op → t ≤ p.at
+  pub inside_called : ((k : ℕ) → ¬ IsOutsideFact ps facts k) → (k : ℕ) (p : Point) (t : ℕ) (op : Op) → IsAt ps k p
+      → IsCalled h p.id t op → t ≤ p.at
   inside_called none k p t op at is = no_more (cases_lt p.at t) (λ lt. none k (outside_there k (p, at, inl (t, op, is, lt))))
 
-  pub inside_answered : ((k : ℕ) → ¬ IsOutsideFact ps facts k) → (k : ℕ) (p : Point) (t : ℕ) (a : Answer) → IsAt ps k p → IsAnswered h p.id t a → p.at ≤ t
+  pub inside_answered : ((k : ℕ) → ¬ IsOutsideFact ps facts k) → (k : ℕ) (p : Point) (t : ℕ) (a : Answer) → IsAt ps k p
+      → IsAnswered h p.id t a → p.at ≤ t
   inside_answered none k p t a at is = no_more (cases_lt t p.at) (λ lt. none k (outside_there k (p, at, inr (t, a, is, lt))))
 
 -- where no point falls below the one before, none falls
-pub never_falls : (ps : List Point) → ((k : ℕ) → ¬ IsFalling ps k) → (i j : ℕ) (p q : Point) → IsAt ps i p → IsAt ps j q → i < j → p.at ≤ q.at
+pub never_falls : (ps : List Point) → ((k : ℕ) → ¬ IsFalling ps k) → (i j : ℕ) (p q : Point) → IsAt ps i p → IsAt ps j q
+    → i < j → p.at ≤ q.at
 never_falls ps none i zero p q at1 at2 lt = absurd (omega arith)
 never_falls ps none i (suc j) p q at1 at2 lt =
     let before : (c : Point) × IsAt ps j c = element_at ps j (let n : suc j < length ps = slice_get_within ps (suc j) q at2 in omega arith) in
@@ -102,7 +107,8 @@ never_falls ps none i (suc j) p q at1 at2 lt =
     go c here (inr (inl less)) (inr le) rec = let m : p.at ≤ c.at = rec less in omega arith
     go c here (inr (inr more)) (inr le) rec = absurd (omega arith)
 
-pub selection_fault : (registers : ℕ) (h : List Entry) (ps : List Point) (f : CheckFault) → IsSelectionFault h (ids_of ps) f → IsPointFault registers h ps f
+pub selection_fault : (registers : ℕ) (h : List Entry) (ps : List Point) (f : CheckFault)
+    → IsSelectionFault h (ids_of ps) f → IsPointFault registers h ps f
 selection_fault registers h ps Unknown fault = fault
 selection_fault registers h ps Twice fault = fault
 selection_fault registers h ps Missing fault = fault
@@ -113,16 +119,20 @@ selection_fault registers h ps (Falling place) fault = absurd fault
 selection_fault registers h ps OutOfMemory fault = fault
 
 -- nothing is outside at a place where the code found nothing
-pub not_outside_at : (ps : List Point) (facts : List Fact) (k : ℕ) (d : Point) (e : Fact) → k < length ps → length facts ≡ length ps → ¬ IsBeside (get_or ps k d) (get_or facts k e) → ¬ IsOutsideFact ps facts k
+pub not_outside_at : (ps : List Point) (facts : List Fact) (k : ℕ) (d : Point) (e : Fact) → k < length ps
+    → length facts ≡ length ps → ¬ IsBeside (get_or ps k d) (get_or facts k e) → ¬ IsOutsideFact ps facts k
 not_outside_at ps facts k d e lt same none (p, f, at1, at2, beside) =
     let one : p ≡ get_or ps k d = same_Some p (get_or ps k d) (sym at1 ∙ slice_get-get_or ps k d lt) in
     let two : f ≡ get_or facts k e = same_Some f (get_or facts k e) (sym at2 ∙ slice_get-get_or facts k e (omega arith)) in
     none (subst (λ (x : Point). IsBeside x (get_or facts k e)) one (subst (λ (y : Fact). IsBeside p y) two beside))
 
-pub none_outside : (ps : List Point) (facts : List Fact) (n : ℕ) → length ps ≤ n → ((j : ℕ) → j < n → ¬ IsOutsideFact ps facts j) → (k : ℕ) → ¬ IsOutsideFact ps facts k
-none_outside ps facts n le before k (p, f, at1, at2, beside) = let lt : k < length ps = slice_get_within ps k p at1 in before k (omega arith) (p, f, at1, at2, beside)
+pub none_outside : (ps : List Point) (facts : List Fact) (n : ℕ) → length ps ≤ n
+    → ((j : ℕ) → j < n → ¬ IsOutsideFact ps facts j) → (k : ℕ) → ¬ IsOutsideFact ps facts k
+none_outside ps facts n le before k (p, f, at1, at2, beside) =
+    let lt : k < length ps = slice_get_within ps k p at1 in before k (omega arith) (p, f, at1, at2, beside)
 
-pub not_falling_at : (ps : List Point) (k : ℕ) (d : Point) → k < length ps → 1 ≤ k → (get_or ps (k - 1) d).at ≤ (get_or ps k d).at → ¬ IsFalling ps k
+pub not_falling_at : (ps : List Point) (k : ℕ) (d : Point) → k < length ps → 1 ≤ k
+    → (get_or ps (k - 1) d).at ≤ (get_or ps k d).at → ¬ IsFalling ps k
 not_falling_at ps k d lt pos le (j, p, q, e, at1, at2, falls) =
     let j_is : j ≡ k - 1 = omega arith in
     let one : p ≡ get_or ps (k - 1) d = same_Some p (get_or ps (k - 1) d) (sym at1 ∙ (ap (λ (n : ℕ). slice_get ps n) j_is ∙ slice_get-get_or ps (k - 1) d (omega arith))) in
@@ -131,5 +141,7 @@ not_falling_at ps k d lt pos le (j, p, q, e, at1, at2, falls) =
     let b : q.at ≡ (get_or ps k d).at = ap (λ (x : Point). x.at) two in
     omega arith
 
-pub none_falling : (ps : List Point) (n : ℕ) → length ps ≤ n → ((j : ℕ) → j < n → ¬ IsFalling ps j) → (k : ℕ) → ¬ IsFalling ps k
-none_falling ps n le before k (j, p, q, e, at1, at2, falls) = let lt : k < length ps = slice_get_within ps k q at2 in before k (omega arith) (j, p, q, e, at1, at2, falls)
+pub none_falling : (ps : List Point) (n : ℕ) → length ps ≤ n → ((j : ℕ) → j < n → ¬ IsFalling ps j) → (k : ℕ)
+    → ¬ IsFalling ps k
+none_falling ps n le before k (j, p, q, e, at1, at2, falls) =
+    let lt : k < length ps = slice_get_within ps k q at2 in before k (omega arith) (j, p, q, e, at1, at2, falls)

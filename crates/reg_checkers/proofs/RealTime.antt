@@ -13,7 +13,8 @@ use Rattle.reg_checkers.proofs.Places.{same_at, at_map}
 use Rattle.reg_checkers.proofs.Histories.{answered_was_called, answered_before_next}
 
 -- an operation answered before another's call stands before it
-pub stands_before : (registers : ℕ) (h : List Entry) (ps : List Point) → IsPointOrder registers h ps → (i j : ℕ) (p q : Point) → IsAt ps i p → IsAt ps j q
+pub stands_before : (registers : ℕ) (h : List Entry) (ps : List Point) → IsPointOrder registers h ps
+    → (i j : ℕ) (p q : Point) → IsAt ps i p → IsAt ps j q
     → (s t : ℕ) (answer : Answer) (op : Op) → IsAnswered h p.id s answer → IsCalled h q.id t op → s < t → i < j
 stands_before registers h ps order i j p q at1 at2 s t answer op ans call lt =
     let low : p.at ≤ s = order.answered i p s answer at1 ans in
@@ -29,13 +30,16 @@ stands_before registers h ps order i j p q at1 at2 s t answer op ans call lt =
     go (inr (inl h)) less = h
     go (inr (inr g)) less = let ge : q.at ≤ p.at = order.rising j i q p at2 at1 g in absurd (omega arith)
 
-stood_called : (n registers : ℕ) (h : List Entry) → IsHistory n registers h → (id : OpId) → MayStand h id → WasCalled h id
+stood_called : (n registers : ℕ) (h : List Entry) → IsHistory n registers h → (id : OpId) → MayStand h id
+    → WasCalled h id
 stood_called n registers h good id (inl fin) = answered_was_called n registers h good id fin.0 fin.1 fin.2
 stood_called n registers h good id (inr call) = (call.0, call.1, call.2)
 
 -- so a point order is a serial order
-pub point_order_is_serial : (n registers : ℕ) (h : List Entry) (ps : List Point) → IsHistory n registers h → IsPointOrder registers h ps → IsSerial registers h (map (λ p. p.id) ps)
-point_order_is_serial n registers h ps good order = record { selection = order.selection; legal = order.legal; own_order = own }
+pub point_order_is_serial : (n registers : ℕ) (h : List Entry) (ps : List Point) → IsHistory n registers h
+    → IsPointOrder registers h ps → IsSerial registers h (map (λ p. p.id) ps)
+point_order_is_serial n registers h ps good order =
+    record { selection = order.selection; legal = order.legal; own_order = own }
   where
     own : KeepsOwnOrder (map (λ p. p.id) ps)
     own i j a b at1 at2 same lt =

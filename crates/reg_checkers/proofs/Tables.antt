@@ -1,5 +1,7 @@
 -- Rows without facts, and what a push into a row leaves.
-use Rattle.std.proofs.Common.{◌≡◌, ◌≢◌, ℕ, zero, suc, ◌<◌, ◌⊎◌, inl, inr, ◌↔◌, IsSome, List, [], ◌∷◌, ◌++◌, length, set, Option, None, Some, Vec, option_and_then, slice_get, refl, ap, ap₂, sym, ◌∙◌, subst, arith, rules}
+use Rattle.std.proofs.Common.{◌≡◌, ◌≢◌, ℕ, zero, suc, ◌<◌, ◌⊎◌, inl, inr, ◌↔◌, IsSome, List, [], ◌∷◌, ◌++◌, length, set}
+use Rattle.std.proofs.Common.{Option, None, Some, Vec, option_and_then, slice_get, refl, ap, ap₂, sym, ◌∙◌, subst}
+use Rattle.std.proofs.Common.{arith, rules}
 use Rattle.std.proofs.lemmas.Option.{slice_get_within}
 use Rattle.std.proofs.lemmas.Bool.{cases_order, cases_eq}
 use Rattle.reg_base.specs.declared.memory.OpId.{OpId}
@@ -18,8 +20,10 @@ within_some (x ∷ xs) zero h = search rules
 within_some (x ∷ xs) (suc k) h = within_some xs k (omega arith)
 
 -- the fact of an operation of a process whose row is known
-pub cell_of : {A : Type 0} (rows : Rows A) (id : OpId) (row : Vec Fact A) → slice_get rows id.process ≡ Some row → cell rows id ≡ slice_get row.items id.number
-cell_of {A = A} rows id row e = ap (λ (o : Option (Vec Fact A)). option_and_then (λ (r : Vec Fact A). slice_get r.items id.number) o) e
+pub cell_of : {A : Type 0} (rows : Rows A) (id : OpId) (row : Vec Fact A) → slice_get rows id.process ≡ Some row
+    → cell rows id ≡ slice_get row.items id.number
+cell_of {A = A} rows id row e =
+    ap (λ (o : Option (Vec Fact A)). option_and_then (λ (r : Vec Fact A). slice_get r.items id.number) o) e
 
 row_length : {A : Type 0} (rows : Rows A) (id : OpId) (row : Vec Fact A) → slice_get rows id.process ≡ Some row
     → ((n : ℕ) → (n < id.number) ↔ IsSome (cell rows (record { process = id.process; number = n }))) → length row.items ≡ id.number
@@ -36,7 +40,8 @@ row_length {A = A} rows id row e next = go (cases_order (length row.items) id.nu
     go (inr (inl h)) = let less : length row.items < length row.items = some_within row.items (length row.items) (down (length row.items) ((next (length row.items)).0 h)) in absurd (omega arith)
     go (inr (inr h)) = let less : id.number < id.number = (next id.number).1 (up id.number (within_some row.items id.number h)) in absurd (omega arith)
 
-pub changed_by_push : {A : Type 0} (rows : Rows A) (id : OpId) (f : Fact) (row new : Vec Fact A) → slice_get rows id.process ≡ Some row → new.items ≡ row.items ++ f ∷ []
+pub changed_by_push : {A : Type 0} (rows : Rows A) (id : OpId) (f : Fact) (row new : Vec Fact A)
+    → slice_get rows id.process ≡ Some row → new.items ≡ row.items ++ f ∷ []
     → ((n : ℕ) → (n < id.number) ↔ IsSome (cell rows (record { process = id.process; number = n }))) → IsChangedAt rows (set rows id.process new) id f
 changed_by_push {A = A} rows id f row new e items next = record { here = here; others = others }
   where
@@ -60,7 +65,8 @@ changed_by_push {A = A} rows id f row new e items next = record { here = here; o
             cell_of (set rows id.process new) x new now ∙ (ap (λ (xs : List Fact). slice_get xs x.number) items ∙ (get_push_other row.items x.number f number ∙ sym (cell_of rows x row was)))
         go (inr away) = ap (λ (o : Option (Vec Fact A)). option_and_then (λ (r : Vec Fact A). slice_get r.items x.number) o) (get_set_other rows id.process x.process new away)
 
-inside : {X Y : Type 0} (f : X → Option Y) (xs : List X) (k : ℕ) → IsSome (option_and_then f (slice_get xs k)) → k < length xs
+inside : {X Y : Type 0} (f : X → Option Y) (xs : List X) (k : ℕ) → IsSome (option_and_then f (slice_get xs k))
+    → k < length xs
 inside f [] k h = search rules
 inside f (x ∷ xs) zero h = omega arith
 inside f (x ∷ xs) (suc k) h = let r : k < length xs = inside f xs k h in omega arith
@@ -69,7 +75,9 @@ inside f (x ∷ xs) (suc k) h = let r : k < length xs = inside f xs k h in omega
 pub has_row : {A : Type 0} (rows : Rows A) (id : OpId) → IsSome (cell rows id) → id.process < length rows
 has_row {A = A} rows id some = inside (λ (r : Vec Fact A). slice_get r.items id.number) rows id.process some
 
-pub changed_by_set : {A : Type 0} (rows : Rows A) (id : OpId) (f : Fact) (row new : Vec Fact A) → slice_get rows id.process ≡ Some row → new.items ≡ set row.items id.number f → IsSome (cell rows id) → IsChangedAt rows (set rows id.process new) id f
+pub changed_by_set : {A : Type 0} (rows : Rows A) (id : OpId) (f : Fact) (row new : Vec Fact A)
+    → slice_get rows id.process ≡ Some row → new.items ≡ set row.items id.number f → IsSome (cell rows id)
+    → IsChangedAt rows (set rows id.process new) id f
 changed_by_set {A = A} rows id f row new e items some = record { here = here; others = others }
   where
     within : id.number < length row.items
@@ -93,7 +101,8 @@ changed_by_set {A = A} rows id f row new e items some = record { here = here; ot
         go (inr away) = ap (λ (o : Option (Vec Fact A)). option_and_then (λ (r : Vec Fact A). slice_get r.items x.number) o) (get_set_other rows id.process x.process new away)
 
 -- one more row without facts brings none
-pub none_more : {A : Type 0} (rows : Rows A) (row : Vec Fact A) → row.items ≡ [] → ((id : OpId) → cell rows id ≡ None) → (id : OpId) → cell (rows ++ row ∷ []) id ≡ None
+pub none_more : {A : Type 0} (rows : Rows A) (row : Vec Fact A) → row.items ≡ [] → ((id : OpId) → cell rows id ≡ None)
+    → (id : OpId) → cell (rows ++ row ∷ []) id ≡ None
 none_more {A = A} rows row empty none id = go rows id.process (none id)
   where
     go : (rs : Rows A) (p : ℕ) → option_and_then (λ (r : Vec Fact A). slice_get r.items id.number) (slice_get rs p) ≡ None
@@ -108,7 +117,8 @@ not_both x h = cc
 
 -- rows without facts are the table of no entries
 pub table_of_none : {A : Type 0} (rows : Rows A) → ((id : OpId) → cell rows id ≡ None) → IsTable [] rows
-table_of_none rows none = record { facts = λ id f is. absurd (not_both f (sym (none id) ∙ is)); all = λ id was. absurd (not_both _ was.2.1) }
+table_of_none rows none =
+    record { facts = λ id f is. absurd (not_both f (sym (none id) ∙ is)); all = λ id was. absurd (not_both _ was.2.1) }
 
 pub none_marked : {A : Type 0} (rows : Rows A) → ((id : OpId) → cell rows id ≡ None) → IsUnmarked rows
 none_marked rows none id marked = not_both marked.0 (sym (none id) ∙ marked.1)

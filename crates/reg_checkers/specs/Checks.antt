@@ -8,14 +8,17 @@ use Rattle.reg_base.specs.declared.memory.Answer.{Answer as Reply}
 use Rattle.reg_checkers.specs.declared.entries.Entry.{Entry}
 use Rattle.reg_checkers.specs.declared.entries.Point.{Point}
 use Rattle.reg_checkers.specs.declared.faults.CheckFault.{CheckFault}
-use Rattle.reg_checkers.specs.declared.faults.CheckFault.TheVariants.{Unknown, Twice, Missing, OwnOrder, Answer, Outside, Falling, OutOfMemory}
+use Rattle.reg_checkers.specs.declared.faults.CheckFault.TheVariants.{Unknown, Twice, Missing, OwnOrder, Answer}
+use Rattle.reg_checkers.specs.declared.faults.CheckFault.TheVariants.{Outside, Falling, OutOfMemory}
 use Rattle.reg_base.specs.Memory.{updates, answer_of, memory}
 use Rattle.reg_checkers.specs.History.{IsAt, IsCalled, IsAnswered, IsFinished}
 use Rattle.reg_checkers.specs.Orders.{IsSerial, IsPointOrder}
 
 -- some id is not that of a finished operation, nor that of a called one that may have changed the memory
 abbrev pub HasUnknown : List Entry → List OpId → Type 0
-HasUnknown h ids = (k : ℕ) × (id : OpId) × IsAt ids k id × (¬ IsFinished h id) × (¬ ((at : ℕ) × (op : Op) × IsCalled h id at op × (updates op ≡ true)))
+HasUnknown h ids =
+    (k : ℕ) × (id : OpId) × IsAt ids k id × (¬ IsFinished h id)
+    × (¬ ((at : ℕ) × (op : Op) × IsCalled h id at op × (updates op ≡ true)))
 
 -- some id stands twice
 abbrev pub HasTwice : List OpId → Type 0
@@ -27,7 +30,9 @@ HasMissing h ids = (id : OpId) × IsFinished h id × ((k : ℕ) → IsAt ids k i
 
 -- some id stands after one of its process with a larger number
 abbrev pub BreaksOwnOrder : List OpId → Type 0
-BreaksOwnOrder ids = (i : ℕ) × (j : ℕ) × (a : OpId) × (b : OpId) × IsAt ids i a × IsAt ids j b × (i < j) × (a.process ≡ b.process) × (b.number < a.number)
+BreaksOwnOrder ids =
+    (i : ℕ) × (j : ℕ) × (a : OpId) × (b : OpId) × IsAt ids i a × IsAt ids j b × (i < j) × (a.process ≡ b.process)
+    × (b.number < a.number)
 
 -- these operations were called under these ids
 abbrev pub AreCalled : List Entry → List OpId → List Op → Type 0
@@ -48,7 +53,10 @@ pub record IsWrong (registers : ℕ) (h : List Entry) (ids : List OpId) (k : ℕ
 
 -- the point at this place is before the call, or after the answer
 abbrev pub IsOutside : List Entry → List Point → ℕ → Type 0
-IsOutside h ps k = (p : Point) × IsAt ps k p × (((at : ℕ) × (op : Op) × IsCalled h p.id at op × (p.at < at)) ⊎ ((at : ℕ) × (answer : Reply) × IsAnswered h p.id at answer × (at < p.at)))
+IsOutside h ps k =
+    (p : Point) × IsAt ps k p
+    × (((at : ℕ) × (op : Op) × IsCalled h p.id at op × (p.at < at))
+    ⊎ ((at : ℕ) × (answer : Reply) × IsAnswered h p.id at answer × (at < p.at)))
 
 -- the point at this place is below the one before it
 abbrev pub IsFalling : List Point → ℕ → Type 0
@@ -70,7 +78,8 @@ IsSerialFault registers h ids Unknown = HasUnknown h ids
 IsSerialFault registers h ids Twice = (¬ HasUnknown h ids) × HasTwice ids
 IsSerialFault registers h ids Missing = (¬ HasUnknown h ids) × (¬ HasTwice ids) × HasMissing h ids
 IsSerialFault registers h ids OwnOrder = NoneOfThree h ids × BreaksOwnOrder ids
-IsSerialFault registers h ids (Answer place) = NoneOfThree h ids × (¬ BreaksOwnOrder ids) × IsFirst (IsWrong registers h ids) place
+IsSerialFault registers h ids (Answer place) =
+    NoneOfThree h ids × (¬ BreaksOwnOrder ids) × IsFirst (IsWrong registers h ids) place
 IsSerialFault registers h ids (Outside place) = ⊥
 IsSerialFault registers h ids (Falling place) = ⊥
 IsSerialFault registers h ids OutOfMemory = Unit {0}
@@ -85,13 +94,18 @@ IsPointFault registers h ps Twice = (¬ HasUnknown h (ids_of ps)) × HasTwice (i
 IsPointFault registers h ps Missing = (¬ HasUnknown h (ids_of ps)) × (¬ HasTwice (ids_of ps)) × HasMissing h (ids_of ps)
 IsPointFault registers h ps OwnOrder = ⊥
 IsPointFault registers h ps (Answer place) = NoneOfThree h (ids_of ps) × IsFirst (IsWrong registers h (ids_of ps)) place
-IsPointFault registers h ps (Outside place) = NoneOfThree h (ids_of ps) × ((k : ℕ) → ¬ IsWrong registers h (ids_of ps) k) × IsFirst (IsOutside h ps) place
-IsPointFault registers h ps (Falling place) = NoneOfThree h (ids_of ps) × ((k : ℕ) → ¬ IsWrong registers h (ids_of ps) k) × ((k : ℕ) → ¬ IsOutside h ps k) × IsFirst (IsFalling ps) place
+IsPointFault registers h ps (Outside place) =
+    NoneOfThree h (ids_of ps) × ((k : ℕ) → ¬ IsWrong registers h (ids_of ps) k) × IsFirst (IsOutside h ps) place
+IsPointFault registers h ps (Falling place) =
+    NoneOfThree h (ids_of ps) × ((k : ℕ) → ¬ IsWrong registers h (ids_of ps) k) × ((k : ℕ) → ¬ IsOutside h ps k)
+    × IsFirst (IsFalling ps) place
 IsPointFault registers h ps OutOfMemory = Unit {0}
 
 -- the contracts of check_serial and check_points
 abbrev pub SerialVerdict : {A : Type 0} → ℕ → List Entry → List OpId → Result A CheckFault → Type 0
-SerialVerdict registers h ids result = MatchResult result (λ _. IsSerial registers h ids) (λ fault. IsSerialFault registers h ids fault)
+SerialVerdict registers h ids result =
+    MatchResult result (λ _. IsSerial registers h ids) (λ fault. IsSerialFault registers h ids fault)
 
 abbrev pub PointVerdict : {A : Type 0} → ℕ → List Entry → List Point → Result A CheckFault → Type 0
-PointVerdict registers h ps result = MatchResult result (λ _. IsPointOrder registers h ps) (λ fault. IsPointFault registers h ps fault)
+PointVerdict registers h ps result =
+    MatchResult result (λ _. IsPointOrder registers h ps) (λ fault. IsPointFault registers h ps fault)

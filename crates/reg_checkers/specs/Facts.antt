@@ -24,7 +24,8 @@ IsWrongOn m f = (given : Given) × (f.answered ≡ Some given) × (given.answer 
 
 -- the fact at this place has another answer than that of the memory after those before it
 abbrev pub IsWrongFact : ℕ → List Fact → ℕ → Type 0
-IsWrongFact registers facts k = (f : Fact) × IsAt facts k f × IsWrongOn (memory registers (map (λ f. f.op) (take k facts))) f
+IsWrongFact registers facts k =
+    (f : Fact) × IsAt facts k f × IsWrongOn (memory registers (map (λ f. f.op) (take k facts))) f
 
 -- the point is before the call, or after the answer
 abbrev pub IsBeside : Point → Fact → Type 0

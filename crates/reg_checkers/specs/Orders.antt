@@ -18,18 +18,21 @@ IsDistinct ids = (i j : ℕ) (id : OpId) → IsAt ids i id → IsAt ids j id →
 pub record IsSelection (h : List Entry) (ids : List OpId) : Type 0 where
   pub distinct : IsDistinct ids
   pub finished : (id : OpId) → IsFinished h id → (k : ℕ) × IsAt ids k id
-  pub known : (k : ℕ) (id : OpId) → IsAt ids k id → IsFinished h id ⊎ ((at : ℕ) × (op : Op) × IsCalled h id at op × (updates op ≡ true))
+  pub known : (k : ℕ) (id : OpId) → IsAt ids k id
+      → IsFinished h id ⊎ ((at : ℕ) × (op : Op) × IsCalled h id at op × (updates op ≡ true))
 
 -- The operations that were called under these ids: each of them that is finished has the answer of one memory, all 0 at
 -- first, after those before it.
 pub record IsLegal (registers : ℕ) (h : List Entry) (ids : List OpId) : Type 0 where
   pub ops : List Op
   pub called : AllZip (λ id op. (at : ℕ) × IsCalled h id at op) ids ops
-  pub right : (k : ℕ) (id : OpId) (op : Op) (at : ℕ) (answer : Answer) → IsAt ids k id → IsAt ops k op → IsAnswered h id at answer → answer ≡ answer_of op (memory_after (take k ops) (replicate registers 0))
+  pub right : (k : ℕ) (id : OpId) (op : Op) (at : ℕ) (answer : Answer) → IsAt ids k id → IsAt ops k op
+      → IsAnswered h id at answer → answer ≡ answer_of op (memory_after (take k ops) (replicate registers 0))
 
 -- of two ids of one process, the one with the smaller number stands first
 abbrev pub KeepsOwnOrder : List OpId → Type 0
-KeepsOwnOrder ids = (i j : ℕ) (a b : OpId) → IsAt ids i a → IsAt ids j b → a.process ≡ b.process → a.number < b.number → i < j
+KeepsOwnOrder ids =
+    (i j : ℕ) (a b : OpId) → IsAt ids i a → IsAt ids j b → a.process ≡ b.process → a.number < b.number → i < j
 
 -- A serial order (Lamport 1979: the result of any execution is the same as if the operations of all the
 -- processes were executed in some sequential order, and the operations of each process appear in this order).

@@ -26,7 +26,9 @@ IsIdle es process = (id : OpId) → id.process ≡ process → WasCalled es id �
 -- the process runs nothing; or it runs its last operation, and has finished those before
 abbrev pub IsState : List Entry → ℕ → ℕ → Option Running → Type 0
 IsState es p next None = IsIdle es p
-IsState es p next (Some run) = (n : ℕ) × (next ≡ suc n) × IsCalled es (op_of p n) run.at run.op × (¬ IsFinished es (op_of p n)) × ((m : ℕ) → m < n → IsFinished es (op_of p m))
+IsState es p next (Some run) =
+    (n : ℕ) × (next ≡ suc n) × IsCalled es (op_of p n) run.at run.op × (¬ IsFinished es (op_of p n))
+    × ((m : ℕ) → m < n → IsFinished es (op_of p m))
 
 pub record IsProgressOf (es : List Entry) (p : ℕ) (g : Progress) : Type 0 where
   pub calls : (n : ℕ) → (n < g.next) ↔ WasCalled es (op_of p n)

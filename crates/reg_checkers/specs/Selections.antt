@@ -6,7 +6,8 @@ use Rattle.reg_checkers.specs.declared.facts.Fact.{Fact}
 use Rattle.reg_checkers.specs.Facts.{AreFacts}
 use Rattle.reg_checkers.specs.Orders.{IsSelection}
 use Rattle.reg_checkers.specs.declared.faults.CheckFault.{CheckFault}
-use Rattle.reg_checkers.specs.declared.faults.CheckFault.TheVariants.{Unknown, Twice, Missing, OwnOrder, Answer, Outside, Falling, OutOfMemory}
+use Rattle.reg_checkers.specs.declared.faults.CheckFault.TheVariants.{Unknown, Twice, Missing, OwnOrder, Answer}
+use Rattle.reg_checkers.specs.declared.faults.CheckFault.TheVariants.{Outside, Falling, OutOfMemory}
 use Rattle.reg_checkers.specs.Checks.{HasUnknown, HasTwice, HasMissing}
 
 -- the ids are a selection, and these are their facts

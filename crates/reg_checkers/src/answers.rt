@@ -29,7 +29,9 @@ pub fn first_wrong<A: Allocator + Copy>(
     facts: &[Fact],
 ) -> Result<Option<usize>, AllocError>
     requires { All (λ f. register_of f.op < shape.registers) facts.now }
-    ensures { IfOk result (λ o. MatchOption o ((k : ℕ) → ¬ IsWrongFact shape.registers facts.now k) (λ k. IsFirst (IsWrongFact shape.registers facts.now) k)) }
+    ensures { IfOk result
+        (λ o. MatchOption o ((k : ℕ) → ¬ IsWrongFact shape.registers facts.now k)
+        (λ k. IsFirst (IsWrongFact shape.registers facts.now) k)) }
 {
     let mut values = Registers::new(alloc, shape.registers() as u16)?;
     for place in 0..facts.len() {

@@ -25,7 +25,8 @@ fn select<A: Allocator + Copy>(
     ids: &[OpId],
 ) -> Result<Vec<Fact, A>, CheckFault>
     requires { IsHistory shape.processes shape.registers entries.now }
-    ensures { MatchResult result (λ v. IsSelected entries.now ids.now v.items × NoneOfThree entries.now ids.now) (λ f. IsSelectionFault entries.now ids.now f) }
+    ensures { MatchResult result (λ v. IsSelected entries.now ids.now v.items × NoneOfThree entries.now ids.now)
+        (λ f. IsSelectionFault entries.now ids.now f) }
 {
     let Ok(mut rows) = table_of(alloc, shape, entries) else {
         return Err(CheckFault::OutOfMemory);
@@ -52,7 +53,9 @@ fn check_answers<A: Allocator + Copy>(
 ) -> Result<(), CheckFault>
     requires { All (λ f. register_of f.op < shape.registers) facts.now }
     ensures right { OnOk result ((k : ℕ) → ¬ IsWrongFact shape.registers facts.now k) }
-    ensures wrong { IfErr result (λ f. (f ≡ CheckFault.OutOfMemory) ⊎ ((place : ℕ) × (f ≡ CheckFault.Answer place) × IsFirst (IsWrongFact shape.registers facts.now) place)) }
+    ensures wrong { IfErr result
+        (λ f. (f ≡ CheckFault.OutOfMemory)
+        ⊎ ((place : ℕ) × (f ≡ CheckFault.Answer place) × IsFirst (IsWrongFact shape.registers facts.now) place)) }
 {
     match first_wrong(alloc, shape, facts) {
         Ok(None) => Ok(()),
@@ -64,9 +67,12 @@ fn check_answers<A: Allocator + Copy>(
 /// Checks that each point is between its call and its answer, and none is below the one before it.
 fn check_places(points: &[Point], facts: &[Fact]) -> Result<(), CheckFault>
     requires { length facts.now ≡ length points.now }
-    ensures right { OnOk result (((k : ℕ) → ¬ IsOutsideFact points.now facts.now k) × ((k : ℕ) → ¬ IsFalling points.now k)) }
-    ensures wrong { IfErr result (λ f. ((place : ℕ) × (f ≡ CheckFault.Outside place) × IsFirst (IsOutsideFact points.now facts.now) place)
-        ⊎ ((place : ℕ) × (f ≡ CheckFault.Falling place) × ((k : ℕ) → ¬ IsOutsideFact points.now facts.now k) × IsFirst (IsFalling points.now) place)) }
+    ensures right { OnOk result
+        (((k : ℕ) → ¬ IsOutsideFact points.now facts.now k) × ((k : ℕ) → ¬ IsFalling points.now k)) }
+    ensures wrong { IfErr result
+        (λ f. ((place : ℕ) × (f ≡ CheckFault.Outside place) × IsFirst (IsOutsideFact points.now facts.now) place)
+        ⊎ ((place : ℕ) × (f ≡ CheckFault.Falling place) × ((k : ℕ) → ¬ IsOutsideFact points.now facts.now k)
+        × IsFirst (IsFalling points.now) place)) }
 {
     if let Some(place) = first_outside(points, facts) {
         return Err(CheckFault::Outside { place });

@@ -24,7 +24,8 @@ impl<A: Allocator + Copy> Model for History<A> {
 
     ghost Value = { Log };
 
-    ghost view = { λ h. record { shape = h.shape; entries = h.entries.items; room = vec_capacity h.entries - vec_len h.entries } };
+    ghost view = { λ h.
+        record { shape = h.shape; entries = h.entries.items; room = vec_capacity h.entries - vec_len h.entries } };
 
     ghost invariant = { λ h. IsKept h.shape.processes h.shape.registers h.entries.items h.progress.items };
 }
@@ -76,7 +77,8 @@ impl<A: Allocator + Copy> History<A> {
     /// refused. Nothing has changed then.
     #[inline]
     pub fn push(&mut self, entry: Entry) -> Result<(), HistoryFault>
-        ensures { MatchResult result (λ _. Grows self.old self.new entry) (λ fault. Refuses self.old entry fault × (self.new ≡ self.old)) }
+        ensures { MatchResult result (λ _. Grows self.old self.new entry)
+            (λ fault. Refuses self.old entry fault × (self.new ≡ self.old)) }
     {
         if !is_in_place(self.shape, &self.entries, &self.progress, entry) {
             return Err(HistoryFault::OutOfPlace);

@@ -1,5 +1,6 @@
 //! The passes that mark the operations of an order in the table.
-ghost use Rattle.std.specs.Prelude.{◌≡◌, ℕ, ◌<◌, ◌+◌, ◌↔◌, List, [], IsSome, IsTrue, IfOk, MatchBool, MatchOption, vec_len, slice_index, slice_set, ◌≤◌};
+ghost use Rattle.std.specs.Prelude.{◌≡◌, ℕ, ◌<◌, ◌+◌, ◌↔◌, List, [], IsSome, IsTrue, IfOk, MatchBool, MatchOption};
+ghost use Rattle.std.specs.Prelude.{vec_len, slice_index, slice_set, ◌≤◌};
 ghost use Rattle.reg_base.specs.declared.memory.OpId.{OpId};
 ghost use Rattle.reg_checkers.specs.History.{IsAt, IsFinished};
 ghost use Rattle.reg_checkers.specs.Orders.{IsDistinct, KeepsOwnOrder};
@@ -74,7 +75,8 @@ pub fn has_twice<A: Allocator + Copy>(rows: &mut Vec<Vec<Fact, A>, A>, ids: &[Op
 
 /// Whether a finished operation is not marked.
 pub fn has_missing<A: Allocator + Copy>(rows: &[Vec<Fact, A>], entries: &[Entry]) -> bool
-    ensures { MatchBool result ((id : OpId) × IsFinished entries.now id × (¬ Marked rows.now id)) ((id : OpId) → IsFinished entries.now id → Marked rows.now id) }
+    ensures { MatchBool result ((id : OpId) × IsFinished entries.now id × (¬ Marked rows.now id))
+        ((id : OpId) → IsFinished entries.now id → Marked rows.now id) }
 {
     for i in 0..entries.len() {
         if let Entry::Answered {
@@ -97,7 +99,9 @@ pub fn resolve<A: Allocator + Copy>(
     rows: &[Vec<Fact, A>],
     ids: &[OpId],
 ) -> Result<Option<Vec<Fact, A>>, AllocError>
-    ensures { IfOk result (λ o. MatchOption o ((k : ℕ) × (id : OpId) × IsAt ids.now k id × (¬ Stands rows.now id)) (λ v. AreResolved rows.now ids.now v.items)) }
+    ensures { IfOk result
+        (λ o. MatchOption o ((k : ℕ) × (id : OpId) × IsAt ids.now k id × (¬ Stands rows.now id))
+        (λ v. AreResolved rows.now ids.now v.items)) }
 {
     let mut facts = Vec::with_capacity(alloc, ids.len())?;
     for k in 0..ids.len() {
@@ -112,7 +116,10 @@ pub fn resolve<A: Allocator + Copy>(
 /// Takes the next number of a process, unless the process is already past it.
 fn passes<A: Allocator + Copy>(next: &mut Vec<u64, A>, id: OpId) -> bool
     requires { vec_len next.old ≡ 256 }
-    ensures verdict { MatchBool result ((slice_index next.old.items id.process ≤ id.number) × (next.new.items ≡ slice_set next.old.items id.process (id.number + 1))) (id.number < slice_index next.old.items id.process) }
+    ensures verdict { MatchBool result
+        ((slice_index next.old.items id.process ≤ id.number)
+        × (next.new.items ≡ slice_set next.old.items id.process (id.number + 1)))
+        (id.number < slice_index next.old.items id.process) }
     ensures len { vec_len next.new ≡ 256 }
     ensures small { id.process < 256 }
 {

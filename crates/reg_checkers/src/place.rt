@@ -1,7 +1,8 @@
 //! Whether an entry is in place, by what is kept of its process.
 ghost use Rattle.std.specs.Prelude.{ℕ, ◌≡◌, ◌<◌, ◌↔◌, Some, IsTrue, length, slice_index_or, slice_set};
 ghost use Rattle.reg_checkers.specs.History.{event_of, IsHistory, MayCall, MayAnswer, IsInPlace};
-ghost use Rattle.reg_checkers.specs.Progress.{last_of, IsBehindLast, IsProgressOf, IsKept, IsNumbered, id_of as id_of_entry, progress_after};
+ghost use Rattle.reg_checkers.specs.Progress.{last_of, IsBehindLast, IsProgressOf, IsKept, IsNumbered};
+ghost use Rattle.reg_checkers.specs.Progress.{id_of as id_of_entry, progress_after};
 ghost use Rattle.reg_base.specs.declared.memory.Op.{Op};
 ghost use Rattle.reg_base.specs.Memory.{register_of};
 ghost use Rattle.reg_checkers.specs.declared.entries.Entry.TheVariants.{Called};
@@ -78,7 +79,9 @@ pub fn after_entry(before: Progress, entry: Entry) -> Progress
 pub fn advance<A: Allocator + Copy>(progress: &mut Vec<Progress, A>, entry: Entry)
     requires within { (id_of_entry entry).process < length progress.old.items }
     requires numbered { IsNumbered entry }
-    ensures { (before : Progress) × (before ≡ slice_index_or progress.old.items (id_of_entry entry).process before) × (progress.new.items ≡ slice_set progress.old.items (id_of_entry entry).process (progress_after before entry)) }
+    ensures { (before : Progress) × (before ≡ slice_index_or progress.old.items (id_of_entry entry).process before)
+        × (progress.new.items
+        ≡ slice_set progress.old.items (id_of_entry entry).process (progress_after before entry)) }
 {
     let process = usize::from(id_of(entry).process);
     let before = progress[process];
@@ -127,7 +130,8 @@ fn is_of_a_register(shape: Shape, op: Op) -> bool
 fn may_call(entries: &[Entry], progress: Progress, at: u32, id: OpId) -> bool
     requires history { (n : ℕ) × (registers : ℕ) × IsHistory n registers entries.now }
     requires progress { IsProgressOf entries.now id.process progress }
-    ensures { (n registers : ℕ) (op : Op) → id.process < n → register_of op < registers → IsTrue result ↔ MayCall n registers entries.now at id op }
+    ensures { (n registers : ℕ) (op : Op) → id.process < n → register_of op < registers
+        → IsTrue result ↔ MayCall n registers entries.now at id op }
 {
     if at > LAST_EVENT || id.number >= MOST_OPERATIONS {
         return false;

@@ -42,7 +42,8 @@ fn is_beside(point: Point, fact: Fact) -> bool
 /// The first place whose point is before the call or after the answer, None where there is none.
 pub fn first_outside(points: &[Point], facts: &[Fact]) -> Option<usize>
     requires { length facts.now ≡ length points.now }
-    ensures { MatchOption result ((k : ℕ) → ¬ IsOutsideFact points.now facts.now k) (λ k. IsFirst (IsOutsideFact points.now facts.now) k) }
+    ensures { MatchOption result ((k : ℕ) → ¬ IsOutsideFact points.now facts.now k)
+        (λ k. IsFirst (IsOutsideFact points.now facts.now) k) }
 {
     for k in 0..points.len() {
         if is_beside(points[k], facts[k]) {

@@ -33,7 +33,8 @@ fn add_fact<A: Allocator + Copy>(
     fact: Fact,
 ) -> Result<(), AllocError>
     requires process { id.process < vec_len rows.old }
-    requires next { (n : ℕ) → (n < id.number) ↔ IsSome (cell rows.old.items (record { process = id.process; number = n })) }
+    requires next { (n : ℕ)
+        → (n < id.number) ↔ IsSome (cell rows.old.items (record { process = id.process; number = n })) }
     ensures changed { OnOk result (IsChangedAt rows.old.items rows.new.items id fact) }
     ensures len { vec_len rows.new ≡ vec_len rows.old }
 {

@@ -13,7 +13,8 @@ use Rattle.reg_cli.specs.declared.faults.WordsFault.{WordsFault}
 use Rattle.reg_cli.specs.declared.faults.WordsFault.TheVariants.{CommandLine, OutOfMemory}
 
 -- clap refuses the line of a command only for want of memory
-pub refused : (words : List Text) (k : ErrorKind) → (takes awreg words ≡ true → k ≡ NoMemory) → IsAnswer (drop 1 words) (Err (words_fault k))
+pub refused : (words : List Text) (k : ErrorKind) → (takes awreg words ≡ true → k ≡ NoMemory)
+    → IsAnswer (drop 1 words) (Err (words_fault k))
 refused words k memory = go (words_fault k) refl
   where
     go : (f : WordsFault) → words_fault k ≡ f → IsAnswer (drop 1 words) (Err f)
@@ -23,6 +24,7 @@ refused words k memory = go (words_fault k) refl
         cc
 
 -- what a name asks for is what the line asks for
-pub picked : (line : List Text) (name : Text) (fair : Bool) (found : Option Asked) → (x : Asked) × (line ≡ line_of x) × (name_of x ≡ name) × (is_fair x ≡ fair)
+pub picked : (line : List Text) (name : Text) (fair : Bool) (found : Option Asked)
+    → (x : Asked) × (line ≡ line_of x) × (name_of x ≡ name) × (is_fair x ≡ fair)
     → ((asked : Asked) → name_of asked ≡ name → is_fair asked ≡ fair → found ≡ Some asked) → IsAnswer line (ok_or found CommandLine)
 picked line name fair found x picks = subst (λ o. IsAnswer line (ok_or o CommandLine)) (sym (picks x.0 x.2 x.3)) x.1

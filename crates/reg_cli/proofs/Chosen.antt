@@ -1,6 +1,7 @@
 -- What clap's clauses say of a program's words, where its proofs give which lines it takes.
 use Rattle.std.proofs.Common.{◌≡◌, ◌∙◌, ◌&&◌, ◌⊎◌, Bool, true, List, [], drop, Option, Some, None, sym, ap, inl, inr}
-use Rattle.clap.specs.Words.{App, HasMatchesOf, Row, Text, fault_of, is_simple, is_simple_and_free, subcommand_of, subcommand_rows_of, takes}
+use Rattle.clap.specs.Words.{App, HasMatchesOf, Row, Text, fault_of, is_simple, is_simple_and_free, subcommand_of}
+use Rattle.clap.specs.Words.{subcommand_rows_of, takes}
 use Rattle.clap.specs.Simple.{argument_words, built, entered, names_of}
 use Rattle.clap.specs.Takes.{built_takes}
 use Rattle.clap.specs.Walk.{nothing_held, stop_after}
@@ -12,7 +13,8 @@ use Rattle.reg_cli.proofs.Getters.{some_parts}
 use Rattle.reg_cli.proofs.Leaves.{has_none}
 
 abbrev pub met_at : App → List Text → Option (Text × Option Bool)
-met_at program line = met_of (entered (built program) (stop_after (built program).top.rules (names_of (built program)) line))
+met_at program line =
+    met_of (entered (built program) (stop_after (built program).top.rules (names_of (built program)) line))
 
 -- each x has a name and may be fair
 module _ {X : Type 0} (name_of : X → Text) (is_fair : X → Bool) where

@@ -1,5 +1,6 @@
 -- What the getters of the matches say of the subcommand that was met.
-use Rattle.std.proofs.Common.{◌≡◌, ◌∙◌, Bool, true, false, cond, List, Option, Some, None, option_map, refl, sym, ap, codes, Box}
+use Rattle.std.proofs.Common.{◌≡◌, ◌∙◌, Bool, true, false, cond, List, Option, Some, None, option_map, refl, sym, ap}
+use Rattle.std.proofs.Common.{codes, Box}
 use Rattle.std.specs.Box.{box_value}
 use Rattle.std.specs.Str.{bytes_eq}
 use Rattle.std.proofs.lemmas.Slice.Eq.{bytes_eq-Decides}
@@ -21,7 +22,8 @@ module _ {Z : Type 0} where
 pub name_rows : (m : ArgMatches) → subcommand_name_of m ≡ option_map (λ p. p.0) (subcommand_rows_of m)
 name_rows m = named (out-ArgMatches m).subcommand
 
-pub rows_are : (o : Option (Text × List Row)) (name : Text) (rows : List Row) → Some name ≡ option_map (λ p. p.0) o → Some rows ≡ option_map (λ p. p.1) o → o ≡ Some (name, rows)
+pub rows_are : (o : Option (Text × List Row)) (name : Text) (rows : List Row) → Some name ≡ option_map (λ p. p.0) o
+    → Some rows ≡ option_map (λ p. p.1) o → o ≡ Some (name, rows)
 rows_are None name rows n r = cc
 rows_are (Some p) name rows n r =
     let name_is : name ≡ p.0 = cc in
@@ -29,7 +31,8 @@ rows_are (Some p) name rows n r =
     sym (λ i. Some (name_is i, rows_is i))
 
 -- what `get_flag` says
-pub flag_is : (t : Option Text) (r fair : Bool) → (t ≡ None → r ≡ false) → (t ≡ Some (codes "true") → r ≡ true) → (t ≡ Some (codes "false") → r ≡ false)
+pub flag_is : (t : Option Text) (r fair : Bool) → (t ≡ None → r ≡ false) → (t ≡ Some (codes "true") → r ≡ true)
+    → (t ≡ Some (codes "false") → r ≡ false)
     → flag_of t ≡ Some fair → r ≡ fair
 flag_is None r fair none on off e =
     let is : r ≡ false = none refl in
@@ -45,13 +48,15 @@ flag_is (Some text) r fair none on off e = go (bytes_eq text (codes "true")) (by
         cc
     go false false a b e = cc
 
-pub some_parts : {X Y : Type 0} (a b : X) (c d : Y) → ◌≡◌ {A = Option (X × Y)} (Some (a, c)) (Some (b, d)) → (a ≡ b) × (c ≡ d)
+pub some_parts : {X Y : Type 0} (a b : X) (c d : Y) → ◌≡◌ {A = Option (X × Y)} (Some (a, c)) (Some (b, d))
+    → (a ≡ b) × (c ≡ d)
 some_parts {X} {Y} a b c d e =
     let same : ◌≡◌ {A = X × Y} (a, c) (b, d) = cc in
     (ap (λ p. p.0) same, ap (λ p. p.1) same)
 
 -- the name and the flag, as the getters read them
-pub seen_is : (m : ArgMatches) (inner : Found) (n : Text) (r : Bool) → Some n ≡ subcommand_name_of m → Some (rows_of inner) ≡ option_map (λ p. p.1) (subcommand_rows_of m)
+pub seen_is : (m : ArgMatches) (inner : Found) (n : Text) (r : Bool) → Some n ≡ subcommand_name_of m
+    → Some (rows_of inner) ≡ option_map (λ p. p.1) (subcommand_rows_of m)
     → (one_text inner (codes "fair") ≡ None → r ≡ false) → (one_text inner (codes "fair") ≡ Some (codes "true") → r ≡ true)
     → (one_text inner (codes "fair") ≡ Some (codes "false") → r ≡ false) → (name : Text) (fair : Bool) → met_of (subcommand_rows_of m) ≡ Some (name, Some fair)
     → ◌≡◌ {A = Option (Text × Bool)} (Some (n, r)) (Some (name, fair))

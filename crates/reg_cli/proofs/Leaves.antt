@@ -1,5 +1,6 @@
 -- The words that a subcommand passes: none, or the flag `--fair` where it has it.
-use Rattle.std.proofs.Common.{◌≡◌, ◌∙◌, ◌==◌, ◌||◌, ◌⊎◌, inl, inr, ℕ, Bool, true, false, cond, List, [], ◌∷◌, Option, Some, None, refl, sym, ap, ap₂, subst, codes, eqb-true, one-add}
+use Rattle.std.proofs.Common.{◌≡◌, ◌∙◌, ◌==◌, ◌||◌, ◌⊎◌, inl, inr, ℕ, Bool, true, false, cond, List, [], ◌∷◌, Option}
+use Rattle.std.proofs.Common.{Some, None, refl, sym, ap, ap₂, subst, codes, eqb-true, one-add}
 use Rattle.std.specs.List.{after_first, before_first, list_any}
 use Rattle.std.specs.Option.{option_and_then}
 use Rattle.std.specs.Str.{bytes_eq}
@@ -7,7 +8,8 @@ use Rattle.std.proofs.lemmas.Bool.{or_parts}
 use Rattle.std.proofs.lemmas.Slice.Eq.{bytes_eq-Decides}
 use Rattle.clap.specs.Lexer.{has_byte, long_of, long_of_rest, name_and_value, short_of, strip_byte}
 use Rattle.clap.specs.Kinds.{Kinds, or_else}
-use Rattle.clap.specs.Walk.{Held, Names, Row, Rule, Text, arg_by_index, arg_by_short, idle, nothing_held, reacted, subcommand_met, walk_from, walked}
+use Rattle.clap.specs.Walk.{Held, Names, Row, Rule, Text, arg_by_index, arg_by_short, idle, nothing_held, reacted}
+use Rattle.clap.specs.Walk.{subcommand_met, walk_from, walked}
 use Rattle.clap.specs.Simple.{Shape, built_leaf, filled, help_rule, new_shape}
 use Rattle.clap.specs.Faults.{level_fault, long_fault, react_fault, short_fault, stray_fault, turn_fault, walk_fault}
 use Rattle.clap.specs.declared.error.ErrorKind.{ErrorKind}
@@ -75,7 +77,8 @@ pub help_short : (b : Bool) (c : List Rule) (rest : Text) (rows : List Row) (nex
 help_short true c rest rows next e = some_kind _ _ e
 help_short false c rest rows next e = some_kind _ _ e
 
-pub help_long : (b : Bool) (c : List Rule) (v : Option Text) (rows : List Row) → long_fault c false (cond (b || false) (Some help) None) v (held rows) ≡ [] → ⊥
+pub help_long : (b : Bool) (c : List Rule) (v : Option Text) (rows : List Row)
+    → long_fault c false (cond (b || false) (Some help) None) v (held rows) ≡ [] → ⊥
 help_long true c (Some v) rows e = some_kind _ _ e
 help_long true c None rows e = some_kind _ _ e
 help_long false c v rows e = some_kind _ _ e
@@ -106,7 +109,8 @@ unfolding walk_fault
 first_turn s word words e = both_none _ _ (both_none _ _ e).0
 
 -- a subcommand with no flag takes no word
-pub plain_words : (name : Text) (words : List Text) → level_fault (plain_leaf name) [] nothing_held words false [] ≡ [] → has_none words → words ≡ []
+pub plain_words : (name : Text) (words : List Text) → level_fault (plain_leaf name) [] nothing_held words false [] ≡ []
+    → has_none words → words ≡ []
 plain_words name [] e none = refl
 plain_words name (word ∷ words) e none =
     let bad : ⊥ = long_word (plain_leaf name) [] refl (λ x rest next h. help_short (104 == x) (plain_leaf name).rules rest [] next h) word
@@ -115,7 +119,8 @@ plain_words name (word ∷ words) e none =
     absurd bad
 
 -- the first word of a subcommand with the flag
-fair_first : (name word : Text) → bytes_eq word (codes "--") ≡ false → turn_fault (fair_leaf name) [] (walk_from nothing_held) word ≡ [] → word ≡ codes "--fair"
+fair_first : (name word : Text) → bytes_eq word (codes "--") ≡ false
+    → turn_fault (fair_leaf name) [] (walk_from nothing_held) word ≡ [] → word ≡ codes "--fair"
 fair_first name word differs e = long_word (fair_leaf name) [] refl (λ x rest next h. help_short (104 == x) (fair_leaf name).rules rest [] next h) word
     (λ p is h.
     let passed = fair_long (bytes_eq (codes "fair") p.0) (bytes_eq (codes "help") p.0) (fair_leaf name).rules p.1 [] h in
@@ -128,19 +133,23 @@ abbrev given : List Row
 given = (reacted (fair ∷ help ∷ []) fair [] nothing_held).rows
 
 -- and it takes no second one
-fair_second : (name word : Text) → bytes_eq word (codes "--") ≡ false → turn_fault (fair_leaf name) [] (walk_from (held given)) word ≡ [] → ⊥
+fair_second : (name word : Text) → bytes_eq word (codes "--") ≡ false
+    → turn_fault (fair_leaf name) [] (walk_from (held given)) word ≡ [] → ⊥
 fair_second name word differs e = long_word (fair_leaf name) given refl (λ x rest next h. help_short (104 == x) (fair_leaf name).rules rest given next h) word
     (λ p is h. some_kind _ _ (fair_long (bytes_eq (codes "fair") p.0) (bytes_eq (codes "help") p.0) (fair_leaf name).rules p.1 given h).2)
     [] refl differs e
 
-after_fair : (name : Text) (words : List Text) → walk_fault (fair_leaf name) [] (walked (fair_leaf name).rules [] (walk_from nothing_held) (codes "--fair")) words ≡ []
+after_fair : (name : Text) (words : List Text)
+    → walk_fault (fair_leaf name) [] (walked (fair_leaf name).rules [] (walk_from nothing_held) (codes "--fair")) words
+    ≡ []
     → has_none words → words ≡ []
 unfolding walk_fault walked
 after_fair name [] e none = refl
 after_fair name (word ∷ words) e none = absurd (fair_second name word (or_parts _ _ none).0 (both_none _ _ e).0)
 
 -- a subcommand with the flag takes nothing else
-pub fair_words : (name : Text) (words : List Text) → level_fault (fair_leaf name) [] nothing_held words false [] ≡ [] → has_none words
+pub fair_words : (name : Text) (words : List Text) → level_fault (fair_leaf name) [] nothing_held words false [] ≡ []
+    → has_none words
     → (words ≡ []) ⊎ (words ≡ codes "--fair" ∷ [])
 fair_words name [] e none = inl refl
 fair_words name (word ∷ words) e none =
@@ -175,7 +184,8 @@ pub first_fails : (a b c : Kinds) (k : ErrorKind) (ks : Kinds) → a ≡ k ∷ k
 first_fails a b c k ks e = rw e refl
 
 -- a stray word of a subcommand is an unknown argument
-pub plain_stray : (name word : Text) (words : List Text) → is_flag word ≡ false → level_fault (plain_leaf name) [] nothing_held (word ∷ words) false [] ≡ UnknownArgument ∷ []
+pub plain_stray : (name word : Text) (words : List Text) → is_flag word ≡ false
+    → level_fault (plain_leaf name) [] nothing_held (word ∷ words) false [] ≡ UnknownArgument ∷ []
 unfolding walk_fault
 plain_stray name word words flag = first_fails _ _ _ _ _
     (stray_turn (plain_leaf name) refl (λ x rest next h. help_short (104 == x) (plain_leaf name).rules rest [] next h) word [] refl flag)

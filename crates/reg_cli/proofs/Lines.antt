@@ -44,11 +44,13 @@ subs = (built awreg).subs
 abbrev passes : List Text → Type 0
 passes line = built_fault (built awreg) nothing_held line ≡ []
 
-rest_of : (name : Text) (rest : List Text) → walked (built awreg).top.rules (names_of (built awreg)) start name ≡ record start { stopped = Some (name, []) }
+rest_of : (name : Text) (rest : List Text)
+    → walked (built awreg).top.rules (names_of (built awreg)) start name ≡ record start { stopped = Some (name, []) }
     → passes (name ∷ rest) → entered_fault (built awreg) (Some (name, rest)) ≡ []
 rest_of = below (codes "awreg") subs
 
-replay_line : (rest : List Text) → has_none rest → passes (codes "replay" ∷ rest) → IsCommandLine (codes "replay" ∷ rest)
+replay_line : (rest : List Text) → has_none rest → passes (codes "replay" ∷ rest)
+    → IsCommandLine (codes "replay" ∷ rest)
 unfolding walked
 replay_line rest none e = (OverText Replay, ap (λ ws. codes "replay" ∷ ws) (plain_words (codes "replay") rest (rest_of (codes "replay") rest refl e) none))
 
@@ -58,7 +60,8 @@ check_line rest none e = (OverText Check, ap (λ ws. codes "check" ∷ ws) (plai
 
 live_line : (rest : List Text) → has_none rest → passes (codes "live" ∷ rest) → IsCommandLine (codes "live" ∷ rest)
 unfolding walked
-live_line rest none e = (Live, ap (λ ws. codes "live" ∷ ws) (plain_words (codes "live") rest (rest_of (codes "live") rest refl e) none))
+live_line rest none e =
+    (Live, ap (λ ws. codes "live" ∷ ws) (plain_words (codes "live") rest (rest_of (codes "live") rest refl e) none))
 
 play_line : (rest : List Text) → has_none rest → passes (codes "play" ∷ rest) → IsCommandLine (codes "play" ∷ rest)
 unfolding walked
@@ -70,7 +73,8 @@ play_line rest none e = elim (fair_words (codes "play") rest (rest_of (codes "pl
 help_line : (rest : List Text) → passes (codes "help" ∷ rest) → ⊥
 help_line rest e = some_kind _ _ (first_turn (codes "awreg") subs (codes "help") rest e)
 
-no_name : (word : Text) → bytes_eq (codes "replay") word ≡ false → bytes_eq (codes "check") word ≡ false → bytes_eq (codes "live") word ≡ false
+no_name : (word : Text) → bytes_eq (codes "replay") word ≡ false → bytes_eq (codes "check") word ≡ false
+    → bytes_eq (codes "live") word ≡ false
     → bytes_eq (codes "play") word ≡ false → bytes_eq (codes "help") word ≡ false → subcommand_met (names_of (built awreg)) idle word ≡ None
 no_name word replay check live play help = rw (replay, check, live, play, help) refl
 

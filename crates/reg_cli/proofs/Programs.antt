@@ -22,7 +22,8 @@ top_shape name = (built (with_subcommand (new_app name) (new_app name).top)).top
 abbrev pub start : Walk
 start = walk_from nothing_held
 
-then_fails : (t w b c : Kinds) (k : ErrorKind) (ks : Kinds) → t ≡ [] → w ≡ [] → b ≡ k ∷ ks → or_else (or_else t w) (or_else b c) ≡ k ∷ ks
+then_fails : (t w b c : Kinds) (k : ErrorKind) (ks : Kinds) → t ≡ [] → w ≡ [] → b ≡ k ∷ ks
+    → or_else (or_else t w) (or_else b c) ≡ k ∷ ks
 then_fails t w b c k ks turn left fails = rw (turn, left, fails) refl
 
 -- the program with these subcommands, of which the last is `help`
@@ -46,12 +47,14 @@ module _ (program : Text) (subs : List Shape) where
   stop_is name rest stops = ap (λ (w : Walk). w.stopped)
       (walk_stopped whole.top.rules names start name [] rest ∙ ap (λ (w : Walk). fold (walked whole.top.rules names) w rest) (sym stops))
 
-  pub below : (name : Text) (rest : List Text) → walked whole.top.rules names start name ≡ record start { stopped = Some (name, []) } → passes (name ∷ rest)
+  pub below : (name : Text) (rest : List Text)
+      → walked whole.top.rules names start name ≡ record start { stopped = Some (name, []) } → passes (name ∷ rest)
       → entered_fault whole (Some (name, rest)) ≡ []
   below name rest stops e = subst (λ s. entered_fault whole s ≡ []) (sym (stop_is name rest stops)) (both_none _ _ (both_none _ _ e).1).0
 
   -- where the subcommand's words fail, the program's fail as they do
-  pub fails_below : (name : Text) (rest : List Text) (k : ErrorKind) (ks : Kinds) → walked whole.top.rules names start name ≡ record start { stopped = Some (name, []) }
+  pub fails_below : (name : Text) (rest : List Text) (k : ErrorKind) (ks : Kinds)
+      → walked whole.top.rules names start name ≡ record start { stopped = Some (name, []) }
       → turn_fault whole.top names start name ≡ [] → entered_fault whole (Some (name, rest)) ≡ k ∷ ks → built_fault whole nothing_held (name ∷ rest) ≡ k ∷ ks
   unfolding walk_fault
   fails_below name rest k ks stops turn fails =
@@ -60,18 +63,21 @@ module _ (program : Text) (subs : List Shape) where
       then_fails _ _ _ _ k ks turn left (ap (entered_fault whole) (sym (stop_is name rest stops)) ∙ fails)
 
   -- a stray first word is an unknown argument, or may be a subcommand's misspelt name
-  pub stray_first : (word : Text) (rest : List Text) → subcommand_met names idle word ≡ None → is_flag word ≡ false → built_fault whole nothing_held (word ∷ rest) ≡ UnknownArgument ∷ InvalidSubcommand ∷ []
+  pub stray_first : (word : Text) (rest : List Text) → subcommand_met names idle word ≡ None → is_flag word ≡ false
+      → built_fault whole nothing_held (word ∷ rest) ≡ UnknownArgument ∷ InvalidSubcommand ∷ []
   unfolding walk_fault
   stray_first word rest none flag = first_fails _ _ _ _ _
       (stray_turn whole.top refl (λ x letters next h. help_short (104 == x) whole.top.rules letters [] next h) word names none flag)
 
   -- a first word that is no subcommand's name is refused
-  pub no_subcommand : (word : Text) (rest : List Text) → subcommand_met names idle word ≡ None → is_dashes word ≡ false → passes (word ∷ rest) → ⊥
+  pub no_subcommand : (word : Text) (rest : List Text) → subcommand_met names idle word ≡ None → is_dashes word ≡ false
+      → passes (word ∷ rest) → ⊥
   no_subcommand word rest none differs e = long_word whole.top [] refl (λ x letters next h. help_short (104 == x) whole.top.rules letters [] next h) word
       (λ p is h. help_long (bytes_eq (codes "help") p.0) whole.top.rules p.1 [] h) names none differs (first_turn word rest e)
 
   -- what holds at a name holds at the word that is that name
-  pub at_name : (P : List Text → Type 0) (word : Text) (rest : List Text) (name : Text) → bytes_eq name word ≡ true → (passes (name ∷ rest) → P (name ∷ rest))
+  pub at_name : (P : List Text → Type 0) (word : Text) (rest : List Text) (name : Text) → bytes_eq name word ≡ true
+      → (passes (name ∷ rest) → P (name ∷ rest))
       → passes (word ∷ rest) → P (word ∷ rest)
   at_name P word rest name is line e =
       let same : name ≡ word = (bytes_eq-Decides name word).0 is in

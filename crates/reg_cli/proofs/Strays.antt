@@ -1,13 +1,17 @@
 -- A word that names no subcommand, no flag and no position is refused.
-use Rattle.std.proofs.Common.{◌≡◌, ◌∙◌, ℕ, zero, suc, Bool, true, false, cond, true≢false, List, [], ◌∷◌, length, Option, Some, None, refl, sym, ap, subst}
+use Rattle.std.proofs.Common.{◌≡◌, ◌∙◌, ℕ, zero, suc, Bool, true, false, cond, true≢false, List, [], ◌∷◌, length}
+use Rattle.std.proofs.Common.{Option, Some, None, refl, sym, ap, subst}
 use Rattle.std.specs.Prelude.{slice_get}
 use Rattle.std.specs.Option.{option_map_or}
 use Rattle.std.specs.Str.{bytes_eq, chars}
 use Rattle.clap.specs.Lexer.{long_of, short_of}
 use Rattle.clap.specs.Kinds.{Kinds, or_else}
-use Rattle.clap.specs.Walk.{Held, Names, Row, Rule, Text, after_flag, arg_by_index, arg_by_long, arg_by_short, bundle_met, bundle_step, idle, long_or_other, plain, short_or_plain, subcommand_met, subcommand_or_other, trailing, value, walk_from}
+use Rattle.clap.specs.Walk.{Held, Names, Row, Rule, Text, after_flag, arg_by_index, arg_by_long, arg_by_short}
+use Rattle.clap.specs.Walk.{bundle_met, bundle_step, idle, long_or_other, plain, short_or_plain, subcommand_met}
+use Rattle.clap.specs.Walk.{subcommand_or_other, trailing, value, walk_from}
 use Rattle.clap.specs.Simple.{Shape}
-use Rattle.clap.specs.Faults.{bundle_fault, bundle_step_fault, flag_word_fault, flags_fault, long_fault, other_fault, positional_fault, short_fault, step_fault, stray_fault, turn_fault}
+use Rattle.clap.specs.Faults.{bundle_fault, bundle_step_fault, flag_word_fault, flags_fault, long_fault, other_fault}
+use Rattle.clap.specs.Faults.{positional_fault, short_fault, step_fault, stray_fault, turn_fault}
 use Rattle.clap.specs.declared.error.ErrorKind.{ErrorKind}
 use Rattle.clap.specs.declared.error.ErrorKind.TheVariants as kind
 

@@ -6,4 +6,5 @@ use Rattle.reg_cli.specs.Subcommands.{fair_app}
 -- the program with its subcommands, as clap's parse reads it
 abbrev pub awreg : App
 awreg = with_subcommand (with_subcommand (with_subcommand (with_subcommand (new_app (codes "awreg"))
-    (new_app (codes "replay")).top) (new_app (codes "check")).top) (new_app (codes "live")).top) (fair_app (codes "play")).top
+    (new_app (codes "replay")).top) (new_app (codes "check")).top) (new_app (codes "live")).top)
+    (fair_app (codes "play")).top

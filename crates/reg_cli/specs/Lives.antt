@@ -20,7 +20,8 @@ use Rattle.reg_cli.specs.declared.stops.Stop.TheVariants.{Command}
 -- Threads made a run of the workload's shape, of which each process's finished operations are just those that its
 -- thread was answered. These are the operations of its script, all of them in order. And this is the run's report: its
 -- history and its witness, and points as `AreSo` says.
-pub record ShowsLive (start : Op → ℕ → Start) (work : Load) (AreSo : Plan → Option (List Point) → Type 0) (r : Contents) : Type 0 where
+pub record ShowsLive (start : Op → ℕ → Start) (work : Load) (AreSo : Plan → Option (List Point) → Type 0)
+    (r : Contents) : Type 0 where
   pub made : Made
   pub answered : List (List Receipt)
   pub lived : IsLived start work.shape answered made

@@ -18,21 +18,26 @@ use Rattle.reg_cli.specs.declared.words.Asked.TheVariants.{Live, Text as OverTex
 
 -- Status 0: what was asked for is the answer to the input. `Wrote` says how a text was written.
 abbrev pub Obeys : Asked → Option (List ℕ) → (List ℕ → Type 0) → Type 0
-Obeys (OverText command) input Wrote = IfSome input (λ xs. length xs ≤ LONGEST_INPUT) × IfSome input (Answers command true Wrote)
+Obeys (OverText command) input Wrote =
+    IfSome input (λ xs. length xs ≤ LONGEST_INPUT) × IfSome input (Answers command true Wrote)
 Obeys Live input Wrote = IfSome input (Lives Wrote)
 
 -- Status 1: a check said no, and nothing was told; or the line of a fault was, or a first part of it. The fault holds
 -- of the input, and nothing was written unless the writer failed; then a first part of an answer was.
-abbrev pub Stops : Asked → Option (List ℕ) → Type 0 → Option (List ℕ) → Option (List ℕ) → Type 0 → Option (List ℕ) → Option (List ℕ) → Type 0
+abbrev pub Stops : Asked → Option (List ℕ) → Type 0 → Option (List ℕ) → Option (List ℕ) → Type 0 → Option (List ℕ)
+    → Option (List ℕ) → Type 0
 Stops (OverText command) input unwritten old new untold was is =
     ((command ≡ Check) × IfSome input (Answers command false (Appends old new)) × untold)
-    ⊎ ((f : Fault) × IfSome input (Blames command f) × (f ≢ Output → unwritten) × (f ≡ Output → IfSome input (AnswersInPart command old new)) × AppendsPart was is (fault_line f))
+    ⊎ ((f : Fault) × IfSome input (Blames command f) × (f ≢ Output → unwritten)
+    × (f ≡ Output → IfSome input (AnswersInPart command old new)) × AppendsPart was is (fault_line f))
 Stops Live input unwritten old new untold was is =
-    (stop : Stop) × IfSome input (BlamesStop stop) × (stop ≢ Command Output → unwritten) × (stop ≡ Command Output → IfSome input (Lives (AppendsPart old new))) × AppendsPart was is (stop_line stop)
+    (stop : Stop) × IfSome input (BlamesStop stop) × (stop ≢ Command Output → unwritten)
+    × (stop ≡ Command Output → IfSome input (Lives (AppendsPart old new))) × AppendsPart was is (stop_line stop)
 
 -- what status 1 says of the error stream alone
 abbrev pub Tells : Asked → Type 0 → Option (List ℕ) → Option (List ℕ) → Type 0
-Tells (OverText command) untold was is = ((command ≡ Check) × untold) ⊎ ((f : Fault) × AppendsPart was is (fault_line f))
+Tells (OverText command) untold was is =
+    ((command ≡ Check) × untold) ⊎ ((f : Fault) × AppendsPart was is (fault_line f))
 Tells Live untold was is = (stop : Stop) × AppendsPart was is (stop_line stop)
 
 -- the line for words that there was no memory to read, with its line feed

@@ -3,7 +3,8 @@ use Rattle.std.specs.Prelude.{ℕ, List, [], ◌∷◌, ◌++◌, codes}
 use Rattle.std.specs.Fmt.{decimal}
 use Rattle.reg_commands.specs.FaultLines.{fault_text}
 use Rattle.reg_cli.specs.declared.stops.Stop.{Stop}
-use Rattle.reg_cli.specs.declared.stops.Stop.TheVariants.{Command, Failed, NoRegister, Behind, Full, Unfaithful, Mismatch}
+use Rattle.reg_cli.specs.declared.stops.Stop.TheVariants.{Command, Failed, NoRegister, Behind, Full, Unfaithful}
+use Rattle.reg_cli.specs.declared.stops.Stop.TheVariants.{Mismatch}
 
 -- a stop as text
 abbrev pub stop_text : Stop → List ℕ

@@ -1,5 +1,6 @@
 -- Command lines with subcommands that take no word, or the flag `--fair`, and what clap's parse reads of them.
-use Rattle.std.specs.Prelude.{◌==◌, ◌||◌, Bool, true, false, List, [], ◌∷◌, drop, map, codes, Option, Some, None, option_map, String, string_bytes, if◌then◌else◌}
+use Rattle.std.specs.Prelude.{◌==◌, ◌||◌, Bool, true, false, List, [], ◌∷◌, drop, map, codes, Option, Some, None}
+use Rattle.std.specs.Prelude.{option_map, String, string_bytes, if◌then◌else◌}
 use Rattle.std.specs.Borrow.{Bor}
 use Rattle.std.specs.Str.{bytes_eq}
 pub use Rattle.clap.specs.Words.{Text}

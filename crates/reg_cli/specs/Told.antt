@@ -8,7 +8,8 @@ use Rattle.reg_live.specs.declared.scripts.RunStop.{RunStop}
 use Rattle.reg_live.specs.declared.scripts.RunStop.TheVariants as run
 use Rattle.reg_commands.specs.declared.faults.Fault.TheVariants as fault
 use Rattle.reg_cli.specs.declared.stops.Stop.{Stop}
-use Rattle.reg_cli.specs.declared.stops.Stop.TheVariants.{Command, Failed, NoRegister, Behind, Full, Unfaithful, Mismatch}
+use Rattle.reg_cli.specs.declared.stops.Stop.TheVariants.{Command, Failed, NoRegister, Behind, Full, Unfaithful}
+use Rattle.reg_cli.specs.declared.stops.Stop.TheVariants.{Mismatch}
 
 -- the refusal of a process's pass
 abbrev pub stop_of_pass : ℕ → LiveFault → Stop

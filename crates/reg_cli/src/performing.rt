@@ -75,7 +75,8 @@ fn perform_text<R: Threads + Wait + Clock + Copy + Send + Sync + 'static, W: Wri
     ensures lives { IfOk result (λ _. Lives (Appends (W.contents writer.old) (W.contents writer.new)) text.now) }
     ensures why { IfErr result (λ stop. BlamesStop stop text.now) }
     ensures silent { IfErr result (λ stop. stop ≢ Command Output → writer.new ≡ writer.old) }
-    ensures part { IsErrOf result (Command Output) → Lives (AppendsPart (W.contents writer.old) (W.contents writer.new)) text.now }
+    ensures part { IsErrOf result (Command Output)
+        → Lives (AppendsPart (W.contents writer.old) (W.contents writer.new)) text.now }
 {
     let report = performed(rt, alloc, text)?;
     write_out(writer, &report)?;
@@ -89,10 +90,12 @@ fn obey<R: Threads + Wait + Clock + Copy + Send + Sync + 'static, I: Read, W: Wr
     reader: &mut I,
     writer: &mut W,
 ) -> Result<(), Stop>
-    ensures lives { IfOk result (λ _. IfSome (I.remaining reader.old) (Lives (Appends (W.contents writer.old) (W.contents writer.new)))) }
+    ensures lives { IfOk result
+        (λ _. IfSome (I.remaining reader.old) (Lives (Appends (W.contents writer.old) (W.contents writer.new)))) }
     ensures why { IfErr result (λ stop. IfSome (I.remaining reader.old) (BlamesStop stop)) }
     ensures silent { IfErr result (λ stop. stop ≢ Command Output → writer.new ≡ writer.old) }
-    ensures part { IsErrOf result (Command Output) → IfSome (I.remaining reader.old) (Lives (AppendsPart (W.contents writer.old) (W.contents writer.new))) }
+    ensures part { IsErrOf result (Command Output)
+        → IfSome (I.remaining reader.old) (Lives (AppendsPart (W.contents writer.old) (W.contents writer.new))) }
 {
     match read_input(alloc, reader) {
         Ok(text) => perform_text(rt, alloc, text.as_str(), writer),
@@ -111,8 +114,14 @@ pub fn run_live<
     E: Write,
 >(rt: R, alloc: Global, reader: &mut I, writer: &mut W, errors: &mut E) -> u8
     ensures range { result ≤ 1 }
-    ensures lives { result ≡ 0 → IfSome (I.remaining reader.old) (Lives (Appends (W.contents writer.old) (W.contents writer.new))) }
-    ensures refused { result ≡ 1 → (stop : Stop) × IfSome (I.remaining reader.old) (BlamesStop stop) × (stop ≢ Command Output → writer.new ≡ writer.old) × (stop ≡ Command Output → IfSome (I.remaining reader.old) (Lives (AppendsPart (W.contents writer.old) (W.contents writer.new)))) × AppendsPart (E.contents errors.old) (E.contents errors.new) (stop_line stop) }
+    ensures lives { result ≡ 0
+        → IfSome (I.remaining reader.old) (Lives (Appends (W.contents writer.old) (W.contents writer.new))) }
+    ensures refused { result ≡ 1
+        → (stop : Stop) × IfSome (I.remaining reader.old) (BlamesStop stop)
+        × (stop ≢ Command Output → writer.new ≡ writer.old)
+        × (stop ≡ Command Output
+        → IfSome (I.remaining reader.old) (Lives (AppendsPart (W.contents writer.old) (W.contents writer.new))))
+        × AppendsPart (E.contents errors.old) (E.contents errors.new) (stop_line stop) }
     ensures quiet { result ≡ 0 → errors.new ≡ errors.old }
 {
     match obey(rt, alloc, reader, writer) {

@@ -30,8 +30,11 @@ fn obey<R, I: Read, O: Write, E: Write>(
 where
     R: AllocGlobal + Threads + Wait + Clock + Copy + Send + Sync + 'static,
     ensures range { result ≤ 1 }
-    ensures obeyed { result ≡ 0 → Obeys asked (I.remaining reader.old) (Appends (O.contents writer.old) (O.contents writer.new)) }
-    ensures stopped { result ≡ 1 → Stops asked (I.remaining reader.old) (writer.new ≡ writer.old) (O.contents writer.old) (O.contents writer.new) (errors.new ≡ errors.old) (E.contents errors.old) (E.contents errors.new) }
+    ensures obeyed { result ≡ 0
+        → Obeys asked (I.remaining reader.old) (Appends (O.contents writer.old) (O.contents writer.new)) }
+    ensures stopped { result ≡ 1
+        → Stops asked (I.remaining reader.old) (writer.new ≡ writer.old) (O.contents writer.old) (O.contents writer.new)
+        (errors.new ≡ errors.old) (E.contents errors.old) (E.contents errors.new) }
     ensures quiet { result ≡ 0 → errors.new ≡ errors.old }
 {
     match asked {
@@ -62,8 +65,13 @@ pub fn run_line<R, I: Read, O: Write, E: Write>(
 where
     R: AllocGlobal + Threads + Wait + Clock + Copy + Send + Sync + 'static,
     ensures range { result ≤ 2 }
-    ensures obeyed { result ≡ 0 → (asked : AnyAsked) × (behind_name words.now ≡ line_of asked) × Obeys asked (I.remaining reader.old) (Appends (O.contents writer.old) (O.contents writer.new)) }
-    ensures stopped { result ≡ 1 → ((asked : AnyAsked) × (behind_name words.now ≡ line_of asked) × Stops asked (I.remaining reader.old) (writer.new ≡ writer.old) (O.contents writer.old) (O.contents writer.new) (errors.new ≡ errors.old) (E.contents errors.old) (E.contents errors.new))
+    ensures obeyed { result ≡ 0
+        → (asked : AnyAsked) × (behind_name words.now ≡ line_of asked)
+        × Obeys asked (I.remaining reader.old) (Appends (O.contents writer.old) (O.contents writer.new)) }
+    ensures stopped { result ≡ 1
+        → ((asked : AnyAsked) × (behind_name words.now ≡ line_of asked)
+        × Stops asked (I.remaining reader.old) (writer.new ≡ writer.old) (O.contents writer.old) (O.contents writer.new)
+        (errors.new ≡ errors.old) (E.contents errors.old) (E.contents errors.new))
         ⊎ ((writer.new ≡ writer.old) × AppendsPart (E.contents errors.old) (E.contents errors.new) memory_line) }
     ensures refused { result ≡ 2 → (¬ IsCommandLine (behind_name words.now)) × (writer.new ≡ writer.old) }
     ensures told { result ≡ 2 → AppendsPart (E.contents errors.old) (E.contents errors.new) refused_line }
@@ -82,7 +90,9 @@ where
     E: Write,
     ensures range { result ≤ 2 }
     ensures obeyed { result ≡ 0 → IsCommandLine (behind_name words.now) }
-    ensures stopped { result ≡ 1 → ((asked : AnyAsked) × (behind_name words.now ≡ line_of asked) × Tells asked (errors.new ≡ errors.old) (E.contents errors.old) (E.contents errors.new))
+    ensures stopped { result ≡ 1
+        → ((asked : AnyAsked) × (behind_name words.now ≡ line_of asked)
+        × Tells asked (errors.new ≡ errors.old) (E.contents errors.old) (E.contents errors.new))
         ⊎ AppendsPart (E.contents errors.old) (E.contents errors.new) memory_line }
     ensures refused { result ≡ 2 → ¬ IsCommandLine (behind_name words.now) }
     ensures told { result ≡ 2 → AppendsPart (E.contents errors.old) (E.contents errors.new) refused_line }

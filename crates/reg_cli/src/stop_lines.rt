@@ -19,7 +19,8 @@ fn put_pass<W: Write>(sink: &mut Sink<'_, W>, process: u8, words: &str)
 
 /// Puts how far the journal has come, which isn't as far as a process asked.
 fn put_behind<W: Write>(sink: &mut Sink<'_, W>, process: u8, length: u64)
-    ensures { Puts W.contents sink.old sink.new (codes "process " ++ decimal process ++ codes ": behind " ++ decimal length) }
+    ensures { Puts W.contents sink.old sink.new
+        (codes "process " ++ decimal process ++ codes ": behind " ++ decimal length) }
 {
     put_number(sink, "process ", process as u64);
     put_number(sink, ": behind ", length);

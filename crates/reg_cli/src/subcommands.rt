@@ -33,7 +33,8 @@ pub fn has_dashes(words: &[String]) -> bool
 /// The subcommand that the words name, and whether it has the flag `--fair`.
 pub fn met<'a>(matches: &ArgMatches<'a>) -> Option<(&'a str, bool)>
     ensures none { met_of (subcommand_rows_of matches.now) ≡ None → result ≡ None }
-    ensures some { (name : Text) (fair : Bool) → met_of (subcommand_rows_of matches.now) ≡ Some (name, Some fair) → seen result ≡ Some (name, fair) }
+    ensures some { (name : Text) (fair : Bool) → met_of (subcommand_rows_of matches.now) ≡ Some (name, Some fair)
+        → seen result ≡ Some (name, fair) }
 {
     let (name, inner) = matches.subcommand()?;
     Some((name, inner.get_flag("fair")))

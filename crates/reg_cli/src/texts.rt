@@ -23,9 +23,19 @@ pub fn run_text<R: Read, W: Write, E: Write>(
 ) -> u8
     ensures range { result ≤ 1 }
     ensures within { result ≡ 0 → IfSome (R.remaining reader.old) (λ xs. length xs ≤ LONGEST_INPUT) }
-    ensures answered { result ≡ 0 → IfSome (R.remaining reader.old) (Answers command true (Appends (W.contents writer.old) (W.contents writer.new))) }
-    ensures refused { result ≡ 1 → ((command ≡ Command.Check) × IfSome (R.remaining reader.old) (Answers command false (Appends (W.contents writer.old) (W.contents writer.new))) × (errors.new ≡ errors.old))
-        ⊎ ((f : AnyFault) × IfSome (R.remaining reader.old) (Blames command f) × (f ≢ Fault.Output → writer.new ≡ writer.old) × (f ≡ Fault.Output → IfSome (R.remaining reader.old) (AnswersInPart command (W.contents writer.old) (W.contents writer.new))) × AppendsPart (E.contents errors.old) (E.contents errors.new) (fault_line f)) }
+    ensures answered { result ≡ 0
+        → IfSome (R.remaining reader.old)
+        (Answers command true (Appends (W.contents writer.old) (W.contents writer.new))) }
+    ensures refused { result ≡ 1
+        → ((command ≡ Command.Check)
+        × IfSome (R.remaining reader.old)
+        (Answers command false (Appends (W.contents writer.old) (W.contents writer.new)))
+        × (errors.new ≡ errors.old))
+        ⊎ ((f : AnyFault) × IfSome (R.remaining reader.old) (Blames command f)
+        × (f ≢ Fault.Output → writer.new ≡ writer.old)
+        × (f ≡ Fault.Output
+        → IfSome (R.remaining reader.old) (AnswersInPart command (W.contents writer.old) (W.contents writer.new)))
+        × AppendsPart (E.contents errors.old) (E.contents errors.new) (fault_line f)) }
     ensures quiet { result ≡ 0 → errors.new ≡ errors.old }
 {
     let global = alloc;

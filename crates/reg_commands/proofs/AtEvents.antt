@@ -10,7 +10,8 @@ use Rattle.reg_world.specs.Runs.{Run}
 use Rattle.reg_commands.specs.Replays.{AreAtEvents}
 use Rattle.reg_world.proofs.witness.Points.{keeps_at}
 
-pub points_at_events : (r : Run) (ps : List Point) → ArePoints r ps → ((k : ℕ) (f : First) → IsAt r.order k f → f.at ≤ LAST_EVENT) → AreAtEvents ps
+pub points_at_events : (r : Run) (ps : List Point) → ArePoints r ps
+    → ((k : ℕ) (f : First) → IsAt r.order k f → f.at ≤ LAST_EVENT) → AreAtEvents ps
 points_at_events r ps (cs, keeps, made) firsts k p here =
     let from : (c : First) × IsAt cs k c × (record { id = c.id; at = c.at } ≡ p) = at_map (λ (c : First). record { id = c.id; at = c.at }) cs k p (subst (λ (l : List Point). IsAt l k p) made here) in
     let there : (i : ℕ) × IsAt r.order i from.0 = keeps_at keeps k from.0 from.1 in

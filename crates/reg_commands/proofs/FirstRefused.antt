@@ -7,7 +7,8 @@ use Rattle.reg_front.specs.declared.starts.Start.{Start}
 use Rattle.reg_checkers.specs.History.{IsAt}
 use Rattle.reg_process.specs.declared.events.Event.{Event}
 use Rattle.reg_world.specs.declared.faults.WorldFault.{WorldFault}
-use Rattle.reg_world.specs.declared.faults.WorldFault.TheVariants.{Failed, TooManyEvents, NoProcess, Busy, NoRegister, TooManyOperations, NoFrame, OutOfMemory}
+use Rattle.reg_world.specs.declared.faults.WorldFault.TheVariants.{Failed, TooManyEvents, NoProcess, Busy, NoRegister}
+use Rattle.reg_world.specs.declared.faults.WorldFault.TheVariants.{TooManyOperations, NoFrame, OutOfMemory}
 use Rattle.reg_world.specs.Worlds.{RunRefuses, refusal, run_in, after_events}
 use Rattle.reg_inputs.specs.Schedules.{Plan}
 use Rattle.reg_commands.specs.Replays.{BlamesRun, IsFirstRefused, fault_at, fault_of_run, run_before}
@@ -27,7 +28,8 @@ module _ (start : Op → ℕ → Start) (p : Plan) (at : ℕ) where
   by_fault OutOfMemory other before refuses = absurd (other refl)
 
   -- want of memory aside, a run names the first one
-  pub first_refused : (shape : Extent) (events : List Event) (fault : WorldFault) → shape ≡ p.shape → events ≡ p.events → fault ≢ OutOfMemory → RunRefuses start shape events at fault
+  pub first_refused : (shape : Extent) (events : List Event) (fault : WorldFault) → shape ≡ p.shape → events ≡ p.events
+      → fault ≢ OutOfMemory → RunRefuses start shape events at fault
       → (run_in start (after_events start shape (take at events))).accepted ≡ take at events → IsFirstRefused start p at fault
   first_refused shape events fault same_shape same_events other refuses before =
       by_fault fault other (rw (← same_shape, ← same_events) before) (rw (← same_shape, ← same_events) refuses)
@@ -37,7 +39,9 @@ abbrev pub Refused : (Op → ℕ → Start) → Extent → List Event → ℕ �
 Refused start shape events at fault = (fault ≢ OutOfMemory → RunRefuses start shape events at fault) × (fault ≢ OutOfMemory → (run_in start (after_events start shape (take at events))).accepted ≡ take at events)
 
 -- a fault of a run of a plan's events says of the plan what it says of them
-pub blames_run : (start : Op → ℕ → Start) (p : Plan) (shape : Extent) (events : List Event) (run : RunFault) → shape ≡ p.shape → events ≡ p.events → Refused start shape events run.at run.fault → BlamesRun start p (fault_of_run run)
+pub blames_run : (start : Op → ℕ → Start) (p : Plan) (shape : Extent) (events : List Event) (run : RunFault)
+    → shape ≡ p.shape → events ≡ p.events → Refused start shape events run.at run.fault
+    → BlamesRun start p (fault_of_run run)
 blames_run start p shape events run same_shape same_events refused = by run.fault refused
   where
     by : (fault : WorldFault) → Refused start shape events run.at fault → BlamesRun start p (fault_at run.at fault)

@@ -1,5 +1,6 @@
 -- Items that are put one after another.
-use Rattle.std.proofs.Common.{ℕ, ◌≡◌, ◌+◌, ◌<◌, List, [], ◌∷◌, ◌++◌, length, map, take, get_or, codes, Option, refl, sym, ap, ◌∙◌, append-nil, arith}
+use Rattle.std.proofs.Common.{ℕ, ◌≡◌, ◌+◌, ◌<◌, List, [], ◌∷◌, ◌++◌, length, map, take, get_or, codes, Option, refl}
+use Rattle.std.proofs.Common.{sym, ap, ◌∙◌, append-nil, arith}
 use Rattle.std.specs.Prelude.{flat_map}
 use Rattle.std.proofs.lemmas.Grind.{flat_map-append}
 use Rattle.std.proofs.lemmas.List.{append_assoc, length-map, length-take-le, map-append, take_more}
@@ -15,20 +16,24 @@ abbrev comma : List ℕ → List ℕ
 comma item = codes ", " ++ item
 
 -- one more item at the end
-joined_more : (items : List (List ℕ)) (item : List ℕ) → joined (items ++ item ∷ []) ≡ joined items ++ (between (length items) ++ item)
+joined_more : (items : List (List ℕ)) (item : List ℕ)
+    → joined (items ++ item ∷ []) ≡ joined items ++ (between (length items) ++ item)
 joined_more [] item = append-nil item
 joined_more (first ∷ items) item =
     let later : flat_map comma (items ++ item ∷ []) ≡ flat_map comma items ++ comma item = flat_map-append comma items (item ∷ []) ∙ ap (λ l. flat_map comma items ++ l) (append-nil (comma item)) in
     ap (λ l. first ++ l) later ∙ sym (append_assoc first (flat_map comma items) (comma item))
 
 -- one more item of a list, as texts
-more : {X : Type 0} (f : X → List ℕ) (xs : List X) (i : ℕ) (d : X) → i < length xs → joined (map f (take (i + 1) xs)) ≡ joined (map f (take i xs)) ++ (between i ++ f (get_or xs i d))
+more : {X : Type 0} (f : X → List ℕ) (xs : List X) (i : ℕ) (d : X) → i < length xs
+    → joined (map f (take (i + 1) xs)) ≡ joined (map f (take i xs)) ++ (between i ++ f (get_or xs i d))
 more f xs i d within =
     let so_far : length (map f (take i xs)) ≡ i = length-map (take i xs) f ∙ length-take-le i xs (omega arith) in
     ap (λ ys. joined (map f ys)) (take_more xs i d within) ∙ ap joined (map-append f (take i xs) (get_or xs i d ∷ [])) ∙ joined_more (map f (take i xs)) (f (get_or xs i d))
     ∙ ap (λ k. joined (map f (take i xs)) ++ (between k ++ f (get_or xs i d))) so_far
 
-pub puts_item : {S X : Type 0} (held : S → Option (List ℕ)) (a b c : Sink S) (f : X → List ℕ) (xs : List X) (i : ℕ) (d : X) → i < length xs
+pub puts_item : {S X : Type 0} (held : S → Option (List ℕ)) (a b c : Sink S) (f : X → List ℕ) (xs : List X) (i : ℕ)
+    (d : X)
+    → i < length xs
     → Puts held a b (joined (map f (take i xs))) → Puts held b c (between i ++ f (get_or xs i d)) → Puts held a c (joined (map f (take (i + 1) xs)))
 puts_item held a b c f xs i d within p q =
     puts_as held a c (joined (map f (take i xs)) ++ (between i ++ f (get_or xs i d))) (joined (map f (take (i + 1) xs))) (sym (more f xs i d within))

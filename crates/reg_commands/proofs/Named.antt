@@ -25,7 +25,9 @@ use Rattle.reg_commands.proofs.Shown.{same_plan}
 abbrev pub FirstsAtEvents : (Op → ℕ → Start) → Made → Type 0
 FirstsAtEvents start w = (k : ℕ) (f : First) → IsAt (run_in start w).order k f → f.at ≤ LAST_EVENT
 
-pub points_stand : (start : Op → ℕ → Start) (front : Front) (w : Made) (points : Option (List Point)) → start ≡ start_of front → FirstsAtEvents start w → w.history ≡ (run_in start w).history → HasPoints front w points → PointsStand w.registers w.history points
+pub points_stand : (start : Op → ℕ → Start) (front : Front) (w : Made) (points : Option (List Point))
+    → start ≡ start_of front → FirstsAtEvents start w → w.history ≡ (run_in start w).history → HasPoints front w points
+    → PointsStand w.registers w.history points
 points_stand start Linear w None named firsts history has = absurd has
 points_stand start Linear w (Some ps) named firsts history has = (
   subst (λ (h : List Entry). IsPointOrder w.registers h ps) (sym (history ∙ ap (λ (s : Op → ℕ → Start). (run_in s w).history) named)) has.ordered,
@@ -35,20 +37,28 @@ points_stand start LocalRead w points named firsts history has = subst (PointsSt
 points_stand start LocalWrite w points named firsts history has = subst (PointsStand w.registers w.history) (sym has) tt
 
 -- the points of a world are those of what it did
-pub points_in : (front asked : Front) (names : List (List ℕ)) (w : Made) (points : Option (List Point)) → HasPoints front w points → PointsOf front (plan_in asked names w) points
+pub points_in : (front asked : Front) (names : List (List ℕ)) (w : Made) (points : Option (List Point))
+    → HasPoints front w points → PointsOf front (plan_in asked names w) points
 points_in Linear asked names w None has = absurd has
 points_in Linear asked names w (Some ps) has = has.points
 points_in LocalRead asked names w points has = has
 points_in LocalWrite asked names w points has = has
 
-pub points_shown : {E : Type 0} (front asked : Front) (names : List (List ℕ)) (w : Made) (report : Result Contents E) (points : Option (List Point)) → HasPoints front w points → IfOk report (λ r. r.points ≡ points) → IfOk report (λ r. PointsOf front (plan_in asked names w) r.points)
-points_shown front asked names w (Ok r) points has told = subst (PointsOf front (plan_in asked names w)) (sym told) (points_in front asked names w points has)
+pub points_shown : {E : Type 0} (front asked : Front) (names : List (List ℕ)) (w : Made) (report : Result Contents E)
+    (points : Option (List Point))
+    → HasPoints front w points → IfOk report (λ r. r.points ≡ points)
+    → IfOk report (λ r. PointsOf front (plan_in asked names w) r.points)
+points_shown front asked names w (Ok r) points has told =
+    subst (PointsOf front (plan_in asked names w)) (sym told) (points_in front asked names w points has)
 points_shown front asked names w (Err e) points has told = tt
 
 -- a run of a plan's events has the points of the plan
-pub points_planned : {E : Type 0} (front : Front) (p q : Plan) (report : Result Contents E) → p ≡ q → IfOk report (λ r. PointsOf front p r.points) → IfOk report (λ r. PointsOf front q r.points)
-points_planned front p q report same shown = subst (λ (x : Plan). IfOk report (λ r. PointsOf front x r.points)) same shown
+pub points_planned : {E : Type 0} (front : Front) (p q : Plan) (report : Result Contents E) → p ≡ q
+    → IfOk report (λ r. PointsOf front p r.points) → IfOk report (λ r. PointsOf front q r.points)
+points_planned front p q report same shown =
+    subst (λ (x : Plan). IfOk report (λ r. PointsOf front x r.points)) same shown
 
 -- the points of a run of a plan's events are those of the plan
-pub points_of_plan : (start : Op → ℕ → Start) (front : Front) (p : Plan) (w : Made) (points : Option (List Point)) → w ≡ after_events start p.shape p.events → HasPoints front w points → PointsOf front p points
+pub points_of_plan : (start : Op → ℕ → Start) (front : Front) (p : Plan) (w : Made) (points : Option (List Point))
+    → w ≡ after_events start p.shape p.events → HasPoints front w points → PointsOf front p points
 points_of_plan start front p w points is has = subst (λ (q : Plan). PointsOf front q points) (same_plan start p p.front p.names w is refl refl) (points_in front p.front p.names w points has)

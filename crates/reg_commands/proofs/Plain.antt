@@ -1,5 +1,6 @@
 -- A text of letters, digits, spaces and hyphens needs no escape between quotes.
-use Rattle.std.proofs.Common.{ℕ, ◌≡◌, ◌≢◌, ◌<◌, ◌≤◌, ◌^◌, ◌&&◌, ◌==◌, not, nat_le, nat_lt, Bool, true, false, List, [], ◌∷◌, ◌++◌, length, get_or, codes, None, Some, refl, sym, ap, subst, arith}
+use Rattle.std.proofs.Common.{ℕ, ◌≡◌, ◌≢◌, ◌<◌, ◌≤◌, ◌^◌, ◌&&◌, ◌==◌, not, nat_le, nat_lt, Bool, true, false, List, []}
+use Rattle.std.proofs.Common.{◌∷◌, ◌++◌, length, get_or, codes, None, Some, refl, sym, ap, subst, arith}
 use Rattle.std.specs.Prelude.{slice_get}
 use Rattle.std.specs.List.{list_all, list_any}
 use Rattle.std.specs.Char.{is_ascii_lowercase}
@@ -10,7 +11,8 @@ use Rattle.std.proofs.lemmas.Bool.Decides.{nat_tests}
 use Rattle.std.proofs.lemmas.Fmt.{decimal_is_IsNumeral}
 use Rattle.std.proofs.lemmas.Option.{get_or_from_slice_get, slice_get_within}
 use Rattle.std.proofs.lemmas.Str.Parse.{digit_from_value}
-use Rattle.toml_writer.specs.Text.{basic, encoding_of, escaped, has, is_control, needs_escape, quotes_after, string_text}
+use Rattle.toml_writer.specs.Text.{basic, encoding_of, escaped, has, is_control, needs_escape, quotes_after}
+use Rattle.toml_writer.specs.Text.{string_text}
 use Rattle.reg_base.specs.declared.limits.TheConstants.{LONGEST_NAME}
 use Rattle.reg_base.specs.declared.memory.Op.{Op}
 use Rattle.reg_base.specs.declared.memory.Op.TheVariants.{Read, Write, Swap, CompareAndSwap}
@@ -80,7 +82,8 @@ letter c h = let low : 97 ≤ c = grind (arith, nat_tests) in let high : c ≤ 1
 
 letters : (l : List ℕ) → list_all is_ascii_lowercase l ≡ true → IsPlain l
 letters [] h = tt
-letters (c ∷ l) h = let b = both_true (is_ascii_lowercase c) (list_all is_ascii_lowercase l) h in (letter c b.0, letters l b.1)
+letters (c ∷ l) h =
+    let b = both_true (is_ascii_lowercase c) (list_all is_ascii_lowercase l) h in (letter c b.0, letters l b.1)
 
 digit : (c : ℕ) → digit_value c < 10 → IsByte c
 digit c h = let (low, high) = digit_from_value c h in (omega arith, omega arith, (λ e. let f : ⊥ = omega arith in f), (λ e. let f : ⊥ = omega arith in f))
@@ -100,7 +103,8 @@ name_plain name h =
 nth : (names : List (List ℕ)) (r : ℕ) → names_fault names ≡ None → r < length names → IsPlain (name_of names r)
 nth names r well within = name_plain (get_or names r []) (well_spelt names r well within)
 
-pub each_name : (names : List (List ℕ)) → names_fault names ≡ None → (k : ℕ) (name : List ℕ) → slice_get names k ≡ Some name → IsPlain name
+pub each_name : (names : List (List ℕ)) → names_fault names ≡ None → (k : ℕ) (name : List ℕ)
+    → slice_get names k ≡ Some name → IsPlain name
 each_name names well k name there =
     let within : k < length names = slice_get_within names k name there in
     subst IsPlain (get_or_from_slice_get names k name [] there) (nth names k well within)
@@ -123,18 +127,23 @@ literal : (text : List ℕ) → list_all is_word text ≡ true → IsPlain text
 literal [] h = tt
 literal (c ∷ text) h = let b = both_true (is_word c) (list_all is_word text) h in (word c b.0, literal text b.1)
 
-valued_plain : (names : List (List ℕ)) (r v : ℕ) → names_fault names ≡ None → r < length names → v < 2 ^ 64 → IsPlain (valued names r v)
+valued_plain : (names : List (List ℕ)) (r v : ℕ) → names_fault names ≡ None → r < length names → v < 2 ^ 64
+    → IsPlain (valued names r v)
 valued_plain names r v well within small = after (name_of names r) (32 ∷ decimal v) (nth names r well within) (after (32 ∷ []) (decimal v) (literal (32 ∷ []) refl) (number v small))
 
-compared_plain : (names : List (List ℕ)) (r e v : ℕ) → names_fault names ≡ None → r < length names → e < 2 ^ 64 → v < 2 ^ 64 → IsPlain (compared names r e v)
+compared_plain : (names : List (List ℕ)) (r e v : ℕ) → names_fault names ≡ None → r < length names → e < 2 ^ 64
+    → v < 2 ^ 64 → IsPlain (compared names r e v)
 compared_plain names r e v well within low small =
     after (name_of names r) (32 ∷ (decimal e ++ 32 ∷ decimal v)) (nth names r well within)
     (after (32 ∷ []) (decimal e ++ 32 ∷ decimal v) (literal (32 ∷ []) refl) (after (decimal e) (32 ∷ decimal v) (number e low) (after (32 ∷ []) (decimal v) (literal (32 ∷ []) refl) (number v small))))
 
-pub op_plain : (names : List (List ℕ)) (op : Op) → names_fault names ≡ None → OpFits names op → IsPlain (op_text names op)
-op_plain names (Read r) well fits = after (codes "read ") (name_of names r) (literal (codes "read ") refl) (nth names r well fits)
+pub op_plain : (names : List (List ℕ)) (op : Op) → names_fault names ≡ None → OpFits names op
+    → IsPlain (op_text names op)
+op_plain names (Read r) well fits =
+    after (codes "read ") (name_of names r) (literal (codes "read ") refl) (nth names r well fits)
 op_plain names (Write r v) well fits = after (codes "write ") (valued names r v) (literal (codes "write ") refl) (valued_plain names r v well fits.0 fits.1)
-op_plain names (Swap r v) well fits = after (codes "swap ") (valued names r v) (literal (codes "swap ") refl) (valued_plain names r v well fits.0 fits.1)
+op_plain names (Swap r v) well fits =
+    after (codes "swap ") (valued names r v) (literal (codes "swap ") refl) (valued_plain names r v well fits.0 fits.1)
 op_plain names (CompareAndSwap r e v) well fits = after (codes "cas ") (compared names r e v) (literal (codes "cas ") refl) (compared_plain names r e v well fits.0 fits.1 fits.2)
 
 pub front_plain : (front : Front) → IsPlain (front_name front)

@@ -1,5 +1,6 @@
 -- The report of a play, by what its player and its world answer.
-use Rattle.std.proofs.Common.{◌≡◌, ◌<◌, ℕ, Bool, true, false, List, length, Option, Result, Ok, Err, refl, sym, ◌∙◌, subst}
+use Rattle.std.proofs.Common.{◌≡◌, ◌<◌, ℕ, Bool, true, false, List, length, Option, Result, Ok, Err, refl, sym, ◌∙◌}
+use Rattle.std.proofs.Common.{subst}
 use Rattle.std.specs.Prelude.{IfOk}
 use Rattle.rand_core.specs.Pcg32Seed.{pcg32_seed}
 use Rattle.rand_pcg.specs.Lcg.{Lcg}
@@ -35,7 +36,8 @@ module _ {P E : Type 0} (world : P → Made) (is_finished : P → Bool) (fair : 
   both (Ok p) order done = (order, done)
   both (Err e) order done = tt
 
-  pub by_fair : fair ≡ true → (answer : Result P E) → IfOk answer (λ p. world p ≡ (fair_play start work.shape work.scripts work.budget).made)
+  pub by_fair : fair ≡ true → (answer : Result P E)
+      → IfOk answer (λ p. world p ≡ (fair_play start work.shape work.scripts work.budget).made)
       → IfOk answer (λ p. IsPlay start work.shape work.scripts work.budget (world p) (is_finished p)) → IfOk answer (λ p. TakesInOrder (world p).accepted)
       → IfOk answer (λ p. length (world p).accepted < work.budget → is_finished p ≡ true) → IfOk answer (λ p. IsPlayBy fair start work (world p) (is_finished p))
   unfolding play_made
@@ -49,10 +51,13 @@ module _ {P E : Type 0} (world : P → Made) (is_finished : P → Bool) (fair : 
   by_seed is words seeded answer same play done =
       by_player false is answer (subst (λ (w : Lcg). IfOk answer (λ p. world p ≡ (seeded_play start pcg32 work.shape work.scripts work.loss work.repeat work.budget w).0.made)) seeded same) play done
 
-as_plan : (work : Load) (front : Front) (names : List (List ℕ)) (made : Made) → front ≡ work.front → names ≡ work.names → plan_in front names made ≡ plan_of work made
+as_plan : (work : Load) (front : Front) (names : List (List ℕ)) (made : Made) → front ≡ work.front → names ≡ work.names
+    → plan_in front names made ≡ plan_of work made
 as_plan work front names made same_front same_names = rw (same_front, same_names) refl
 
-pub play_shown : {E : Type 0} (fair : Bool) (start : Op → ℕ → Start) (work : Load) (front : Front) (names : List (List ℕ)) (made : Made) (is_finished : Bool) (AreSo : Plan → Option (List Point) → Type 0) (report : Result Contents E)
+pub play_shown : {E : Type 0} (fair : Bool) (start : Op → ℕ → Start) (work : Load) (front : Front)
+    (names : List (List ℕ)) (made : Made) (is_finished : Bool) (AreSo : Plan → Option (List Point) → Type 0)
+    (report : Result Contents E)
     → front ≡ work.front → names ≡ work.names → IsPlayBy fair start work made is_finished → IfOk report (λ r. Shows start (plan_in front names made) r) → IfOk report (λ r. AreSo (plan_in front names made) r.points)
     → IfOk report (λ r. ShowsPlay fair start work AreSo r)
 play_shown fair start work front names made is_finished AreSo (Ok r) same_front same_names played shows points =
@@ -67,6 +72,8 @@ play_shown fair start work front names made is_finished AreSo (Ok r) same_front 
 play_shown fair start work front names made is_finished AreSo (Err e) same_front same_names played shows points = tt
 
 -- the report of a play, by the front end that the workload has
-pub shown_by : {E : Type 0} (fair : Bool) (front kept : Front) (work : Load) (report : Result Contents E) → kept ≡ work.front → kept ≡ front → IfOk report (λ r. ShowsPlay fair (start_of front) work (PointsOf front) r) → IfOk report (λ r. IsReportOfPlay fair work r)
+pub shown_by : {E : Type 0} (fair : Bool) (front kept : Front) (work : Load) (report : Result Contents E)
+    → kept ≡ work.front → kept ≡ front → IfOk report (λ r. ShowsPlay fair (start_of front) work (PointsOf front) r)
+    → IfOk report (λ r. IsReportOfPlay fair work r)
 shown_by fair front kept work report same is shown =
     subst (λ (f : Front). IfOk report (λ r. ShowsPlay fair (start_of f) work (PointsOf f) r)) (sym is ∙ same) shown

@@ -1,12 +1,16 @@
 -- The layout of a workload is the text of its table, and the table says the workload.
-use Rattle.std.proofs.Common.{ℕ, zero, suc, ◌≡◌, ◌<◌, ◌≤◌, ◌^◌, ◌&&◌, Bool, true, false, List, [], ◌∷◌, ◌++◌, map, codes, Some, None, refl, sym, ap, subst, append-nil, arith}
+use Rattle.std.proofs.Common.{ℕ, zero, suc, ◌≡◌, ◌<◌, ◌≤◌, ◌^◌, ◌&&◌, Bool, true, false, List, [], ◌∷◌, ◌++◌, map}
+use Rattle.std.proofs.Common.{codes, Some, None, refl, sym, ap, subst, append-nil, arith}
 use Rattle.std.specs.Prelude.{flat_map, pos, slice_get}
 use Rattle.std.specs.Fmt.{decimal}
 use Rattle.std.proofs.lemmas.List.{append_assoc}
-use Rattle.toml.specs.Data.{Data, string, integer, array, Items, no_items, item, no_members, member, depth, is_sorted, has_valid_dates, items_depth, items_are_sorted, items_have_valid_dates, members_depth, members_are_sorted, members_have_valid_dates}
+use Rattle.toml.specs.Data.{Data, string, integer, array, Items, no_items, item, no_members, member, depth, is_sorted}
+use Rattle.toml.specs.Data.{has_valid_dates, items_depth, items_are_sorted, items_have_valid_dates, members_depth}
+use Rattle.toml.specs.Data.{members_are_sorted, members_have_valid_dates}
 use Rattle.toml.specs.Parse.{parse_document}
 use Rattle.toml.specs.Tables.{Expression, key_value}
-use Rattle.toml.specs.Text.{IsDocumentText, IsItemsText, IsLinesText, IsLineText, IsValueText, breaks_lines, expressions}
+use Rattle.toml.specs.Text.{IsDocumentText, IsItemsText, IsLinesText, IsLineText, IsValueText, breaks_lines}
+use Rattle.toml.specs.Text.{expressions}
 use Rattle.toml.specs.View.{items_of}
 use Rattle.toml.proofs.ReadBack.{parse_document-printed}
 use Rattle.toml_writer.specs.Text.{key_text}
@@ -16,7 +20,8 @@ use Rattle.reg_base.specs.Names.{names_fault}
 use Rattle.reg_text.specs.Lines.{AllFit}
 use Rattle.reg_text.specs.Ops.{op_text}
 use Rattle.reg_inputs.specs.Loads.{IsLoad, IsScript, Load, Says, op_data, script_data, scripts_data, texts_data}
-use Rattle.reg_commands.specs.Layout.{array_text, joined, key_line, load_text, names_array, quoted, script_array, scripts_array, table_of}
+use Rattle.reg_commands.specs.Layout.{array_text, joined, key_line, load_text, names_array, quoted, script_array}
+use Rattle.reg_commands.specs.Layout.{scripts_array, table_of}
 use Rattle.reg_commands.proofs.Plain.{between_quotes, each_name, front_plain, op_plain}
 
 -- arrays
@@ -42,7 +47,8 @@ module _ {X : Type 0} (data_of : X → Data) (text_of : X → List ℕ) where
   one_line (item d no_items) = refl
   one_line (item d (item e ds)) = refl
 
-  pub array_is : (xs : List X) → Each xs → IsValueText false (array (items_of (map data_of xs))) (array_text (map text_of xs))
+  pub array_is : (xs : List X) → Each xs
+      → IsValueText false (array (items_of (map data_of xs))) (array_text (map text_of xs))
   array_is xs each =
       let ds = items_of (map data_of xs) in
       let rest : List ℕ = joined (map text_of xs) ++ codes "]" in
@@ -60,13 +66,18 @@ module _ {X : Type 0} (data_of : X → Data) (text_of : X → List ℕ) where
   dated [] each = refl
   dated (x ∷ xs) each = rw (each x) (dated xs each)
 
-names_are : (names : List (List ℕ)) → names_fault names ≡ None → IsValueText false (texts_data names) (names_array names)
-names_are names well = array_is string quoted names (λ k name there. between_quotes name (each_name names well k name there))
+names_are : (names : List (List ℕ)) → names_fault names ≡ None
+    → IsValueText false (texts_data names) (names_array names)
+names_are names well =
+    array_is string quoted names (λ k name there. between_quotes name (each_name names well k name there))
 
-script_is : (names : List (List ℕ)) (ops : List Op) → names_fault names ≡ None → IsScript names ops → IsValueText false (script_data names ops) (script_array names ops)
+script_is : (names : List (List ℕ)) (ops : List Op) → names_fault names ≡ None → IsScript names ops
+    → IsValueText false (script_data names ops) (script_array names ops)
 script_is names ops well fits = array_is (op_data names) (λ op. quoted (op_text names op)) ops (λ k op there. between_quotes (op_text names op) (op_plain names op well (fits.known k op there)))
 
-scripts_are : (names : List (List ℕ)) (scripts : List (List Op)) → names_fault names ≡ None → AllFit (λ _ ops. IsScript names ops) scripts → IsValueText false (scripts_data names scripts) (scripts_array names scripts)
+scripts_are : (names : List (List ℕ)) (scripts : List (List Op)) → names_fault names ≡ None
+    → AllFit (λ _ ops. IsScript names ops) scripts
+    → IsValueText false (scripts_data names scripts) (scripts_array names scripts)
 scripts_are names scripts well fit = array_is (script_data names) (script_array names) scripts (λ k ops there. script_is names ops well (fit k ops there))
 
 script_depth : (names : List (List ℕ)) (ops : List Op) → depth (script_data names ops) ≤ 1
@@ -77,11 +88,13 @@ script_depth names ops = let low = flat (op_data names) (λ op. []) 0 ops (λ op
 number_is : (n : ℕ) → n < 2 ^ 63 → IsValueText false (integer (pos n)) (decimal n)
 number_is n small = (refl, omega arith)
 
-line_is : (started : Bool) (key value : List ℕ) (d : Data) → key_text key ≡ key → IsValueText false d value → IsLineText false started ([], key) (key_value d) (key_line key value)
+line_is : (started : Bool) (key value : List ℕ) (d : Data) → key_text key ≡ key → IsValueText false d value
+    → IsLineText false started ([], key) (key_value d) (key_line key value)
 line_is started key value d bare is = (value, ap (λ k. k ++ (codes " = " ++ (value ++ 10 ∷ []))) (sym bare), is)
 
 -- the keys of a workload stand bare
-bare : (key_text (codes "budget") ≡ codes "budget") × (key_text (codes "front") ≡ codes "front") × (key_text (codes "loss") ≡ codes "loss") × (key_text (codes "registers") ≡ codes "registers")
+bare : (key_text (codes "budget") ≡ codes "budget") × (key_text (codes "front") ≡ codes "front")
+    × (key_text (codes "loss") ≡ codes "loss") × (key_text (codes "registers") ≡ codes "registers")
     × (key_text (codes "repeat") ≡ codes "repeat") × (key_text (codes "scripts") ≡ codes "scripts") × (key_text (codes "seed") ≡ codes "seed")
 unfolding key_text
 bare = (refl, refl, refl, refl, refl, refl, refl)
@@ -90,7 +103,8 @@ abbrev line : List ℕ → Data → Expression
 line key d = (([], key), key_value d)
 
 -- no value of the table is a table, so each has a line
-lines_of : (budget : ℕ) (front : List ℕ) (loss : ℕ) (names : List (List ℕ)) (repeat : ℕ) (all : List (List ℕ)) (scripts : List (List Op)) (seed : ℕ)
+lines_of : (budget : ℕ) (front : List ℕ) (loss : ℕ) (names : List (List ℕ)) (repeat : ℕ) (all : List (List ℕ))
+    (scripts : List (List Op)) (seed : ℕ)
     → expressions (member (codes "budget") (integer (pos budget)) (member (codes "front") (string front) (member (codes "loss") (integer (pos loss)) (member (codes "registers") (texts_data names)
     (member (codes "repeat") (integer (pos repeat)) (member (codes "scripts") (scripts_data all scripts) (member (codes "seed") (integer (pos seed)) no_members)))))))
     ≡ line (codes "budget") (integer (pos budget)) ∷ line (codes "front") (string front) ∷ line (codes "loss") (integer (pos loss)) ∷ line (codes "registers") (texts_data names)
@@ -134,7 +148,8 @@ no_date w = both (items_have_valid_dates (items_of (map string w.names))) (items
 
 -- the layout of a workload is a document, and its table says the workload
 pub is_document : (w : Load) → IsLoad w → parse_document (load_text w) ≡ Some (table_of w)
-is_document w good = parse_document-printed false (table_of w) (load_text w) (printed w good) (low w) (no_date w) (in_order w)
+is_document w good =
+    parse_document-printed false (table_of w) (load_text w) (printed w good) (low w) (no_date w) (in_order w)
 
 pub says : (w : Load) → Says (table_of w) w
 says w = record { known = refl; front = refl; registers = refl; scripts = refl; seed = refl; loss = refl; repeat = refl; budget = refl }

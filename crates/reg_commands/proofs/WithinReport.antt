@@ -1,5 +1,6 @@
 -- A serial order of a history is within the limits of a report, and so is a point order at events that a run may have.
-use Rattle.std.proofs.Common.{◌≡◌, ℕ, zero, suc, ◌+◌, ◌*◌, ◌<◌, ◌≤◌, ◌⊎◌, inl, inr, Bool, true, false, ◌||◌, List, [], ◌∷◌, map, take, length, Option, Some, None, get_or, refl, ap, sym, ◌∙◌, subst, arith}
+use Rattle.std.proofs.Common.{◌≡◌, ℕ, zero, suc, ◌+◌, ◌*◌, ◌<◌, ◌≤◌, ◌⊎◌, inl, inr, Bool, true, false, ◌||◌, List, []}
+use Rattle.std.proofs.Common.{◌∷◌, map, take, length, Option, Some, None, get_or, refl, ap, sym, ◌∙◌, subst, arith}
 use Rattle.std.specs.List.{list_any}
 use Rattle.std.proofs.Math.Dec.{eqb}
 use Rattle.std.proofs.lemmas.Bool.{cases_order, cases_eq, ne_eqb}
@@ -17,7 +18,8 @@ use Rattle.reg_checkers.specs.declared.entries.Entry.{Entry}
 use Rattle.reg_checkers.specs.declared.entries.Entry.TheVariants.{Called, Answered}
 use Rattle.reg_checkers.specs.declared.entries.Point.{Point}
 use Rattle.reg_history.specs.declared.report_faults.ReportFault.{ReportFault}
-use Rattle.reg_history.specs.declared.report_faults.ReportFault.TheVariants.{Front as FrontFault, Names as NamesFault, Range as RangeFault}
+use Rattle.reg_history.specs.declared.report_faults.ReportFault.TheVariants.{Front as FrontFault, Names as NamesFault}
+use Rattle.reg_history.specs.declared.report_faults.ReportFault.TheVariants.{Range as RangeFault}
 use Rattle.reg_history.specs.declared.report_limits.TheConstants.{MOST_ENTRIES, MOST_IDS}
 use Rattle.reg_checkers.specs.History.{IsAt, IsCalled, WasCalled, MayCall, MayAnswer, IsHistory, event_of}
 use Rattle.reg_history.specs.declared.versions.Version.TheVariants.{Three}
@@ -50,7 +52,8 @@ any_at q (x ∷ xs) any = go (cases_eq q x) (any_at q xs)
         (suc there.0, there.1)
 
 -- numbers below n, no two of them equal, are at most n
-few_numbers : (xs : List ℕ) (n : ℕ) → ((i j t : ℕ) → IsAt xs i t → IsAt xs j t → i ≡ j) → ((k t : ℕ) → IsAt xs k t → t < n) → length xs ≤ n
+few_numbers : (xs : List ℕ) (n : ℕ) → ((i j t : ℕ) → IsAt xs i t → IsAt xs j t → i ≡ j)
+    → ((k t : ℕ) → IsAt xs k t → t < n) → length xs ≤ n
 few_numbers xs n apart below =
     length-le_from_distinct_below xs n (IsDistinct-from_apart eqb xs differ) (λ q any. let there : (k : ℕ) × IsAt xs k q = any_at q xs any in below there.0 q there.1)
   where
@@ -180,7 +183,8 @@ module _ (n registers : ℕ) (es : List Entry) (good : IsHistory n registers es)
   few_points few (Some ps) (order, events) =
       (λ k p here. (id_fits few p.id (stands_called p.id (order.selection.known k p.id (IsAt-map (λ (q : Point). q.id) ps k p here))), events k p here), subst (λ (m : ℕ). m ≤ MOST_IDS) (length-map ps (λ (q : Point). q.id)) (few_selected (map (λ (q : Point). q.id) ps) order.selection))
 
-  pub in_range : n ≤ MOST_PROCESSES → (ids : List OpId) (points : Option (List Point)) → IsSerial registers es ids → PointsStand registers es points → InRange Three es ids points
+  pub in_range : n ≤ MOST_PROCESSES → (ids : List OpId) (points : Option (List Point)) → IsSerial registers es ids
+      → PointsStand registers es points → InRange Three es ids points
   in_range few ids points serial stand = record {
     few_entries = few_entries;
     ids = λ k id here. id_fits few id (stands_called id (serial.selection.known k id here));
@@ -193,13 +197,16 @@ front_fits Linear = refl
 front_fits LocalRead = refl
 front_fits LocalWrite = refl
 
-no_fault : (r : Contents) (fault : ReportFault) → is_front r.front ≡ true → r.shape.registers ≡ length r.names → InRange Three r.entries r.order r.points → IsReportFault r fault → ⊥
+no_fault : (r : Contents) (fault : ReportFault) → is_front r.front ≡ true → r.shape.registers ≡ length r.names
+    → InRange Three r.entries r.order r.points → IsReportFault r fault → ⊥
 no_fault r FrontFault front names range refused = refused front
 no_fault r NamesFault front names range refused = refused.1 names
 no_fault r RangeFault front names range refused = refused.2 range
 
 -- parts of a run are no report for no reason
-pub never_refused : (front : Front) (r : Contents) (fault : ReportFault) → r.shape.processes ≤ MOST_PROCESSES → r.front ≡ front_name front → r.shape.registers ≡ length r.names → IsHistory r.shape.processes r.shape.registers r.entries
+pub never_refused : (front : Front) (r : Contents) (fault : ReportFault) → r.shape.processes ≤ MOST_PROCESSES
+    → r.front ≡ front_name front → r.shape.registers ≡ length r.names
+    → IsHistory r.shape.processes r.shape.registers r.entries
     → IsSerial r.shape.registers r.entries r.order → PointsStand r.shape.registers r.entries r.points → IsReportFault r fault → ⊥
 never_refused front r fault few same_front names good serial stand refused =
     no_fault r fault (rw same_front (front_fits front)) names (in_range r.shape.processes r.shape.registers r.entries good few r.order r.points serial stand) refused

@@ -11,7 +11,8 @@ use Rattle.reg_history.specs.declared.report_faults.ReadWhy.{ReadWhy}
 use Rattle.reg_commands.specs.declared.command.Command.{Command}
 use Rattle.reg_commands.specs.declared.command.Command.TheVariants.{Replay, Check, Play}
 use Rattle.reg_commands.specs.declared.faults.Fault.{Fault}
-use Rattle.reg_commands.specs.declared.faults.Fault.TheVariants.{Unread, TooLong, NotText, Output, Line, Event, Workload, OutOfMemory}
+use Rattle.reg_commands.specs.declared.faults.Fault.TheVariants.{Unread, TooLong, NotText, Output, Line, Event}
+use Rattle.reg_commands.specs.declared.faults.Fault.TheVariants.{Workload, OutOfMemory}
 use Rattle.reg_commands.specs.declared.verdicts.Verdicts.{Verdicts}
 use Rattle.reg_world.specs.declared.faults.WorldFault.{WorldFault}
 use Rattle.reg_inputs.specs.declared.faults.WorkloadFault.{WorkloadFault}
@@ -46,8 +47,11 @@ AnswersInPart command old new text = (agrees : Bool) × Answers command agrees (
 -- line with which no schedule goes on, and for a report the first that may not follow those before it; no line of a
 -- document is named
 abbrev pub IsRefused : Command → ℕ → ReadWhy → List ℕ → Type 0
-IsRefused Replay line why text = ((p : Plan) → IsPlan p → ¬ Spells text p) × (length text ≤ LONGEST_INPUT → (told : Why) × (why ≡ why_of told) × RefusesLine line told text)
-IsRefused Check line why text = ((r : Contents) → ¬ SpellsReport text r) × (length text ≤ LONGEST_INPUT → RefusesReportLine line why text)
+IsRefused Replay line why text =
+    ((p : Plan) → IsPlan p → ¬ Spells text p)
+    × (length text ≤ LONGEST_INPUT → (told : Why) × (why ≡ why_of told) × RefusesLine line told text)
+IsRefused Check line why text =
+    ((r : Contents) → ¬ SpellsReport text r) × (length text ≤ LONGEST_INPUT → RefusesReportLine line why text)
 IsRefused (Play fair) line why text = ⊥
 
 -- the text's events are refused at this one, for this cause

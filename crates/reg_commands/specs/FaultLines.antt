@@ -5,7 +5,8 @@ use Rattle.reg_history.specs.Whys.{why_text}
 use Rattle.reg_world.specs.FaultTexts.{refusal_text}
 use Rattle.reg_inputs.specs.FaultTexts.{workload_text}
 use Rattle.reg_commands.specs.declared.faults.Fault.{Fault}
-use Rattle.reg_commands.specs.declared.faults.Fault.TheVariants.{Unread, TooLong, NotText, Output, Line, Event, Workload, OutOfMemory}
+use Rattle.reg_commands.specs.declared.faults.Fault.TheVariants.{Unread, TooLong, NotText, Output, Line, Event}
+use Rattle.reg_commands.specs.declared.faults.Fault.TheVariants.{Workload, OutOfMemory}
 
 -- a fault as text
 abbrev pub fault_text : Fault → List ℕ

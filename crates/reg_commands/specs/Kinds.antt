@@ -13,7 +13,9 @@ behind_mark text = if starts_with nat_eq text (239 ∷ 187 ∷ 191 ∷ []) then 
 
 -- what a text is meant as that has this line first
 abbrev pub kind_of_line : List ℕ → Kind
-kind_of_line line = if starts_with nat_eq line (codes "awreg ") then Report else (if starts_with nat_eq line (codes "processes ") then Schedule else Workload)
+kind_of_line line =
+    if starts_with nat_eq line (codes "awreg ") then Report else
+    (if starts_with nat_eq line (codes "processes ") then Schedule else Workload)
 
 -- the same of lines
 abbrev pub kind_of_lines : List (List ℕ) → Kind

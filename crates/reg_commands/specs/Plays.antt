@@ -29,22 +29,28 @@ pub record Holds (text : List ℕ) (work : Load) : Type 0 where
 
 -- the text is no document, or its table has this fault
 abbrev pub RefusesDocument : List ℕ → WorkloadFault → Type 0
-RefusesDocument text fault = ((fault ≡ Toml) × (parse_document text ≡ None)) ⊎ ((table : Members) × (parse_document text ≡ Some table) × IsFault table fault)
+RefusesDocument text fault =
+    ((fault ≡ Toml) × (parse_document text ≡ None))
+    ⊎ ((table : Members) × (parse_document text ≡ Some table) × IsFault table fault)
 
 -- What a player promises besides a play. A fair one takes the frames of each wire in order, each once, and is finished
 -- where the budget isn't used up; without loss, a seeded one is finished there too.
 abbrev pub PlaysAs : Bool → Load → Made → Bool → Type 0
-PlaysAs true work made is_finished = TakesInOrder made.accepted × (length made.accepted < work.budget → is_finished ≡ true)
+PlaysAs true work made is_finished =
+    TakesInOrder made.accepted × (length made.accepted < work.budget → is_finished ≡ true)
 PlaysAs false work made is_finished = work.loss ≡ 0 → length made.accepted < work.budget → is_finished ≡ true
 
 -- the one play of the workload that its player makes: the fair one, or the seeded one with the words of PCG32 from the
 -- workload's seed
 unfoldable pub play_made : Bool → (Op → ℕ → Start) → Load → Made
 play_made true start work = (fair_play start work.shape work.scripts work.budget).made
-play_made false start work = (seeded_play start pcg32 work.shape work.scripts work.loss work.repeat work.budget (pcg32_of_seed (pcg32_seed 16 work.seed))).0.made
+play_made false start work =
+    (seeded_play start pcg32 work.shape work.scripts work.loss work.repeat work.budget
+    (pcg32_of_seed (pcg32_seed 16 work.seed))).0.made
 
 -- The world is the play that the player makes, which is a play of the workload and has what its player promises.
-pub record IsPlayBy (fair : Bool) (start : Op → ℕ → Start) (work : Load) (made : Made) (is_finished : Bool) : Type 0 where
+pub record IsPlayBy (fair : Bool) (start : Op → ℕ → Start) (work : Load) (made : Made)
+    (is_finished : Bool) : Type 0 where
   pub same : made ≡ play_made fair start work
   pub play : IsPlay start work.shape work.scripts work.budget made is_finished
   pub player : PlaysAs fair work made is_finished
@@ -54,7 +60,8 @@ abbrev pub plan_of : Load → Made → Plan
 plan_of work made = plan_in work.front work.names made
 
 -- This is the report of the player's play of the workload: its history and its witness, and points as `AreSo` says.
-pub record ShowsPlay (fair : Bool) (start : Op → ℕ → Start) (work : Load) (AreSo : Plan → Option (List Point) → Type 0) (r : Contents) : Type 0 where
+pub record ShowsPlay (fair : Bool) (start : Op → ℕ → Start) (work : Load) (AreSo : Plan → Option (List Point) → Type 0)
+    (r : Contents) : Type 0 where
   pub made : Made
   pub is_finished : Bool
   pub played : IsPlayBy fair start work made is_finished

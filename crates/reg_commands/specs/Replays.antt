@@ -30,7 +30,13 @@ run_by start p = whole start p.shape.processes p.shape.registers p.events
 
 -- what a world did as a plan, under a front end and names
 abbrev pub plan_in : Front → List (List ℕ) → Made → Plan
-plan_in front names w = record { shape = record { processes = w.processes; registers = w.registers }; names = names; front = front; events = w.accepted }
+plan_in front names w =
+    record {
+      shape = record { processes = w.processes; registers = w.registers };
+      names = names;
+      front = front;
+      events = w.accepted;
+    }
 
 -- the points are at events that a run may have
 abbrev pub AreAtEvents : List Point → Type 0

@@ -3,12 +3,16 @@ use Rattle.std.specs.Prelude.{ℕ, Bool, true, false, ◌&&◌, List, [], ◌∷
 use Rattle.std.specs.Fmt.{decimal}
 use Rattle.reg_checkers.specs.declared.entries.Point.{Point}
 use Rattle.reg_checkers.specs.declared.faults.CheckFault.{CheckFault}
-use Rattle.reg_checkers.specs.declared.faults.CheckFault.TheVariants.{Unknown as UnknownFault, Twice as TwiceFault, Missing as MissingFault, OwnOrder as OwnOrderFault, Answer as AnswerFault, Outside as OutsideFault, Falling as FallingFault}
+use Rattle.reg_checkers.specs.declared.faults.CheckFault.TheVariants.{Unknown as UnknownFault, Twice as TwiceFault}
+use Rattle.reg_checkers.specs.declared.faults.CheckFault.TheVariants.{Missing as MissingFault}
+use Rattle.reg_checkers.specs.declared.faults.CheckFault.TheVariants.{OwnOrder as OwnOrderFault, Answer as AnswerFault}
+use Rattle.reg_checkers.specs.declared.faults.CheckFault.TheVariants.{Outside as OutsideFault, Falling as FallingFault}
 use Rattle.reg_checkers.specs.Orders.{IsSerial, IsPointOrder}
 use Rattle.reg_checkers.specs.Checks.{IsSerialFault, IsPointFault}
 use Rattle.reg_history.specs.Reports.{Contents}
 use Rattle.reg_commands.specs.declared.verdicts.Reason.{Reason}
-use Rattle.reg_commands.specs.declared.verdicts.Reason.TheVariants.{Unknown, Twice, Missing, OwnOrder, Answer, Outside, Falling}
+use Rattle.reg_commands.specs.declared.verdicts.Reason.TheVariants.{Unknown, Twice, Missing, OwnOrder, Answer, Outside}
+use Rattle.reg_commands.specs.declared.verdicts.Reason.TheVariants.{Falling}
 use Rattle.reg_commands.specs.declared.verdicts.Verdict.{Verdict}
 use Rattle.reg_commands.specs.declared.verdicts.Verdict.TheVariants.{Yes, No}
 use Rattle.reg_commands.specs.declared.verdicts.Verdicts.{Verdicts}

@@ -7,7 +7,8 @@ use Rattle.reg_commands.specs.declared.command.Command.TheVariants.{Play}
 use Rattle.reg_commands.specs.declared.faults.Fault.{Fault}
 
 -- The text is a document that says a workload, of which this was shown. `Wrote` says how a text was written.
-pub record OfDocument (IsShown : (List ℕ → Type 0) → Load → Type 0) (Wrote : List ℕ → Type 0) (text : List ℕ) : Type 0 where
+pub record OfDocument (IsShown : (List ℕ → Type 0) → Load → Type 0) (Wrote : List ℕ → Type 0)
+    (text : List ℕ) : Type 0 where
   pub work : Load
   pub holds : Holds text work
   pub shown : IsShown Wrote work
@@ -16,4 +17,5 @@ pub record OfDocument (IsShown : (List ℕ → Type 0) → Load → Type 0) (Wro
 -- says a workload, of which this holds.
 abbrev pub BlamesDocument : {F : Type 0} → (Fault → F) → (F → Load → Type 0) → F → List ℕ → Type 0
 BlamesDocument of_fault IsStopped f text =
-    ((fault : Fault) × (f ≡ of_fault fault) × Blames (Play false) fault text) ⊎ ((work : Load) × Holds text work × IsStopped f work)
+    ((fault : Fault) × (f ≡ of_fault fault) × Blames (Play false) fault text)
+    ⊎ ((work : Load) × Holds text work × IsStopped f work)

@@ -54,10 +54,12 @@ pub fn check<A: Allocator + Copy, W: Write>(
     text: String<A>,
     writer: &mut W,
 ) -> Result<bool, Fault>
-    ensures ok { IfOk result (λ agrees. Checks agrees (Appends (W.contents writer.old) (W.contents writer.new)) (string_bytes text)) }
+    ensures ok { IfOk result
+        (λ agrees. Checks agrees (Appends (W.contents writer.old) (W.contents writer.new)) (string_bytes text)) }
     ensures why { IfErr result (λ f. Blames Command.Check f (string_bytes text)) }
     ensures silent { IfErr result (λ f. f ≢ Fault.Output → writer.new ≡ writer.old) }
-    ensures part { IsErrOf result Fault.Output → AnswersInPart Command.Check (W.contents writer.old) (W.contents writer.new) (string_bytes text) }
+    ensures part { IsErrOf result Fault.Output
+        → AnswersInPart Command.Check (W.contents writer.old) (W.contents writer.new) (string_bytes text) }
     ensures kind { IfErr result (λ f. f ≢ Fault.Unread) }
 {
     let verdicts = checked(alloc, text)?;

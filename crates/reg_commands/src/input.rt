@@ -14,7 +14,8 @@ use std::io::Read;
 fn read_all<A: Allocator, R: Read>(alloc: A, reader: &mut R) -> Result<Vec<u8, A>, Fault>
     ensures all { IfOk result (λ v. IfSome (R.remaining reader.old) (λ xs. v.items ≡ xs)) }
     ensures within { IfOk result (λ v. length v.items ≤ LONGEST_INPUT) }
-    ensures why { IfErr result (λ f. IfSome (R.remaining reader.old) (λ xs. (command : AnyCommand) → Blames command f xs)) }
+    ensures why { IfErr result
+        (λ f. IfSome (R.remaining reader.old) (λ xs. (command : AnyCommand) → Blames command f xs)) }
     ensures kind { IfErr result (λ f. f ≢ Fault.Output) }
 {
     let mut bytes = Vec::new(alloc);
@@ -46,7 +47,8 @@ fn read_all<A: Allocator, R: Read>(alloc: A, reader: &mut R) -> Result<Vec<u8, A
 pub fn read_input<A: Allocator, R: Read>(alloc: A, reader: &mut R) -> Result<String<A>, Fault>
     ensures ok { IfOk result (λ s. IfSome (R.remaining reader.old) (λ xs. string_bytes s ≡ xs)) }
     ensures within { OnOk result (IfSome (R.remaining reader.old) (λ xs. length xs ≤ LONGEST_INPUT)) }
-    ensures why { IfErr result (λ f. IfSome (R.remaining reader.old) (λ xs. (command : AnyCommand) → Blames command f xs)) }
+    ensures why { IfErr result
+        (λ f. IfSome (R.remaining reader.old) (λ xs. (command : AnyCommand) → Blames command f xs)) }
     ensures kind { IfErr result (λ f. f ≢ Fault.Output) }
 {
     let bytes = read_all(alloc, reader)?;

@@ -1,6 +1,7 @@
 //! Which of the three texts a text is.
 ghost use Rattle.std.specs.Prelude.{◌≡◌};
-ghost use Rattle.reg_commands.specs.Kinds.{behind_mark as behind_mark_of, kind_of as kind_of_text, kind_of_line as kind_of_line_text, command_of as command_of_kind};
+ghost use Rattle.reg_commands.specs.Kinds.{behind_mark as behind_mark_of, kind_of as kind_of_text};
+ghost use Rattle.reg_commands.specs.Kinds.{kind_of_line as kind_of_line_text, command_of as command_of_kind};
 
 use crate::command::Command;
 use reg_text::Lines;

@@ -24,7 +24,8 @@ pub struct Response<A: Allocator + Copy> {
 /// Runs a command over bytes.
 pub fn tell<C: TextCommand, A: Allocator + Copy>(command: C, alloc: A, bytes: &[u8]) -> Response<A>
     requires { C.IsReady command }
-    ensures { IsTold (C.MayDeny command) C.Fault.of_fault C.Fault.line (C.IsBlamed command) (C.IsAnswer command) bytes.now result.status result.answer.items result.line.items }
+    ensures { IsTold (C.MayDeny command) C.Fault.of_fault C.Fault.line (C.IsBlamed command) (C.IsAnswer command)
+        bytes.now result.status result.answer.items result.line.items }
 {
     let mut reader = bytes;
     let mut answer = Vec::new(alloc);

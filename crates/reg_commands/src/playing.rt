@@ -128,7 +128,8 @@ pub fn play<A: Allocator + Copy, W: Write>(
     ensures ok { IfOk result (λ _. Plays fair (Appends (W.contents writer.old) (W.contents writer.new)) text.now) }
     ensures why { IfErr result (λ f. Blames (Command.Play fair) f text.now) }
     ensures silent { IfErr result (λ f. f ≢ Fault.Output → writer.new ≡ writer.old) }
-    ensures part { IsErrOf result Fault.Output → AnswersInPart (Command.Play fair) (W.contents writer.old) (W.contents writer.new) text.now }
+    ensures part { IsErrOf result Fault.Output
+        → AnswersInPart (Command.Play fair) (W.contents writer.old) (W.contents writer.new) text.now }
     ensures kind { IfErr result (λ f. f ≢ Fault.Unread) }
 {
     let report = played(alloc, global, text, fair)?;

@@ -121,10 +121,12 @@ pub fn replay<A: Allocator + Copy, W: Write>(
     text: String<A>,
     writer: &mut W,
 ) -> Result<(), Fault>
-    ensures ok { IfOk result (λ _. Replays (Appends (W.contents writer.old) (W.contents writer.new)) (string_bytes text)) }
+    ensures ok { IfOk result
+        (λ _. Replays (Appends (W.contents writer.old) (W.contents writer.new)) (string_bytes text)) }
     ensures why { IfErr result (λ f. Blames Command.Replay f (string_bytes text)) }
     ensures silent { IfErr result (λ f. f ≢ Fault.Output → writer.new ≡ writer.old) }
-    ensures part { IsErrOf result Fault.Output → AnswersInPart Command.Replay (W.contents writer.old) (W.contents writer.new) (string_bytes text) }
+    ensures part { IsErrOf result Fault.Output
+        → AnswersInPart Command.Replay (W.contents writer.old) (W.contents writer.new) (string_bytes text) }
     ensures kind { IfErr result (λ f. f ≢ Fault.Unread) }
 {
     let report = replayed(alloc, text)?;

@@ -42,7 +42,14 @@ fn report<A: Allocator + Copy>(
     requires names { history.shape.registers ≡ length names }
     requires order { IsSerial history.shape.registers history.entries order.items }
     requires points { PointsStand history.shape.registers history.entries (option_map (λ v. v.items) points) }
-    ensures { let parts : Contents = record { front = string_bytes title; shape = history.shape; names = names; entries = history.entries; order = order.items; points = option_map (λ v. v.items) points } in
+    ensures { let parts : Contents = record {
+      front = string_bytes title;
+      shape = history.shape;
+      names = names;
+      entries = history.entries;
+      order = order.items;
+      points = option_map (λ v. v.items) points;
+    } in
         result ≡ parts }
 {
     in_place(&history);

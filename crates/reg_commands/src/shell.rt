@@ -1,6 +1,7 @@
 //! What all commands share that answer the text on their input: it is read whole, answered on a writer, and the status
 //! tells whether that was done.
-ghost use Rattle.std.specs.Prelude.{◌≡◌, ◌≢◌, ◌≤◌, ℕ, Bool, List, Ok, ⊤, true, false, IfOk, IfErr, IfSome, IsErrOf, OnOk, length, string_bytes};
+ghost use Rattle.std.specs.Prelude.{◌≡◌, ◌≢◌, ◌≤◌, ℕ, Bool, List, Ok, ⊤, true, false, IfOk, IfErr, IfSome, IsErrOf};
+ghost use Rattle.std.specs.Prelude.{OnOk, length, string_bytes};
 ghost use Rattle.std.specs.Io.KnownBytes.{Appends};
 ghost use Rattle.reg_base.specs.declared.limits.TheConstants.{LONGEST_INPUT};
 ghost use Rattle.reg_text.specs.Writing.{AppendsPart};
@@ -46,15 +47,20 @@ pub trait TextCommand: Copy {
         writer: &mut W,
     ) -> Result<bool, Self::Fault>
         requires { IsReady self }
-        ensures ok { IfOk result (λ agrees. IsAnswer self agrees (Appends (W.contents writer.old) (W.contents writer.new)) (string_bytes text)) }
+        ensures ok { IfOk result
+            (λ agrees. IsAnswer self agrees (Appends (W.contents writer.old) (W.contents writer.new))
+            (string_bytes text)) }
         ensures no { result ≡ Ok false → MayDeny self }
         ensures why { IfErr result (λ f. IsBlamed self f (string_bytes text)) }
         ensures silent { IfErr result (λ f. f ≢ Self.Fault.of_fault Output → writer.new ≡ writer.old) }
-        ensures part { IsErrOf result (Self.Fault.of_fault Output) → IsEither (IsAnswer self) (AppendsPart (W.contents writer.old) (W.contents writer.new)) (string_bytes text) };
+        ensures part { IsErrOf result (Self.Fault.of_fault Output)
+            → IsEither (IsAnswer self) (AppendsPart (W.contents writer.old) (W.contents writer.new))
+            (string_bytes text) };
 
     /// What all commands tell of their input by a fault, this one tells too: that it can't be read, is too long or is
     /// no text, or that there is no memory.
-    ghost blames_input: { (it : Self) (fault : AnyFault) (text : List ℕ) → fault ≢ Output → ((command : AnyCommand) → Blames command fault text) → IsBlamed it (Self.Fault.of_fault fault) text };
+    ghost blames_input: { (it : Self) (fault : AnyFault) (text : List ℕ) → fault ≢ Output
+        → ((command : AnyCommand) → Blames command fault text) → IsBlamed it (Self.Fault.of_fault fault) text };
 }
 
 /// Reads the whole input, and answers it.
@@ -65,13 +71,17 @@ fn obey<C: TextCommand, A: Allocator + Copy, R: Read, W: Write>(
     writer: &mut W,
 ) -> Result<bool, C::Fault>
     requires { C.IsReady command }
-    ensures ok { IfOk result (λ agrees. IfSome (R.remaining reader.old) (C.IsAnswer command agrees (Appends (W.contents writer.old) (W.contents writer.new)))) }
+    ensures ok { IfOk result
+        (λ agrees. IfSome (R.remaining reader.old)
+        (C.IsAnswer command agrees (Appends (W.contents writer.old) (W.contents writer.new)))) }
     ensures no { result ≡ Ok false → C.MayDeny command }
     ensures within { OnOk result (IfSome (R.remaining reader.old) (λ xs. length xs ≤ LONGEST_INPUT)) }
     ensures kind { IfErr result (CanTell C.Fault.of_fault (C.IsBlamed command)) }
     ensures why { IfErr result (λ f. IfSome (R.remaining reader.old) (C.IsBlamed command f)) }
     ensures silent { IfErr result (λ f. f ≢ C.Fault.of_fault Output → writer.new ≡ writer.old) }
-    ensures part { IsErrOf result (C.Fault.of_fault Output) → IfSome (R.remaining reader.old) (IsEither (C.IsAnswer command) (AppendsPart (W.contents writer.old) (W.contents writer.new))) }
+    ensures part { IsErrOf result (C.Fault.of_fault Output)
+        → IfSome (R.remaining reader.old)
+        (IsEither (C.IsAnswer command) (AppendsPart (W.contents writer.old) (W.contents writer.new))) }
 {
     let text = read_input(alloc, reader)?;
     command.answer(alloc, text, writer)
@@ -90,8 +100,13 @@ pub fn run_command<C: TextCommand, A: Allocator + Copy, R: Read, W: Write, E: Wr
     requires { C.IsReady command }
     ensures range { result ≤ 1 }
     ensures within { result ≡ 0 → IfSome (R.remaining reader.old) (λ xs. length xs ≤ LONGEST_INPUT) }
-    ensures answered { result ≡ 0 → IfSome (R.remaining reader.old) (C.IsAnswer command true (Appends (W.contents writer.old) (W.contents writer.new))) }
-    ensures stopped { result ≡ 1 → Stops (C.MayDeny command) C.Fault.of_fault C.Fault.line (C.IsBlamed command) (C.IsAnswer command) (R.remaining reader.old) (writer.new ≡ writer.old) (W.contents writer.old) (W.contents writer.new) (errors.new ≡ errors.old) (E.contents errors.old) (E.contents errors.new) }
+    ensures answered { result ≡ 0
+        → IfSome (R.remaining reader.old)
+        (C.IsAnswer command true (Appends (W.contents writer.old) (W.contents writer.new))) }
+    ensures stopped { result ≡ 1
+        → Stops (C.MayDeny command) C.Fault.of_fault C.Fault.line (C.IsBlamed command) (C.IsAnswer command)
+        (R.remaining reader.old) (writer.new ≡ writer.old) (W.contents writer.old) (W.contents writer.new)
+        (errors.new ≡ errors.old) (E.contents errors.old) (E.contents errors.new) }
     ensures quiet { result ≡ 0 → errors.new ≡ errors.old }
 {
     match obey(command, alloc, reader, writer) {

@@ -2,7 +2,9 @@
 ghost use Rattle.std.specs.Prelude.{◌≡◌, ◌++◌, ◌∷◌, [], Err, IfOk, IfErr, MatchOption, codes};
 ghost use Rattle.std.specs.Fmt.{decimal};
 ghost use Rattle.reg_text.specs.Writing.{Puts, IsWritten, IsWrittenOr};
-ghost use Rattle.reg_commands.specs.Verdicts.{SerialSays, PointsSay, AllPointsSay, Judges, fault_of, is_yes as is_yes_of, all_yes as all_yes_of, verdict_line, points_line, verdicts_text};
+ghost use Rattle.reg_commands.specs.Verdicts.{SerialSays, PointsSay, AllPointsSay, Judges, fault_of};
+ghost use Rattle.reg_commands.specs.Verdicts.{is_yes as is_yes_of, all_yes as all_yes_of, verdict_line, points_line};
+ghost use Rattle.reg_commands.specs.Verdicts.{verdicts_text};
 ghost use Rattle.reg_commands.specs.CheckerAnswers.{Tells};
 
 use crate::faults::Fault;

@@ -43,7 +43,8 @@ pub trait WorkCommand: Copy {
         ensures ok { IfOk result (λ _. IsShown self (Appends (W.contents writer.old) (W.contents writer.new)) work) }
         ensures why { IfErr result (λ f. IsStopped self f work) }
         ensures silent { IfErr result (λ f. f ≢ Self.Fault.of_fault Output → writer.new ≡ writer.old) }
-        ensures part { IsErrOf result (Self.Fault.of_fault Output) → IsShown self (AppendsPart (W.contents writer.old) (W.contents writer.new)) work };
+        ensures part { IsErrOf result (Self.Fault.of_fault Output)
+            → IsShown self (AppendsPart (W.contents writer.old) (W.contents writer.new)) work };
 }
 
 /// A command over the workload that a document says. The table of the document is kept in the global heap, where `toml`

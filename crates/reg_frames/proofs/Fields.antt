@@ -1,5 +1,7 @@
 -- A field that is read is the field that was written.
-use Rattle.std.proofs.Common.{◌≡◌, ℕ, suc, ◌+◌, ◌^◌, ◌<◌, ◌≤◌, Bool, true, false, cond, ◌⊎◌, inl, inr, List, [], ◌∷◌, ◌++◌, length, get_or, take, drop, refl, sym, ap, ◌∙◌, arith, drop-drop, drop-cons, take-append-drop, length-take, length-drop}
+use Rattle.std.proofs.Common.{◌≡◌, ℕ, suc, ◌+◌, ◌^◌, ◌<◌, ◌≤◌, Bool, true, false, cond, ◌⊎◌, inl, inr, List, [], ◌∷◌}
+use Rattle.std.proofs.Common.{◌++◌, length, get_or, take, drop, refl, sym, ap, ◌∙◌, arith, drop-drop, drop-cons}
+use Rattle.std.proofs.Common.{take-append-drop, length-take, length-drop}
 use Rattle.std.specs.Int.{Width, w16, w64, byte_len, from_be_bytes, to_be_bytes}
 use Rattle.std.proofs.lemmas.Bool.{cases_lt}
 use Rattle.std.proofs.lemmas.List.{get_or-drop, get_or-take, get_or_past, nil_from_length}
@@ -25,7 +27,8 @@ chosen true x y z e = inl (refl, e)
 chosen false x y z e = inr (refl, e)
 
 pub record IsWide (w : Width) (limit : ℕ) : Type 0 where
-  pub back : (bytes : List ℕ) → length bytes ≡ byte_len w → IsBytes bytes → to_be_bytes w (from_be_bytes w bytes) ≡ bytes
+  pub back : (bytes : List ℕ) → length bytes ≡ byte_len w → IsBytes bytes
+      → to_be_bytes w (from_be_bytes w bytes) ≡ bytes
   pub again : (n : ℕ) → n < limit → from_be_bytes w (to_be_bytes w n) ≡ n
   pub below : (bytes : List ℕ) → IsBytes bytes → from_be_bytes w bytes < limit
 
@@ -45,7 +48,8 @@ wide64 = record {
 
 module _ (bytes : List ℕ) (fits : IsBytes bytes) where
   -- a number, and what stands after it
-  pub number_there : (w : Width) (limit : ℕ) → IsWide w limit → (at next : ℕ) → at + byte_len w ≡ next → next ≤ length bytes → drop at bytes ≡ to_be_bytes w (number_at w at bytes) ++ drop next bytes
+  pub number_there : (w : Width) (limit : ℕ) → IsWide w limit → (at next : ℕ) → at + byte_len w ≡ next
+      → next ≤ length bytes → drop at bytes ≡ to_be_bytes w (number_at w at bytes) ++ drop next bytes
   number_there w limit wide at next e le =
       let len : length (take (byte_len w) (drop at bytes)) ≡ byte_len w = omega (arith, length-take (byte_len w) (drop at bytes), length-drop at bytes) in
       let front = wide.back (take (byte_len w) (drop at bytes)) len (IsBytes-take (byte_len w) (drop at bytes) (IsBytes-drop at bytes fits)) in

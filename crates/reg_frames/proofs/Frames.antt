@@ -1,5 +1,7 @@
 -- What is read is spelled so, and what is spelled so is read.
-use Rattle.std.proofs.Common.{◌≡◌, ℕ, ◌+◌, ◌-◌, ◌^◌, ◌<◌, ◌≤◌, Bool, true, false, cond, ◌⊎◌, inl, inr, ◌&&◌, ◌==◌, nat_lt, nat_le, List, [], ◌∷◌, ◌++◌, length, get_or, drop, Result, Ok, Err, refl, sym, ap, ap₂, ◌∙◌, subst, arith, length-drop, append-nil}
+use Rattle.std.proofs.Common.{◌≡◌, ℕ, ◌+◌, ◌-◌, ◌^◌, ◌<◌, ◌≤◌, Bool, true, false, cond, ◌⊎◌, inl, inr, ◌&&◌, ◌==◌}
+use Rattle.std.proofs.Common.{nat_lt, nat_le, List, [], ◌∷◌, ◌++◌, length, get_or, drop, Result, Ok, Err, refl, sym, ap}
+use Rattle.std.proofs.Common.{ap₂, ◌∙◌, subst, arith, length-drop, append-nil}
 use Rattle.std.specs.Prelude.{IfOk}
 use Rattle.std.specs.Int.{w16, w64, to_be_bytes}
 use Rattle.std.proofs.lemmas.Bool.{ltb-false, eqb-true}
@@ -13,8 +15,11 @@ use Rattle.reg_frames.specs.declared.bodies.Frame.{Frame}
 use Rattle.reg_frames.specs.declared.bodies.Frame.TheVariants.{Numbered, Got}
 use Rattle.reg_frames.specs.declared.faults.FrameFault.{FrameFault}
 use Rattle.reg_frames.specs.declared.faults.FrameFault.TheVariants as faults
-use Rattle.reg_frames.specs.Spelling.{op_bytes, body_bytes, payload, version_of, spelling, OpFits, TimeFits, Fits, Spells}
-use Rattle.reg_frames.specs.Reading.{number_at, is_time, body_fits, frame_fits, in_range, sized, cast_at, cast_of, data_of, plain_of, swap_at, compare_and_swap_at, lone_cast_of, lone_data_of, lone_of, frame_of}
+use Rattle.reg_frames.specs.Spelling.{op_bytes, body_bytes, payload, version_of, spelling, OpFits, TimeFits, Fits}
+use Rattle.reg_frames.specs.Spelling.{Spells}
+use Rattle.reg_frames.specs.Reading.{number_at, is_time, body_fits, frame_fits, in_range, sized, cast_at, cast_of}
+use Rattle.reg_frames.specs.Reading.{data_of, plain_of, swap_at, compare_and_swap_at, lone_cast_of, lone_data_of}
+use Rattle.reg_frames.specs.Reading.{lone_of, frame_of}
 use Rattle.reg_frames.specs.Narrow.{OpIsNarrow, IsNarrow}
 use Rattle.reg_frames.proofs.Fields.{IsBytes, chosen, wide16, wide64, number_there, number_below, byte_there, none_left}
 
@@ -74,11 +79,13 @@ none_failed : (fault : FrameFault) (f : Frame) → failed fault ≡ done f → �
 none_failed fault f e = let bad : ⊥ = cc in bad
 
 -- a test that has to fail, and one that has to hold
-guard : (b : Bool) (fault : FrameFault) (rest : Result Frame FrameFault) (f : Frame) → cond b (failed fault) rest ≡ done f → (b ≡ false) × (rest ≡ done f)
+guard : (b : Bool) (fault : FrameFault) (rest : Result Frame FrameFault) (f : Frame)
+    → cond b (failed fault) rest ≡ done f → (b ≡ false) × (rest ≡ done f)
 guard true fault rest f e = absurd (none_failed fault f e)
 guard false fault rest f e = (refl, e)
 
-wanted : (b : Bool) (fault : FrameFault) (rest : Result Frame FrameFault) (f : Frame) → cond b rest (failed fault) ≡ done f → (b ≡ true) × (rest ≡ done f)
+wanted : (b : Bool) (fault : FrameFault) (rest : Result Frame FrameFault) (f : Frame)
+    → cond b rest (failed fault) ≡ done f → (b ≡ true) × (rest ≡ done f)
 wanted true fault rest f e = (refl, e)
 wanted false fault rest f e = absurd (none_failed fault f e)
 
@@ -90,7 +97,8 @@ ranged frame f e = go (chosen (frame_fits frame) (done frame) (failed faults.Ran
     go (inl (h, e)) = (h, same_frame frame f e)
     go (inr (h, e)) = absurd (none_failed faults.Range f e)
 
-pub sized_is : (size : ℕ) (bytes : List ℕ) (frame f : Frame) → sized size bytes frame ≡ Ok f → (length bytes ≡ size) × (frame_fits frame ≡ true) × (frame ≡ f)
+pub sized_is : (size : ℕ) (bytes : List ℕ) (frame f : Frame) → sized size bytes frame ≡ Ok f
+    → (length bytes ≡ size) × (frame_fits frame ≡ true) × (frame ≡ f)
 sized_is size bytes frame f e = go (chosen (length bytes == size) (in_range frame) (failed faults.Size) (done f) e)
   where
     go : (((length bytes == size) ≡ true) × (in_range frame ≡ done f)) ⊎ (((length bytes == size) ≡ false) × (failed faults.Size ≡ done f)) → (length bytes ≡ size) × (frame_fits frame ≡ true) × (frame ≡ f)
@@ -241,7 +249,8 @@ module _ (bytes : List ℕ) (fits : IsBytes bytes) where
 abbrev later : List ℕ → Result Frame FrameFault
 later bytes = cond (get_or bytes 2 0 == 2) (lone_of 3 bytes) (cond (get_or bytes 2 0 == 4) (lone_of 4 bytes) (failed faults.Version))
 
-later_takes : (bytes : List ℕ) (fits : IsBytes bytes) (f : Frame) → 12 ≤ length bytes → number_at w16 0 bytes ≡ length bytes - 2 → later bytes ≡ done f → Spells f bytes
+later_takes : (bytes : List ℕ) (fits : IsBytes bytes) (f : Frame) → 12 ≤ length bytes
+    → number_at w16 0 bytes ≡ length bytes - 2 → later bytes ≡ done f → Spells f bytes
 later_takes bytes fits f long len e = go (chosen (get_or bytes 2 0 == 2) (lone_of 3 bytes) (cond (get_or bytes 2 0 == 4) (lone_of 4 bytes) (failed faults.Version)) (done f) e)
   where
     go : (((get_or bytes 2 0 == 2) ≡ true) × (lone_of 3 bytes ≡ done f)) ⊎ (((get_or bytes 2 0 == 2) ≡ false) × (cond (get_or bytes 2 0 == 4) (lone_of 4 bytes) (failed faults.Version) ≡ done f)) → Spells f bytes
@@ -302,9 +311,11 @@ again (Numbered number (Cast time (CompareAndSwap register expected value))) fit
     ∙ (ap₂ (λ (k x : ℕ). in_range (Numbered number (Cast time (op k x (number_at w64 0 (to_be_bytes w64 value)))))) (wide16.again register r) (wide64.again expected fits.1.1.1)
     ∙ (ap (λ (v : ℕ). in_range (Numbered number (Cast time (op register expected v)))) (wide64.again value fits.1.1.2) ∙ in_range_is (Numbered number (Cast time (op register expected value))) fits))
 
-pub spelt_by : (frame : Frame) (bytes : List ℕ) → IsNarrow frame → frame_fits frame ≡ true → bytes ≡ spelling frame → Spells frame bytes
+pub spelt_by : (frame : Frame) (bytes : List ℕ) → IsNarrow frame → frame_fits frame ≡ true → bytes ≡ spelling frame
+    → Spells frame bytes
 spelt_by frame bytes narrow fits is = (fits_from frame narrow fits, is)
 
-pub is_found : (bytes : List ℕ) (r : Result Frame FrameFault) → IsBytes bytes → r ≡ frame_of bytes → IfOk r (λ f. Spells f bytes)
+pub is_found : (bytes : List ℕ) (r : Result Frame FrameFault) → IsBytes bytes → r ≡ frame_of bytes
+    → IfOk r (λ f. Spells f bytes)
 is_found bytes (Ok f) fits e = takes bytes f fits (sym e)
 is_found bytes (Err fault) fits e = tt

@@ -1,5 +1,6 @@
 -- Which fault the bytes have: the first of a fixed row of tests.
-use Rattle.std.specs.Prelude.{ℕ, ◌-◌, ◌==◌, ◌&&◌, nat_lt, nat_le, Bool, List, length, take, drop, slice_index, Result, Ok, Err, if◌then◌else◌}
+use Rattle.std.specs.Prelude.{ℕ, ◌-◌, ◌==◌, ◌&&◌, nat_lt, nat_le, Bool, List, length, take, drop, slice_index, Result}
+use Rattle.std.specs.Prelude.{Ok, Err, if◌then◌else◌}
 use Rattle.std.specs.Int.{Width, w16, w64, byte_len, from_be_bytes}
 use Rattle.reg_base.specs.declared.limits.TheConstants.{MOST_REGISTERS, LAST_TIME, FRAME_NUMBERS}
 use Rattle.reg_base.specs.declared.memory.Op.{Op}
@@ -11,7 +12,11 @@ use Rattle.reg_frames.specs.declared.bodies.Frame.{Frame}
 use Rattle.reg_frames.specs.declared.bodies.Frame.TheVariants.{Numbered, Got}
 use Rattle.reg_frames.specs.declared.faults.FrameFault.{FrameFault}
 use Rattle.reg_frames.specs.declared.faults.FrameFault.TheVariants as faults
-use Rattle.reg_frames.specs.declared.layout.TheConstants.{LENGTH_AT, VERSION_AT, KIND_AT, NUMBER_AT, BODY_AT, TIME_AT, OP_AT, REGISTER_AT, VALUE_AT, NEW_VALUE_AT, GOT_SIZE, ACK_SIZE, READ_SIZE, VALUED_SIZE, COMPARED_SIZE, PLAIN, SWAPPING, COMPARING, DATA, GOT, CAST, ACK, READ, WRITE, SWAP, COMPARE_AND_SWAP}
+use Rattle.reg_frames.specs.declared.layout.TheConstants.{LENGTH_AT, VERSION_AT, KIND_AT, NUMBER_AT, BODY_AT, TIME_AT}
+use Rattle.reg_frames.specs.declared.layout.TheConstants.{OP_AT, REGISTER_AT, VALUE_AT, NEW_VALUE_AT, GOT_SIZE}
+use Rattle.reg_frames.specs.declared.layout.TheConstants.{ACK_SIZE, READ_SIZE, VALUED_SIZE, COMPARED_SIZE, PLAIN}
+use Rattle.reg_frames.specs.declared.layout.TheConstants.{SWAPPING, COMPARING, DATA, GOT, CAST, ACK, READ, WRITE, SWAP}
+use Rattle.reg_frames.specs.declared.layout.TheConstants.{COMPARE_AND_SWAP}
 
 -- the number that stands at this offset
 abbrev pub number_at : Width → ℕ → List ℕ → ℕ
@@ -43,8 +48,10 @@ cast_at bytes op = Numbered (number_at w64 NUMBER_AT bytes) (Cast (number_at w64
 abbrev pub cast_of : List ℕ → Result Frame FrameFault
 cast_of bytes =
     if nat_lt (length bytes) REGISTER_AT then Err faults.Size else
-    if slice_index bytes OP_AT == READ then sized READ_SIZE bytes (cast_at bytes (Read (number_at w16 REGISTER_AT bytes))) else
-    if slice_index bytes OP_AT == WRITE then sized VALUED_SIZE bytes (cast_at bytes (Write (number_at w16 REGISTER_AT bytes) (number_at w64 VALUE_AT bytes))) else
+    if slice_index bytes OP_AT == READ then sized READ_SIZE bytes
+    (cast_at bytes (Read (number_at w16 REGISTER_AT bytes))) else
+    if slice_index bytes OP_AT == WRITE then sized VALUED_SIZE bytes
+    (cast_at bytes (Write (number_at w16 REGISTER_AT bytes) (number_at w64 VALUE_AT bytes))) else
     Err faults.Op
 
 -- a data frame by its body's byte
@@ -52,7 +59,8 @@ abbrev pub data_of : List ℕ → Result Frame FrameFault
 data_of bytes =
     if nat_lt (length bytes) TIME_AT then Err faults.Size else
     if slice_index bytes BODY_AT == CAST then cast_of bytes else
-    if slice_index bytes BODY_AT == ACK then sized ACK_SIZE bytes (Numbered (number_at w64 NUMBER_AT bytes) (Ack (number_at w64 TIME_AT bytes))) else
+    if slice_index bytes BODY_AT == ACK then sized ACK_SIZE bytes
+    (Numbered (number_at w64 NUMBER_AT bytes) (Ack (number_at w64 TIME_AT bytes))) else
     Err faults.Body
 
 -- a frame of version 1 by its kind
@@ -64,10 +72,15 @@ plain_of bytes =
 
 -- the cast of a swap, and that of a compare-and-swap
 abbrev pub swap_at : List ℕ → Result Frame FrameFault
-swap_at bytes = sized VALUED_SIZE bytes (cast_at bytes (Swap (number_at w16 REGISTER_AT bytes) (number_at w64 VALUE_AT bytes)))
+swap_at bytes =
+    sized VALUED_SIZE bytes (cast_at bytes (Swap (number_at w16 REGISTER_AT bytes) (number_at w64 VALUE_AT bytes)))
 
 abbrev pub compare_and_swap_at : List ℕ → Result Frame FrameFault
-compare_and_swap_at bytes = sized COMPARED_SIZE bytes (cast_at bytes (CompareAndSwap (number_at w16 REGISTER_AT bytes) (number_at w64 VALUE_AT bytes) (number_at w64 NEW_VALUE_AT bytes)))
+compare_and_swap_at bytes =
+    sized COMPARED_SIZE bytes
+    (cast_at bytes
+    (CompareAndSwap (number_at w16 REGISTER_AT bytes) (number_at w64 VALUE_AT bytes)
+    (number_at w64 NEW_VALUE_AT bytes)))
 
 -- the cast of the one operation of a version: a swap, or a compare-and-swap
 abbrev pub lone_cast_of : ℕ → List ℕ → Result Frame FrameFault

@@ -10,7 +10,8 @@ use Rattle.reg_frames.specs.declared.bodies.Frame.{Frame}
 use Rattle.reg_frames.specs.declared.bodies.Frame.TheVariants.{Numbered, Got}
 use Rattle.reg_frames.specs.declared.faults.FrameFault.{FrameFault}
 use Rattle.reg_frames.specs.declared.faults.FrameFault.TheVariants as faults
-use Rattle.reg_frames.specs.declared.layout.TheConstants.{PLAIN, SWAPPING, COMPARING, DATA, GOT, CAST, ACK, READ, WRITE, SWAP, COMPARE_AND_SWAP}
+use Rattle.reg_frames.specs.declared.layout.TheConstants.{PLAIN, SWAPPING, COMPARING, DATA, GOT, CAST, ACK, READ, WRITE}
+use Rattle.reg_frames.specs.declared.layout.TheConstants.{SWAP, COMPARE_AND_SWAP}
 
 -- the operation's byte, its register in two bytes, and the value of a write or a swap in eight; of a compare-and-swap
 -- the value that it expects and then the one that it writes
@@ -18,7 +19,8 @@ abbrev pub op_bytes : Op → List ℕ
 op_bytes (Read register) = READ ∷ to_be_bytes w16 register
 op_bytes (Write register value) = WRITE ∷ (to_be_bytes w16 register ++ to_be_bytes w64 value)
 op_bytes (Swap register value) = SWAP ∷ (to_be_bytes w16 register ++ to_be_bytes w64 value)
-op_bytes (CompareAndSwap register expected value) = COMPARE_AND_SWAP ∷ (to_be_bytes w16 register ++ (to_be_bytes w64 expected ++ to_be_bytes w64 value))
+op_bytes (CompareAndSwap register expected value) =
+    COMPARE_AND_SWAP ∷ (to_be_bytes w16 register ++ (to_be_bytes w64 expected ++ to_be_bytes w64 value))
 
 -- the body's byte, its time in eight bytes, and the operation of a cast
 abbrev pub body_bytes : Body → List ℕ

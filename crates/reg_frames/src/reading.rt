@@ -7,8 +7,12 @@ ghost use Rattle.reg_frames.specs.declared.bodies.Body.TheVariants.{Ack};
 ghost use Rattle.reg_frames.specs.declared.bodies.Frame.{Frame};
 ghost use Rattle.reg_frames.specs.declared.bodies.Frame.TheVariants.{Numbered, Got};
 ghost use Rattle.reg_frames.specs.Spelling.{Spells};
-ghost use Rattle.reg_frames.specs.Reading.{number_at, cast_at, is_time, body_fits as is_body, frame_fits, in_range as in_range_of, sized as sized_of, cast_of, data_of, plain_of, swap_at, compare_and_swap_at, lone_cast_of, lone_data_of, lone_of, frame_of};
-ghost use Rattle.reg_frames.specs.declared.layout.TheConstants.{NUMBER_AT, TIME_AT, REGISTER_AT, VALUE_AT, NEW_VALUE_AT, GOT_SIZE, ACK_SIZE, READ_SIZE, VALUED_SIZE, COMPARED_SIZE};
+ghost use Rattle.reg_frames.specs.Reading.{number_at, cast_at, is_time, body_fits as is_body, frame_fits};
+ghost use Rattle.reg_frames.specs.Reading.{in_range as in_range_of, sized as sized_of, cast_of, data_of, plain_of};
+ghost use Rattle.reg_frames.specs.Reading.{swap_at, compare_and_swap_at, lone_cast_of, lone_data_of, lone_of, frame_of};
+ghost use Rattle.reg_frames.specs.declared.layout.TheConstants.{NUMBER_AT, TIME_AT, REGISTER_AT, VALUE_AT};
+ghost use Rattle.reg_frames.specs.declared.layout.TheConstants.{NEW_VALUE_AT, GOT_SIZE, ACK_SIZE, READ_SIZE};
+ghost use Rattle.reg_frames.specs.declared.layout.TheConstants.{VALUED_SIZE, COMPARED_SIZE};
 ghost use Rattle.reg_frames.specs.Narrow.{OpIsNarrow, BodyIsNarrow, IsNarrow};
 
 use crate::bodies::{Body, Frame};
@@ -125,7 +129,9 @@ fn read_cast(bytes: &[u8]) -> Result<Frame, FrameFault>
 
 fn write_cast(bytes: &[u8]) -> Result<Frame, FrameFault>
     requires { REGISTER_AT ≤ length bytes.now }
-    ensures { result ≡ sized_of VALUED_SIZE bytes.now (cast_at bytes.now (Write (number_at w16 REGISTER_AT bytes.now) (number_at w64 VALUE_AT bytes.now))) }
+    ensures { result
+        ≡ sized_of VALUED_SIZE bytes.now
+        (cast_at bytes.now (Write (number_at w16 REGISTER_AT bytes.now) (number_at w64 VALUE_AT bytes.now))) }
 {
     if bytes.len() != VALUED_SIZE {
         return Err(FrameFault::Size);
@@ -152,7 +158,9 @@ fn cast(bytes: &[u8]) -> Result<Frame, FrameFault>
 
 fn acknowledgement(bytes: &[u8]) -> Result<Frame, FrameFault>
     requires { TIME_AT ≤ length bytes.now }
-    ensures { result ≡ sized_of ACK_SIZE bytes.now (Numbered (number_at w64 NUMBER_AT bytes.now) (Ack (number_at w64 TIME_AT bytes.now))) }
+    ensures { result
+        ≡ sized_of ACK_SIZE bytes.now
+        (Numbered (number_at w64 NUMBER_AT bytes.now) (Ack (number_at w64 TIME_AT bytes.now))) }
 {
     if bytes.len() != ACK_SIZE {
         return Err(FrameFault::Size);

@@ -1,7 +1,8 @@
 //! The bytes of a frame.
 ghost use Rattle.std.specs.Prelude.{◌≡◌, ◌+◌, ◌∷◌, ◌++◌, length, OnOk, IfOk, MatchResult};
 ghost use Rattle.std.specs.Int.{w16, w64, to_be_bytes};
-ghost use Rattle.reg_frames.specs.Spelling.{op_bytes, body_bytes, payload, version_of as version_of_frame, spelling, Spells, Refuses};
+ghost use Rattle.reg_frames.specs.Spelling.{op_bytes, body_bytes, payload, version_of as version_of_frame, spelling};
+ghost use Rattle.reg_frames.specs.Spelling.{Spells, Refuses};
 
 use crate::bodies::{Body, Frame};
 use crate::faults::FrameFault;
@@ -68,7 +69,8 @@ fn put_valued<A: Allocator + Copy>(
     register: u16,
     value: u64,
 ) -> Result<(), AllocError>
-    ensures { OnOk result (bytes.new.items ≡ bytes.old.items ++ kind ∷ (to_be_bytes w16 register ++ to_be_bytes w64 value)) }
+    ensures { OnOk result
+        (bytes.new.items ≡ bytes.old.items ++ kind ∷ (to_be_bytes w16 register ++ to_be_bytes w64 value)) }
 {
     bytes.push(kind)?;
     bytes.extend_from_slice(&register.to_be_bytes())?;

@@ -10,6 +10,8 @@ ghost use Rattle.reg_front.specs.Fronts.{KeepsLaws, CastsWhatTells};
 /// its delivery. A swap is such an operation, and so is a compare-and-swap.
 pub fn what_tells_is_cast()
     ensures all { (start : Op → ℕ → Start) → KeepsLaws start → CastsWhatTells start }
-    ensures swap { (start : Op → ℕ → Start) → KeepsLaws start → (register value unsettled : ℕ) → start (Swap register value) unsettled ≡ Cast }
-    ensures compare_and_swap { (start : Op → ℕ → Start) → KeepsLaws start → (register expected value unsettled : ℕ) → start (CompareAndSwap register expected value) unsettled ≡ Cast }
+    ensures swap { (start : Op → ℕ → Start) → KeepsLaws start → (register value unsettled : ℕ)
+        → start (Swap register value) unsettled ≡ Cast }
+    ensures compare_and_swap { (start : Op → ℕ → Start) → KeepsLaws start → (register expected value unsettled : ℕ)
+        → start (CompareAndSwap register expected value) unsettled ≡ Cast }
 {}

@@ -1,5 +1,6 @@
 -- The two cases of what `take` gave, and a piece as room for a type. Assumes `Logic`.
-use Rattle.std.proofs.Common.{◌≡◌, ℕ, ◌^◌, ◌<◌, ◌≤◌, List, [], ◌∷◌, ◌++◌, IfSome, None, Some, sym, ap, subst, ◌∙◌, arith}
+use Rattle.std.proofs.Common.{◌≡◌, ℕ, ◌^◌, ◌<◌, ◌≤◌, List, [], ◌∷◌, ◌++◌, IfSome, None, Some, sym, ap, subst, ◌∙◌}
+use Rattle.std.proofs.Common.{arith}
 use seplogic.Ra.Ura.{Ura}
 use mir.Syntax.{Ty, Width, w8, w16, w32, w64, w128}
 use mir.Val.{Val, vcons, vnil, of_list, bytes}
@@ -9,7 +10,8 @@ use prog.Memory.{size, align, capped}
 use prog.Align.{Dv, align_w, align-bytes}
 use prog.Capped.{capped_is, capped_small}
 use types.Logic.{Logic, sem}
-use types.Kit.{Item, Goal, Seq, ‵, ◌⊛◌, ◌$◌, ◌∵◌, !, qed, move, drop, use1, split, frame, fsplit, fpick, fpack, feq_l, done}
+use types.Kit.{Item, Goal, Seq, ‵, ◌⊛◌, ◌$◌, ◌∵◌, !, qed, move, drop, use1, split, frame, fsplit, fpick, fpack, feq_l}
+use types.Kit.{done}
 use types.Match.{live}
 use denote.RattleType.{RattleType}
 use denote.RawPtr.{Ptr, block_ptr, in_a_block}
@@ -37,7 +39,8 @@ divides_16 w32 = tt
 divides_16 w64 = tt
 divides_16 w128 = tt
 
-pub hands_out : {M : Type 1} {𝓤 : Ura M} (𝓛 : Logic 𝓤) (τ : Ty) (b o n a m : ℕ) → capped (size τ) ≡ n → capped (align τ) ≡ a → IsBlockSize n m → a ≤ 16
+pub hands_out : {M : Type 1} {𝓤 : Ura M} (𝓛 : Logic 𝓤) (τ : Ty) (b o n a m : ℕ) → capped (size τ) ≡ n
+    → capped (align τ) ≡ a → IsBlockSize n m → a ≤ 16
     → ent 𝓤 (sem 𝓛 (bytes_at (block_ptr b o) m)) (sep 𝓤 (𝓛.H.room τ b o) (sem 𝓛 (block_token τ (block_ptr b o))))
 hands_out {𝓤 = 𝓤} 𝓛 τ b o n a m sized aligned is slim =
     let p : Ptr = block_ptr b o in

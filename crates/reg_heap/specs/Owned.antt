@@ -12,7 +12,11 @@ use Rattle.reg_heap.specs.Blocks.{IsBlockSize}
 abbrev pub pile : ℕ → ℕ → Ptr → Fml
 pile n zero p = ftrue
 pile n (suc count) null_ptr = ffalse
-pile n (suc count) (block_ptr b o) = fex Ptr (λ next. fsep (fsep (fat full_share ty_ptr b o (ptr_val next)) (fwand (froom ty_ptr b o) (bytes_at (block_ptr b o) n))) (pile n count next))
+pile n (suc count) (block_ptr b o) =
+    fex Ptr
+    (λ next. fsep
+    (fsep (fat full_share ty_ptr b o (ptr_val next)) (fwand (froom ty_ptr b o) (bytes_at (block_ptr b o) n)))
+    (pile n count next))
 
 -- the right to give the block for a τ at p back to its heap
 abbrev pub block_token : Ty → Ptr → Fml

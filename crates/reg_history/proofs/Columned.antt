@@ -1,5 +1,6 @@
 -- A number in front of a mark, with the spaces that fill its column.
-use Rattle.std.proofs.Common.{ℕ, zero, suc, ◌≡◌, ◌+◌, ◌-◌, ◌≤◌, List, ◌∷◌, ◌++◌, codes, length, take, drop, min, replicate, refl, sym, ap, ◌∙◌, append_assoc, arith}
+use Rattle.std.proofs.Common.{ℕ, zero, suc, ◌≡◌, ◌+◌, ◌-◌, ◌≤◌, List, ◌∷◌, ◌++◌, codes, length, take, drop, min}
+use Rattle.std.proofs.Common.{replicate, refl, sym, ap, ◌∙◌, append_assoc, arith}
 use Rattle.reg_text.specs.Columns.{to_right, to_left}
 use Rattle.std.proofs.lemmas.List.{take-append-drop, length-append, length-replicate, length-drop, take_all}
 use Rattle.std.proofs.Math.Seq.{take-append_seam, drop-append-add}
@@ -17,12 +18,14 @@ take_spaces (suc k) m rest =
     ap (λ j. take (suc k) (replicate j 32 ++ rest)) e ∙ ap (λ l. 32 ∷ l) (take_spaces k m rest)
 
 -- less of them
-pub fewer_spaces : (places k : ℕ) (marked : List ℕ) → marked ≡ replicate places 32 ++ drop places marked → k ≤ places → drop k marked ≡ replicate (places - k) 32 ++ drop places marked
+pub fewer_spaces : (places k : ℕ) (marked : List ℕ) → marked ≡ replicate places 32 ++ drop places marked → k ≤ places
+    → drop k marked ≡ replicate (places - k) 32 ++ drop places marked
 fewer_spaces places k marked e l =
     let split : places ≡ k + (places - k) = omega arith in
     ap (λ x. drop k x) (e ∙ ap (λ j. replicate j 32 ++ drop places marked) split) ∙ drop_spaces k (places - k) (drop places marked)
 
-pub left_built : (places : ℕ) (ds marked : List ℕ) → marked ≡ replicate places 32 ++ drop places marked → ds ++ drop (min (length ds) places) marked ≡ to_left places ds ++ drop places marked
+pub left_built : (places : ℕ) (ds marked : List ℕ) → marked ≡ replicate places 32 ++ drop places marked
+    → ds ++ drop (min (length ds) places) marked ≡ to_left places ds ++ drop places marked
 left_built places ds marked e =
     let k : ℕ = min (length ds) places in
     let room : k ≤ places = omega arith in
@@ -30,7 +33,9 @@ left_built places ds marked e =
     ap (λ l. ds ++ l) (fewer_spaces places k marked e room ∙ ap (λ j. replicate j 32 ++ drop places marked) left) ∙ sym (append_assoc ds (replicate (places - length ds) 32) (drop places marked))
 
 -- a number written over the last of the blanks that a line begins with
-right_written : (places start : ℕ) (ds rest old new : List ℕ) → old ≡ replicate places 32 ++ rest → start + length ds ≡ places → drop start new ≡ ds ++ drop places old → take start new ≡ take start old → new ≡ to_right places ds ++ rest
+right_written : (places start : ℕ) (ds rest old new : List ℕ) → old ≡ replicate places 32 ++ rest
+    → start + length ds ≡ places → drop start new ≡ ds ++ drop places old → take start new ≡ take start old
+    → new ≡ to_right places ds ++ rest
 right_written places start ds rest old new e count written before =
     let split : places ≡ start + length ds = omega (arith, count) in
     let whole : places ≡ places + 0 = omega arith in
@@ -41,7 +46,9 @@ right_written places start ds rest old new e count written before =
     ∙ sym (append_assoc (replicate (places - length ds) 32) ds rest)
 
 -- a number written over the first of the blanks behind a front
-left_written : (places : ℕ) (front ds rest old new : List ℕ) → old ≡ front ++ (replicate places 32 ++ rest) → length ds ≤ places → drop (length front) new ≡ ds ++ drop (length front + length ds) old → take (length front) new ≡ take (length front) old → new ≡ front ++ (to_left places ds ++ rest)
+left_written : (places : ℕ) (front ds rest old new : List ℕ) → old ≡ front ++ (replicate places 32 ++ rest)
+    → length ds ≤ places → drop (length front) new ≡ ds ++ drop (length front + length ds) old
+    → take (length front) new ≡ take (length front) old → new ≡ front ++ (to_left places ds ++ rest)
 left_written places front ds rest old new e room written before =
     let split : places ≡ length ds + (places - length ds) = omega (arith, room) in
     let blanks = replicate places 32 ++ rest in
@@ -50,7 +57,9 @@ left_written places front ds rest old new e room written before =
     ap (drop (length front + length ds)) e ∙ drop-append-add front blanks (length ds) ∙ ap (λ j. drop (length ds) (replicate j 32 ++ rest)) split ∙ drop_spaces (length ds) (places - length ds) rest in
     sym (take-append-drop (length front) new) ∙ ap (λ l. l ++ drop (length front) new) (before ∙ kept) ∙ ap (λ l. front ++ l) (written ∙ ap (λ l. ds ++ l) left ∙ sym (append_assoc ds (replicate (places - length ds) 32) rest))
 
-pub columns_joined : (a p n mark : List ℕ) → (a ++ codes "  p") ++ ((p ++ codes "  #") ++ (n ++ mark)) ≡ a ++ (codes "  p" ++ (p ++ (codes "  #" ++ (n ++ mark))))
+pub columns_joined : (a p n mark : List ℕ)
+    → (a ++ codes "  p") ++ ((p ++ codes "  #") ++ (n ++ mark))
+    ≡ a ++ (codes "  p" ++ (p ++ (codes "  #" ++ (n ++ mark))))
 columns_joined a p n mark =
     append_assoc a (codes "  p") ((p ++ codes "  #") ++ (n ++ mark)) ∙ ap (λ l. a ++ (codes "  p" ++ l)) (append_assoc p (codes "  #") (n ++ mark))
 
@@ -61,7 +70,9 @@ length_left : (places : ℕ) (ds : List ℕ) → length ds ≤ places → length
 length_left places ds room = length-append ds (replicate (places - length ds) 32) ∙ ap (λ n. length ds + n) (length-replicate {A = ℕ} (places - length ds) 32) ∙ omega (arith, room)
 
 -- the number behind the columns of the event and the process
-number_written : (a p n mark old new : List ℕ) → length a ≡ 8 → length p ≡ 3 → length n ≤ 6 → old ≡ (a ++ codes "  p") ++ (p ++ (codes "  #" ++ (replicate 6 32 ++ mark))) → drop 17 new ≡ n ++ drop (17 + length n) old → take 17 new ≡ take 17 old
+number_written : (a p n mark old new : List ℕ) → length a ≡ 8 → length p ≡ 3 → length n ≤ 6
+    → old ≡ (a ++ codes "  p") ++ (p ++ (codes "  #" ++ (replicate 6 32 ++ mark)))
+    → drop 17 new ≡ n ++ drop (17 + length n) old → take 17 new ≡ take 17 old
     → new ≡ a ++ (codes "  p" ++ (p ++ (codes "  #" ++ (to_left 6 n ++ mark))))
 number_written a p n mark old new eight three room e written before =
     let front = (a ++ codes "  p") ++ (p ++ codes "  #") in
@@ -72,14 +83,17 @@ number_written a p n mark old new eight three room e written before =
     ∙ append_assoc (a ++ codes "  p") (p ++ codes "  #") (to_left 6 n ++ mark) ∙ columns_joined a p (to_left 6 n) mark
 
 -- the process behind the column of the event
-process_written : (a p rest old new : List ℕ) → length a ≡ 8 → length p ≤ 3 → old ≡ a ++ (codes "  p" ++ (replicate 3 32 ++ rest)) → drop 11 new ≡ p ++ drop (11 + length p) old → take 11 new ≡ take 11 old → new ≡ (a ++ codes "  p") ++ (to_left 3 p ++ rest)
+process_written : (a p rest old new : List ℕ) → length a ≡ 8 → length p ≤ 3
+    → old ≡ a ++ (codes "  p" ++ (replicate 3 32 ++ rest)) → drop 11 new ≡ p ++ drop (11 + length p) old
+    → take 11 new ≡ take 11 old → new ≡ (a ++ codes "  p") ++ (to_left 3 p ++ rest)
 process_written a p rest old new eight room e written before =
     let front = a ++ codes "  p" in
     let behind : length front ≡ 11 = length-append a (codes "  p") ∙ omega (arith, eight) in
     left_written 3 front p rest old new (e ∙ sym (append_assoc a (codes "  p") (replicate 3 32 ++ rest))) room (rw behind written) (rw behind before)
 
 -- three numbers written over the blanks of their columns, one after another
-pub columns_written : (a p n old first second third : List ℕ) (start : ℕ) → old ≡ codes "          p     #      " ++ drop 23 old → length p ≤ 3 → length n ≤ 6
+pub columns_written : (a p n old first second third : List ℕ) (start : ℕ)
+    → old ≡ codes "          p     #      " ++ drop 23 old → length p ≤ 3 → length n ≤ 6
     → start + length a ≡ 8 → drop start first ≡ a ++ drop 8 old → take start first ≡ take start old
     → drop 11 second ≡ p ++ drop (11 + length p) first → take 11 second ≡ take 11 first
     → drop 17 third ≡ n ++ drop (17 + length n) second → take 17 third ≡ take 17 second
@@ -94,7 +108,9 @@ columns_written a p n old first second third start e narrow few count w1 b1 w2 b
     number_written (to_right 8 a) (to_left 3 p) n mark second third eight (length_left 3 p narrow) few two w3 b3
 
 -- a number of at most ten digits written over the last of ten blanks, of which those are left out that its column lacks
-pub event_built : (start : ℕ) (ds mark old new : List ℕ) → old ≡ replicate 10 32 ++ mark → start + length ds ≡ 10 → drop start new ≡ ds ++ drop 10 old → take start new ≡ take start old → drop (min start 2) new ≡ to_right 8 ds ++ mark
+pub event_built : (start : ℕ) (ds mark old new : List ℕ) → old ≡ replicate 10 32 ++ mark → start + length ds ≡ 10
+    → drop start new ≡ ds ++ drop 10 old → take start new ≡ take start old
+    → drop (min start 2) new ≡ to_right 8 ds ++ mark
 event_built start ds mark old new e count written before =
     let k : ℕ = min start 2 in
     let pad : 10 - length ds ≡ k + (8 - length ds) = omega (arith, count) in
@@ -102,9 +118,12 @@ event_built start ds mark old new e count written before =
     ∙ drop_spaces k (8 - length ds) (ds ++ mark) ∙ sym (append_assoc (replicate (8 - length ds) 32) ds mark)
 
 -- the end of a line, as a slice of it
-pub piece : (size start : ℕ) (bs new : List ℕ) → length new ≡ size → drop start new ≡ bs → take (size - start) (drop start new) ≡ bs
-piece size start bs new whole e = take_all (size - start) (drop start new) (omega (arith, whole, length-drop start new)) ∙ e
+pub piece : (size start : ℕ) (bs new : List ℕ) → length new ≡ size → drop start new ≡ bs
+    → take (size - start) (drop start new) ≡ bs
+piece size start bs new whole e =
+    take_all (size - start) (drop start new) (omega (arith, whole, length-drop start new)) ∙ e
 
 -- the mark of a line with blank columns, behind the blanks of the last
-pub mark_of : (line : List ℕ) → line ≡ codes "          p     #      " ++ drop 23 line → length line ≡ 33 → drop 6 (take (33 - 17) (drop 17 line)) ≡ drop 23 line
+pub mark_of : (line : List ℕ) → line ≡ codes "          p     #      " ++ drop 23 line → length line ≡ 33
+    → drop 6 (take (33 - 17) (drop 17 line)) ≡ drop 23 line
 mark_of line e whole = ap (drop 6) (piece 33 17 (drop 17 line) line whole refl ∙ ap (drop 17) e)

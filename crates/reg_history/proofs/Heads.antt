@@ -1,5 +1,6 @@
 -- The head of a report up to its first wrong line.
-use Rattle.std.proofs.Common.{ℕ, ◌≡◌, ◌⊎◌, inl, inr, ◌≤◌, true, List, [], ◌∷◌, ◌++◌, length, map, codes, Option, None, Some, Result, Err, refl, sym, ap, ◌∙◌, append_assoc}
+use Rattle.std.proofs.Common.{ℕ, ◌≡◌, ◌⊎◌, inl, inr, ◌≤◌, true, List, [], ◌∷◌, ◌++◌, length, map, codes, Option, None}
+use Rattle.std.proofs.Common.{Some, Result, Err, refl, sym, ap, ◌∙◌, append_assoc}
 use Rattle.std.specs.Fmt.{decimal}
 use Rattle.reg_base.specs.Names.{names_fault}
 use Rattle.reg_text.specs.Words.{names_text, AreWords, HasWords, IsNamesWhy}
@@ -10,7 +11,8 @@ use Rattle.reg_text.specs.declared.faults.TextFault.{TextFault}
 use Rattle.reg_text.specs.declared.faults.TextFault.TheVariants.{Line as TextLine, OutOfMemory as TextOutOfMemory}
 use Rattle.reg_history.specs.ReadFaults.{read_fault, why_of}
 use Rattle.reg_history.specs.Reports.{head_lines, is_front}
-use Rattle.reg_history.specs.Refusals.{IsNoCount, IsNoFront, IsNoVersion, IsWrongCounted, IsWrongHead, IsWrongItem, IsWrongNames}
+use Rattle.reg_history.specs.Refusals.{IsNoCount, IsNoFront, IsNoVersion, IsWrongCounted, IsWrongHead, IsWrongItem}
+use Rattle.reg_history.specs.Refusals.{IsWrongNames}
 use Rattle.reg_history.specs.Stops.{IsFailure, IsFirst}
 use Rattle.reg_history.specs.declared.report_faults.ReadWhy.{ReadWhy}
 use Rattle.reg_history.specs.declared.versions.Version.{Version}
@@ -19,34 +21,43 @@ use Rattle.reg_history.specs.Versions.{most_processes, most_registers, version_l
 use Rattle.reg_history.proofs.Stopping.{stops_now, same_why, told_why}
 
 -- the first line of a part with a count is wrong, or one after it
-pub counted_first : {X : Type 0} (mark : List ℕ) (least limit : ℕ) (line_of : X → List ℕ) (Fits : List X → X → Type 0) (IsNone : List X → List ℕ → ReadWhy → Type 0) (before : List (List ℕ)) (next : Option (List ℕ)) (why : ReadWhy)
+pub counted_first : {X : Type 0} (mark : List ℕ) (least limit : ℕ) (line_of : X → List ℕ) (Fits : List X → X → Type 0)
+    (IsNone : List X → List ℕ → ReadWhy → Type 0) (before : List (List ℕ)) (next : Option (List ℕ)) (why : ReadWhy)
     → IsFirst (IsNoCount mark least limit) before next why → IsWrongCounted mark least limit line_of Fits IsNone before next why
 counted_first mark least limit line_of Fits IsNone [] next why w = w.1
 counted_first mark least limit line_of Fits IsNone (line ∷ lines) next why w = absurd (cc)
 
-pub counted_more : {X : Type 0} (mark : List ℕ) (least limit : ℕ) (line_of : X → List ℕ) (Fits : List X → X → Type 0) (IsNone : List X → List ℕ → ReadWhy → Type 0) (count : ℕ) → least ≤ count → count ≤ limit
+pub counted_more : {X : Type 0} (mark : List ℕ) (least limit : ℕ) (line_of : X → List ℕ) (Fits : List X → X → Type 0)
+    (IsNone : List X → List ℕ → ReadWhy → Type 0) (count : ℕ)
+    → least ≤ count → count ≤ limit
     → (before : List (List ℕ)) (next : Option (List ℕ)) (why : ReadWhy) → IsWrongItem line_of Fits IsNone count before next why → IsWrongCounted mark least limit line_of Fits IsNone ((mark ++ decimal count) ∷ before) next why
 counted_more mark least limit line_of Fits IsNone count some few before next why w = (count, some, few, refl, w)
 
-pub first_wrong : (before : List (List ℕ)) (next : Option (List ℕ)) (why : ReadWhy) → IsFirst IsNoVersion before next why → IsWrongHead before next why
+pub first_wrong : (before : List (List ℕ)) (next : Option (List ℕ)) (why : ReadWhy)
+    → IsFirst IsNoVersion before next why → IsWrongHead before next why
 first_wrong [] next why w = w.1
 first_wrong (line ∷ lines) next why w = absurd (cc)
 
-pub second_wrong : (version : Version) (before : List (List ℕ)) (next : Option (List ℕ)) (why : ReadWhy) → IsFirst IsNoFront before next why → IsWrongHead (version_line version ∷ before) next why
+pub second_wrong : (version : Version) (before : List (List ℕ)) (next : Option (List ℕ)) (why : ReadWhy)
+    → IsFirst IsNoFront before next why → IsWrongHead (version_line version ∷ before) next why
 second_wrong version [] next why w = (version, refl, w.1)
 second_wrong version (line ∷ lines) next why w = absurd (cc)
 
-pub third_wrong : (version : Version) (front : List ℕ) → is_front front ≡ true → (before : List (List ℕ)) (next : Option (List ℕ)) (why : ReadWhy)
+pub third_wrong : (version : Version) (front : List ℕ) → is_front front ≡ true
+    → (before : List (List ℕ)) (next : Option (List ℕ)) (why : ReadWhy)
     → IsFirst (IsNoCount (codes "processes ") 1 (most_processes version)) before next why → IsWrongHead (version_line version ∷ (codes "front " ++ front) ∷ before) next why
 third_wrong version front ok [] next why w = (version, refl, (front, ok, refl), w.1)
 third_wrong version front ok (line ∷ lines) next why w = absurd (cc)
 
-pub fourth_wrong : (version : Version) (front : List ℕ) (processes : ℕ) → is_front front ≡ true → 1 ≤ processes → processes ≤ most_processes version → (before : List (List ℕ)) (next : Option (List ℕ)) (why : ReadWhy)
+pub fourth_wrong : (version : Version) (front : List ℕ) (processes : ℕ) → is_front front ≡ true → 1 ≤ processes
+    → processes ≤ most_processes version → (before : List (List ℕ)) (next : Option (List ℕ)) (why : ReadWhy)
     → IsWrongNames version before next why → IsWrongHead (version_line version ∷ (codes "front " ++ front) ∷ (codes "processes " ++ decimal processes) ∷ before) next why
-fourth_wrong version front processes ok some few before next why w = (version, refl, (front, ok, refl), (processes, some, few, refl), w)
+fourth_wrong version front processes ok some few before next why w =
+    (version, refl, (front, ok, refl), (processes, some, few, refl), w)
 
 -- the lines of a head, and others after them
-pub head_behind : (version : Version) (front : List ℕ) (processes : ℕ) (names rest : List (List ℕ)) → head_lines version front processes names rest ≡ head_lines version front processes names [] ++ rest
+pub head_behind : (version : Version) (front : List ℕ) (processes : ℕ) (names rest : List (List ℕ))
+    → head_lines version front processes names rest ≡ head_lines version front processes names [] ++ rest
 head_behind One front processes names rest = refl
 head_behind Two front processes names rest =
     ap (λ l. codes "awreg report 2" ∷ (codes "front " ++ front) ∷ (codes "processes " ++ decimal processes) ∷ (codes "registers " ++ decimal (length names)) ∷ l) (sym (append_assoc (map (λ name. name) names) [] rest))

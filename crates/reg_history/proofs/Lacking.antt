@@ -1,5 +1,7 @@
 -- The lines of a report have no line feeds of their own.
-use Rattle.std.proofs.Common.{ℕ, suc, ◌≡◌, ◌-◌, ◌<◌, ◌==◌, ◌^◌, ◌&&◌, nat_lt, nat_le, not, true, List, [], ◌∷◌, ◌++◌, length, map, replicate, codes, get_or, Option, None, Some, slice_get, refl, sym, ap, ◌∙◌, subst, arith, rules, append_assoc, append-nil, inl, inr, ◌⊎◌}
+use Rattle.std.proofs.Common.{ℕ, suc, ◌≡◌, ◌-◌, ◌<◌, ◌==◌, ◌^◌, ◌&&◌, nat_lt, nat_le, not, true, List, [], ◌∷◌, ◌++◌}
+use Rattle.std.proofs.Common.{length, map, replicate, codes, get_or, Option, None, Some, slice_get, refl, sym, ap, ◌∙◌}
+use Rattle.std.proofs.Common.{subst, arith, rules, append_assoc, append-nil, inl, inr, ◌⊎◌}
 use Rattle.std.proofs.lemmas.List.{append_cancel_right}
 use Rattle.std.specs.List.{list_all}
 use Rattle.std.specs.Fmt.{decimal}
@@ -17,7 +19,8 @@ use Rattle.reg_text.specs.Parts.{Lacks}
 use Rattle.reg_checkers.specs.declared.entries.Point.{Point}
 use Rattle.reg_text.specs.Lines.{text_of, lines_of}
 use Rattle.reg_history.specs.Counted.{counted_lines}
-use Rattle.reg_history.specs.Reports.{Contents, tail_lines, lines_in, registers_lines, newer_registers_lines, IsReportIn, PointsFit, is_front}
+use Rattle.reg_history.specs.Reports.{Contents, tail_lines, lines_in, registers_lines, newer_registers_lines}
+use Rattle.reg_history.specs.Reports.{IsReportIn, PointsFit, is_front}
 use Rattle.reg_text.proofs.NamesLack.{both_true, name_lacks, well_spelt}
 use Rattle.reg_text.proofs.Joining.{joined, spaces_lack, number, op_lacks}
 use Rattle.reg_text.proofs.Split.{AllLack, lines_text, line_last, none_left, text_lines}
@@ -38,7 +41,8 @@ answer_lacks Done fits = refl
 answer_lacks Unequal fits = refl
 answer_lacks (Value v) fits = joined 10 (codes "value ") (decimal v) refl (number v fits)
 
-columns_lack : (version : Version) (at process n : ℕ) (rest : List ℕ) → ColumnsFit version at process n → Lacks 10 rest → Lacks 10 (columns_text at process n rest)
+columns_lack : (version : Version) (at process n : ℕ) (rest : List ℕ) → ColumnsFit version at process n → Lacks 10 rest
+    → Lacks 10 (columns_text at process n rest)
 columns_lack version at process n rest fits h =
     let tail1 = joined 10 (codes "  ") rest refl h in
     let tail2 = joined 10 (to_left 6 (decimal n)) (codes "  " ++ rest) (joined 10 (decimal n) (replicate (6 - length (decimal n)) 32) (number n (omega (arith, fits.number_fits))) (spaces_lack (6 - length (decimal n)))) tail1 in
@@ -47,7 +51,8 @@ columns_lack version at process n rest fits h =
     let tail5 = joined 10 (codes "  p") (to_left 3 (decimal process) ++ (codes "  #" ++ (to_left 6 (decimal n) ++ (codes "  " ++ rest)))) refl tail4 in
     joined 10 (to_right 8 (decimal at)) (codes "  p" ++ (to_left 3 (decimal process) ++ (codes "  #" ++ (to_left 6 (decimal n) ++ (codes "  " ++ rest))))) (joined 10 (replicate (8 - length (decimal at)) 32) (decimal at) (spaces_lack (8 - length (decimal at))) (number at (omega (arith, fits.at_fits)))) tail5
 
-entry_lacks : (version : Version) (names : List (List ℕ)) (e : Entry) → names_fault names ≡ None → EntryFits version names e → Lacks 10 (entry_text names e)
+entry_lacks : (version : Version) (names : List (List ℕ)) (e : Entry) → names_fault names ≡ None
+    → EntryFits version names e → Lacks 10 (entry_text names e)
 entry_lacks version names (Called at id op) ok fits = columns_lack version at id.process id.number (codes "call    " ++ op_text names op) fits.0 (joined 10 (codes "call    ") (op_text names op) refl (op_lacks names op ok fits.1))
 entry_lacks version names (Answered at id x) ok fits = columns_lack version at id.process id.number (codes "answer  " ++ answer_text x) fits.0 (joined 10 (codes "answer  ") (answer_text x) refl (answer_lacks x fits.1))
 
@@ -65,7 +70,8 @@ point_lacks version p fits =
     (joined 10 (decimal p.id.number) (32 ∷ (codes "at " ++ decimal p.at)) (number p.id.number (omega (arith, fits.0.1)))
     (joined 10 (codes " at ") (decimal p.at) refl (number p.at (omega (arith, fits.1)))))))
 
-all_lack : {X : Type 0} (f : X → List ℕ) (xs : List X) → ((k : ℕ) (x : X) → slice_get xs k ≡ Some x → Lacks 10 (f x)) → AllLack (map f xs)
+all_lack : {X : Type 0} (f : X → List ℕ) (xs : List X) → ((k : ℕ) (x : X) → slice_get xs k ≡ Some x → Lacks 10 (f x))
+    → AllLack (map f xs)
 all_lack f [] h = tt
 all_lack f (x ∷ xs) h = (h 0 x refl, all_lack f xs (λ k y e. h (suc k) y e))
 
@@ -89,15 +95,19 @@ front_lacks w h =
     let rest = both_true (nat_lt 0 (length w)) (nat_le (length w) LONGEST_FRONT && list_all is_front_letter w) h in
     letters_lack w (both_true (nat_le (length w) LONGEST_FRONT) (list_all is_front_letter w) rest.1).1
 
-names_lack_from : (ns : List (List ℕ)) → ((r : ℕ) → r < length ns → is_name (get_or ns r []) ≡ true) → Lacks 10 (names_text ns)
+names_lack_from : (ns : List (List ℕ)) → ((r : ℕ) → r < length ns → is_name (get_or ns r []) ≡ true)
+    → Lacks 10 (names_text ns)
 names_lack_from [] h = refl
 names_lack_from (n ∷ ns) h = joined 10 (32 ∷ n) (names_text ns) (joined 10 (32 ∷ []) n refl (name_lacks 10 n (omega arith) (h 0 (omega arith)))) (names_lack_from ns (λ r l. h (suc r) (omega arith)))
 
 names_lack : (ns : List (List ℕ)) → names_fault ns ≡ None → Lacks 10 (names_text ns)
 names_lack ns ok = names_lack_from ns (λ r l. well_spelt ns r ok l)
 
-counted_lack : {X : Type 0} (mark : List ℕ) (f : X → List ℕ) (xs : List X) (rest : List (List ℕ)) → Lacks 10 mark → length xs < 2 ^ 64 → ((k : ℕ) (x : X) → slice_get xs k ≡ Some x → Lacks 10 (f x)) → AllLack rest → AllLack (counted_lines mark f xs rest)
-counted_lack mark f xs rest m small all h = (joined 10 mark (decimal (length xs)) m (number (length xs) small), both_lack (map f xs) rest (all_lack f xs all) h)
+counted_lack : {X : Type 0} (mark : List ℕ) (f : X → List ℕ) (xs : List X) (rest : List (List ℕ)) → Lacks 10 mark
+    → length xs < 2 ^ 64 → ((k : ℕ) (x : X) → slice_get xs k ≡ Some x → Lacks 10 (f x)) → AllLack rest
+    → AllLack (counted_lines mark f xs rest)
+counted_lack mark f xs rest m small all h =
+    (joined 10 mark (decimal (length xs)) m (number (length xs) small), both_lack (map f xs) rest (all_lack f xs all) h)
 
 tail_lack : (version : Version) (points : Option (List Point)) → PointsFit version points → AllLack (tail_lines points)
 tail_lack version None fits = (refl, tt)
@@ -108,11 +118,13 @@ version_lacks One = refl
 version_lacks Two = refl
 version_lacks Three = refl
 
-newer_registers_lack : (names rest : List (List ℕ)) → names_fault names ≡ None → AllLack rest → AllLack (newer_registers_lines names rest)
+newer_registers_lack : (names rest : List (List ℕ)) → names_fault names ≡ None → AllLack rest
+    → AllLack (newer_registers_lines names rest)
 newer_registers_lack names rest ok h =
     counted_lack (codes "registers ") (λ name. name) names rest refl (omega (arith, few names ok)) (λ k n here. name_lacks 10 n (omega arith) (all_spelt names ok k n here)) h
 
-registers_lack : (version : Version) (names rest : List (List ℕ)) → names_fault names ≡ None → AllLack rest → AllLack (registers_lines version names rest)
+registers_lack : (version : Version) (names rest : List (List ℕ)) → names_fault names ≡ None → AllLack rest
+    → AllLack (registers_lines version names rest)
 registers_lack One names rest ok h = (joined 10 (codes "registers") (names_text names) refl (names_lack names ok), h)
 registers_lack Two names rest ok h = newer_registers_lack names rest ok h
 registers_lack Three names rest ok h = newer_registers_lack names rest ok h
@@ -140,24 +152,32 @@ behind a b e = (a ++ e.0, ap (λ l. a ++ l) e.1 ∙ sym (append_assoc a e.0 (cod
 
 tail_ends : (points : Option (List Point)) → EndsIn (tail_lines points)
 tail_ends None = ([], refl)
-tail_ends (Some ps) = behind ((codes "points " ++ decimal (length ps)) ∷ map point_text ps) (codes "end" ∷ []) ([], refl)
+tail_ends (Some ps) =
+    behind ((codes "points " ++ decimal (length ps)) ∷ map point_text ps) (codes "end" ∷ []) ([], refl)
 
-body_ends : (r : Contents) → EndsIn (counted_lines (codes "history ") (entry_text r.names) r.entries (counted_lines (codes "order ") id_text r.order (tail_lines r.points)))
+body_ends : (r : Contents)
+    → EndsIn
+    (counted_lines (codes "history ") (entry_text r.names) r.entries
+    (counted_lines (codes "order ") id_text r.order (tail_lines r.points)))
 body_ends r =
     behind ((codes "history " ++ decimal (length r.entries)) ∷ map (entry_text r.names) r.entries) _
     (behind ((codes "order " ++ decimal (length r.order)) ∷ map id_text r.order) (tail_lines r.points) (tail_ends r.points))
 
-registers_end : (version : Version) (names rest : List (List ℕ)) → EndsIn rest → EndsIn (registers_lines version names rest)
+registers_end : (version : Version) (names rest : List (List ℕ)) → EndsIn rest
+    → EndsIn (registers_lines version names rest)
 registers_end One names rest e = behind ((codes "registers" ++ names_text names) ∷ []) rest e
-registers_end Two names rest e = behind ((codes "registers " ++ decimal (length names)) ∷ map (λ name. name) names) rest e
-registers_end Three names rest e = behind ((codes "registers " ++ decimal (length names)) ∷ map (λ name. name) names) rest e
+registers_end Two names rest e =
+    behind ((codes "registers " ++ decimal (length names)) ∷ map (λ name. name) names) rest e
+registers_end Three names rest e =
+    behind ((codes "registers " ++ decimal (length names)) ∷ map (λ name. name) names) rest e
 
 pub report_ends : (version : Version) (r : Contents) → EndsIn (lines_in version r)
 report_ends version r =
     behind (version_line version ∷ (codes "front " ++ r.front) ∷ (codes "processes " ++ decimal r.shape.processes) ∷ []) _ (registers_end version r.names _ (body_ends r))
 
 -- the lines of a text of a report
-pub lines_with : (bs : List ℕ) (ls : List (List ℕ)) → AllLack ls → EndsIn ls → (bs ≡ text_of ls) ⊎ (bs ++ 10 ∷ [] ≡ text_of ls) → lines_of bs ≡ ls
+pub lines_with : (bs : List ℕ) (ls : List (List ℕ)) → AllLack ls → EndsIn ls
+    → (bs ≡ text_of ls) ⊎ (bs ++ 10 ∷ [] ≡ text_of ls) → lines_of bs ≡ ls
 lines_with bs ls lack ends (inl e) = ap lines_of (e ∙ sym (append-nil (text_of ls))) ∙ lines_text ls [] lack ∙ ap (λ l. ls ++ l) none_left ∙ append-nil ls
 lines_with bs ls lack ends (inr e) =
     let body = ends.0 in
@@ -168,7 +188,8 @@ lines_with bs ls lack ends (inr e) =
     ap lines_of cut ∙ lines_text body (codes "end") (front_lack body (codes "end" ∷ []) (subst P ends.1 lack)) ∙ ap (λ l. body ++ l) (line_last 101 (codes "nd") refl) ∙ sym ends.1
 
 pub text_with : (bs : List ℕ) (ls : List (List ℕ)) → lines_of bs ≡ ls → (bs ≡ text_of ls) ⊎ (bs ++ 10 ∷ [] ≡ text_of ls)
-text_with bs ls e = let P : List (List ℕ) → Type 0 = λ l. (bs ≡ text_of l) ⊎ (bs ++ 10 ∷ [] ≡ text_of l) in subst P e (text_lines bs)
+text_with bs ls e =
+    let P : List (List ℕ) → Type 0 = λ l. (bs ≡ text_of l) ⊎ (bs ++ 10 ∷ [] ≡ text_of l) in subst P e (text_lines bs)
 
 pub front_text : (w : List ℕ) → is_front w ≡ true → IsUtf8 w
 front_text w h =

@@ -1,5 +1,6 @@
 -- Numerals in columns.
-use Rattle.std.proofs.Common.{ℕ, ◌≡◌, ◌-◌, ◌<◌, ◌≤◌, ◌==◌, not, true, false, List, [], ◌∷◌, ◌++◌, length, take, drop, replicate, get_or, sym, ap, subst, ◌∙◌, ◌⊎◌, inl, inr, append-nil, arith, rules}
+use Rattle.std.proofs.Common.{ℕ, ◌≡◌, ◌-◌, ◌<◌, ◌≤◌, ◌==◌, not, true, false, List, [], ◌∷◌, ◌++◌, length, take, drop}
+use Rattle.std.proofs.Common.{replicate, get_or, sym, ap, subst, ◌∙◌, ◌⊎◌, inl, inr, append-nil, arith, rules}
 use Rattle.std.specs.List.{prefix_len, list_all}
 use Rattle.std.proofs.lemmas.List.{length-append, length-replicate, length-drop}
 use Rattle.reg_text.specs.Columns.{to_right, to_left}
@@ -11,7 +12,8 @@ use Rattle.reg_text.proofs.Formed.{numeral_lacks}
 use Rattle.reg_text.proofs.Spaces.{is_space, split_spaces, past_spaces}
 use Rattle.reg_text.proofs.Parts.{rest_of}
 
-pub behind_only : (bs : List ℕ) (k : ℕ) → k ≤ length bs → k ≡ prefix_len is_space bs → bs ≡ to_right (length bs) (take (length bs - k) (drop k bs))
+pub behind_only : (bs : List ℕ) (k : ℕ) → k ≤ length bs → k ≡ prefix_len is_space bs
+    → bs ≡ to_right (length bs) (take (length bs - k) (drop k bs))
 behind_only bs k within spaces =
     let cut : bs ≡ replicate k 32 ++ drop k bs = rw spaces (split_spaces bs) in
     let same : k ≡ length bs - length (drop k bs) = omega (arith, within, length-drop k bs) in
@@ -29,7 +31,8 @@ plain_first (d ∷ ds) some lacks =
     let other : not (d == 32) ≡ true = (both_true (not (d == 32)) (list_all (λ b. not (b == 32)) ds) lacks).0 in
     search (rules, other)
 
-pub behind_whole : (bs digits : List ℕ) (k : ℕ) → k ≡ prefix_len is_space bs → is_numeral digits ≡ true → bs ≡ to_right (length bs) digits → take (length bs - k) (drop k bs) ≡ digits
+pub behind_whole : (bs digits : List ℕ) (k : ℕ) → k ≡ prefix_len is_space bs → is_numeral digits ≡ true
+    → bs ≡ to_right (length bs) digits → take (length bs - k) (drop k bs) ≡ digits
 behind_whole bs digits k spaces h e =
     let P : List ℕ → Type 0 = λ l. drop (prefix_len is_space l) l ≡ digits in
     let some = some_digits digits h in
@@ -44,7 +47,8 @@ pub length_right : (places : ℕ) (ds : List ℕ) → length ds ≤ places → l
 length_right places ds short = omega (arith, short, length-append (replicate (places - length ds) 32) ds, length-replicate {A = ℕ} (places - length ds) 32)
 
 -- a numeral at the right of a column that stands first
-pub right_column : (places : ℕ) (bytes column after digits behind : List ℕ) → bytes ≡ column ++ after → length column ≡ places → is_numeral digits ≡ true → column ≡ to_right (length column) digits → after ≡ behind
+pub right_column : (places : ℕ) (bytes column after digits behind : List ℕ) → bytes ≡ column ++ after
+    → length column ≡ places → is_numeral digits ≡ true → column ≡ to_right (length column) digits → after ≡ behind
     → FitsColumn places digits × (bytes ≡ to_right places digits ++ behind)
 right_column places bytes column after digits behind cut long numeral is rest =
     let size : length column ≡ length (to_right (length column) digits) = ap length is in (
@@ -54,10 +58,13 @@ right_column places bytes column after digits behind cut long numeral is rest =
 
 -- a numeral that fills its column
 full : (places : ℕ) (ds : List ℕ) → length ds ≡ places → to_left places ds ≡ ds
-full places ds long = let none : places - length ds ≡ 0 = omega (arith, long) in ap (λ m. ds ++ replicate m 32) none ∙ append-nil ds
+full places ds long =
+    let none : places - length ds ≡ 0 = omega (arith, long) in ap (λ m. ds ++ replicate m 32) none ∙ append-nil ds
 
 -- the same at the left of a column
-pub left_column : (places : ℕ) (bytes column after digits behind : List ℕ) → bytes ≡ column ++ after → length column ≡ places → is_numeral digits ≡ true → (digits ≡ column) ⊎ (Lacks 32 digits × (column ≡ to_left (length column) digits)) → after ≡ behind
+pub left_column : (places : ℕ) (bytes column after digits behind : List ℕ) → bytes ≡ column ++ after
+    → length column ≡ places → is_numeral digits ≡ true
+    → (digits ≡ column) ⊎ (Lacks 32 digits × (column ≡ to_left (length column) digits)) → after ≡ behind
     → FitsColumn places digits × (bytes ≡ to_left places digits ++ behind)
 left_column places bytes column after digits behind cut long numeral (inl all) rest =
     let size : length digits ≡ places = ap length all ∙ long in

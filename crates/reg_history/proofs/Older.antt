@@ -1,5 +1,6 @@
 -- What is within the limits of any version is within those of version 3.
-use Rattle.std.proofs.Common.{ℕ, ◌≡◌, inl, inr, List, ◌∷◌, ◌++◌, [], Option, None, Some, arith, refl, sym, ap, get_or, append-nil, ◌∙◌}
+use Rattle.std.proofs.Common.{ℕ, ◌≡◌, inl, inr, List, ◌∷◌, ◌++◌, [], Option, None, Some, arith, refl, sym, ap, get_or}
+use Rattle.std.proofs.Common.{append-nil, ◌∙◌}
 use Rattle.reg_base.specs.declared.memory.OpId.{OpId}
 use Rattle.reg_checkers.specs.declared.entries.Entry.{Entry}
 use Rattle.reg_checkers.specs.declared.entries.Entry.TheVariants.{Called, Answered}
@@ -11,10 +12,12 @@ use Rattle.reg_history.specs.EntryLines.{EntryFits, ColumnsFit}
 use Rattle.reg_history.specs.IdLines.{IdFits}
 use Rattle.reg_history.specs.Reports.{Contents, IsReport, IsReportIn, IsTextOf, PointsFit, text_in}
 
-columns_fit : (version : Version) (at process number : ℕ) → ColumnsFit version at process number → ColumnsFit Three at process number
+columns_fit : (version : Version) (at process number : ℕ) → ColumnsFit version at process number
+    → ColumnsFit Three at process number
 columns_fit version at process number f = record { at_fits = f.at_fits; process_fits = omega (arith, f.process_fits, few_processes version); number_fits = f.number_fits }
 
-entry_fits : (version : Version) (names : List (List ℕ)) (e : Entry) → EntryFits version names e → EntryFits Three names e
+entry_fits : (version : Version) (names : List (List ℕ)) (e : Entry) → EntryFits version names e
+    → EntryFits Three names e
 entry_fits version names (Called at id op) f = (columns_fit version at id.process id.number f.0, f.1, refl)
 entry_fits version names (Answered at id answer) f = (columns_fit version at id.process id.number f.0, f.1, refl)
 
@@ -62,11 +65,16 @@ stands Two r more = refl
 stands Three r more = refl
 
 -- a text that is the one and the other, or would be with more behind it
-apart : (v w : Version) (r s : Contents) (more last : List ℕ) → (v ≡ w → ⊥) → text_in v r ++ more ≡ text_in w s ++ last → ⊥
-apart v w r s more last other e = digits_differ v w other (sym (stands v r more) ∙ ap (λ l. get_or l 13 0) e ∙ stands w s last)
+apart : (v w : Version) (r s : Contents) (more last : List ℕ) → (v ≡ w → ⊥) → text_in v r ++ more ≡ text_in w s ++ last
+    → ⊥
+apart v w r s more last other e =
+    digits_differ v w other (sym (stands v r more) ∙ ap (λ l. get_or l 13 0) e ∙ stands w s last)
 
-pub not_two : (text : List ℕ) (v w : Version) (r s : Contents) → (v ≡ w → ⊥) → IsTextOf text (text_in v r) → IsTextOf text (text_in w s) → ⊥
+pub not_two : (text : List ℕ) (v w : Version) (r s : Contents) → (v ≡ w → ⊥) → IsTextOf text (text_in v r)
+    → IsTextOf text (text_in w s) → ⊥
 not_two text v w r s other (inl e) (inl f) = apart v w r s [] [] other (ap (λ l. l ++ []) (sym e ∙ f))
 not_two text v w r s other (inr e) (inr f) = apart v w r s [] [] other (ap (λ l. l ++ []) (sym e ∙ f))
-not_two text v w r s other (inl e) (inr f) = apart v w r s (10 ∷ []) [] other (ap (λ l. l ++ 10 ∷ []) (sym e) ∙ f ∙ sym (append-nil (text_in w s)))
-not_two text v w r s other (inr e) (inl f) = apart v w r s [] (10 ∷ []) other (append-nil (text_in v r) ∙ sym e ∙ ap (λ l. l ++ 10 ∷ []) f)
+not_two text v w r s other (inl e) (inr f) =
+    apart v w r s (10 ∷ []) [] other (ap (λ l. l ++ 10 ∷ []) (sym e) ∙ f ∙ sym (append-nil (text_in w s)))
+not_two text v w r s other (inr e) (inl f) =
+    apart v w r s [] (10 ∷ []) other (append-nil (text_in v r) ∙ sym e ∙ ap (λ l. l ++ 10 ∷ []) f)

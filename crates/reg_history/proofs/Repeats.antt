@@ -1,5 +1,7 @@
 -- The first of well spelt names that stands earlier too.
-use Rattle.std.proofs.Common.{ℕ, zero, suc, ◌≡◌, ◌+◌, ◌⊎◌, inl, inr, ◌<◌, ◌≤◌, ◌^◌, ◌||◌, not, nat_lt, nat_eq, true, false, cond, List, [], ◌∷◌, ◌++◌, length, Option, None, Some, slice_get, refl, sym, ap, ◌∙◌, subst, arith, rules, length-append, append_assoc, append-nil}
+use Rattle.std.proofs.Common.{ℕ, zero, suc, ◌≡◌, ◌+◌, ◌⊎◌, inl, inr, ◌<◌, ◌≤◌, ◌^◌, ◌||◌, not, nat_lt, nat_eq, true}
+use Rattle.std.proofs.Common.{false, cond, List, [], ◌∷◌, ◌++◌, length, Option, None, Some, slice_get, refl, sym, ap}
+use Rattle.std.proofs.Common.{◌∙◌, subst, arith, rules, length-append, append_assoc, append-nil}
 use Rattle.std.specs.List.{list_any, position_from}
 use Rattle.std.specs.Str.{bytes_eq}
 use Rattle.std.proofs.lemmas.Slice.Eq.{bytes_eq-Decides}
@@ -31,7 +33,8 @@ among_here n (m ∷ ms) h =
       | false ↦ λ e k. let r = among_here n ms k in (suc r.0, r.1)
     ] refl h
 
-none_among : (n : List ℕ) (earlier : List (List ℕ)) (k : ℕ) → list_any (bytes_eq n) earlier ≡ false → slice_get earlier k ≡ Some n → ⊥
+none_among : (n : List ℕ) (earlier : List (List ℕ)) (k : ℕ) → list_any (bytes_eq n) earlier ≡ false
+    → slice_get earlier k ≡ Some n → ⊥
 none_among n [] k h e = absurd (cc)
 none_among n (m ∷ ms) zero h e =
     let same : bytes_eq n m ≡ true = (bytes_eq-Decides n m).1 (sym (same_Some m n e)) in
@@ -47,11 +50,14 @@ tail_spelt : (n : List ℕ) (ns : List (List ℕ)) → AreSpelt (n ∷ ns) → A
 tail_spelt n ns h = λ k x e. h (suc k) x e
 
 -- one more name that does not stand earlier
-grown : (old earlier : List (List ℕ)) (n : List ℕ) (ns : List (List ℕ)) (i : ℕ) → Gathered (λ n. n) IsNewName old (n ∷ ns) earlier i → is_name n ≡ true → list_any (bytes_eq n) earlier ≡ false → Gathered (λ n. n) IsNewName old ns (earlier ++ n ∷ []) (i + 1)
+grown : (old earlier : List (List ℕ)) (n : List ℕ) (ns : List (List ℕ)) (i : ℕ)
+    → Gathered (λ n. n) IsNewName old (n ∷ ns) earlier i → is_name n ≡ true → list_any (bytes_eq n) earlier ≡ false
+    → Gathered (λ n. n) IsNewName old ns (earlier ++ n ∷ []) (i + 1)
 grown old earlier n ns i t ok none = gathers_one (λ n. n) IsNewName old (n ∷ ns) earlier i t n ns n refl refl (ok, λ a. none_among n earlier a.0 none a.1) (λ y fits e. e)
 
 -- where none stands earlier, each is new
-all_new : (old earlier names : List (List ℕ)) (i : ℕ) → Gathered (λ n. n) IsNewName old names earlier i → AreSpelt names → repeat_after earlier names ≡ None → AllFit IsNewName old
+all_new : (old earlier names : List (List ℕ)) (i : ℕ) → Gathered (λ n. n) IsNewName old names earlier i → AreSpelt names
+    → repeat_after earlier names ≡ None → AllFit IsNewName old
 all_new old earlier [] i t spelt h =
     let same = (all_gathered (λ n. n) IsNewName old [] earlier i t refl).0 ∙ map_same earlier in
     subst (λ (l : List (List ℕ)). AllFit IsNewName l) (sym same) t.fit
@@ -72,7 +78,8 @@ pub record Repeat (names : List (List ℕ)) (place : ℕ) : Type 0 where
   pub spelt : is_name name ≡ true
   pub among : IsAmong name before
 
-first_among : (old earlier names : List (List ℕ)) (i place : ℕ) → Gathered (λ n. n) IsNewName old names earlier i → AreSpelt names → repeat_after earlier names ≡ Some place → Repeat old place
+first_among : (old earlier names : List (List ℕ)) (i place : ℕ) → Gathered (λ n. n) IsNewName old names earlier i
+    → AreSpelt names → repeat_after earlier names ≡ Some place → Repeat old place
 first_among old earlier [] i place t spelt h = absurd (cc)
 first_among old earlier (n ∷ ns) i place t spelt h =
     elim (list_any (bytes_eq n) earlier) as (λ b. list_any (bytes_eq n) earlier ≡ b → cond b (Some (length earlier)) (repeat_after (earlier ++ n ∷ []) ns) ≡ Some place → Repeat old place) [
@@ -91,13 +98,15 @@ not_zero : (k : ℕ) → nat_eq (suc k) 0 ≡ false
 not_zero k = search rules
 
 -- of well spelt names, some and not too many, the fault is that of the first that stands earlier
-fault_is : (n : List ℕ) (ns : List (List ℕ)) → AreSpelt (n ∷ ns) → length (n ∷ ns) ≤ MOST_REGISTERS → names_fault (n ∷ ns) ≡ worst_place None (first_repeat (n ∷ ns))
+fault_is : (n : List ℕ) (ns : List (List ℕ)) → AreSpelt (n ∷ ns) → length (n ∷ ns) ≤ MOST_REGISTERS
+    → names_fault (n ∷ ns) ≡ worst_place None (first_repeat (n ∷ ns))
 fault_is n ns spelt few =
     ap (λ b. cond b (Some NoName) (cond (nat_lt MOST_REGISTERS (length (n ∷ ns))) (Some TooManyNames) (worst_place (first_bad (n ∷ ns)) (first_repeat (n ∷ ns))))) (not_zero (length ns))
     ∙ ap (λ b. cond b (Some TooManyNames) (worst_place (first_bad (n ∷ ns)) (first_repeat (n ∷ ns)))) (not_over MOST_REGISTERS (length (n ∷ ns)) few)
     ∙ ap (λ p. worst_place p (first_repeat (n ∷ ns))) (none_bad 0 (n ∷ ns) spelt)
 
-same_fault : (q : Option ℕ) (fault : NamesFault) → worst_place None q ≡ Some fault → (place : ℕ) × (fault ≡ SameName place) × (q ≡ Some place)
+same_fault : (q : Option ℕ) (fault : NamesFault) → worst_place None q ≡ Some fault
+    → (place : ℕ) × (fault ≡ SameName place) × (q ≡ Some place)
 same_fault None fault h = absurd (cc)
 same_fault (Some i) fault h = (i, sym (same_Some (SameName i) fault h), refl)
 
@@ -105,26 +114,31 @@ no_fault : (q : Option ℕ) → ((place : ℕ) → ¬ (worst_place None q ≡ So
 no_fault None none = refl
 no_fault (Some i) none = absurd (none i refl)
 
-pub repeated : (names : List (List ℕ)) (fault : NamesFault) → AreSpelt names → 0 < length names → length names ≤ MOST_REGISTERS → names_fault names ≡ Some fault → (place : ℕ) × (fault ≡ SameName place) × Repeat names place
+pub repeated : (names : List (List ℕ)) (fault : NamesFault) → AreSpelt names → 0 < length names
+    → length names ≤ MOST_REGISTERS → names_fault names ≡ Some fault
+    → (place : ℕ) × (fault ≡ SameName place) × Repeat names place
 repeated [] fault spelt some few h = absurd (omega (arith, some))
 repeated (n ∷ ns) fault spelt some few h =
     let told = same_fault (first_repeat (n ∷ ns)) fault (sym (fault_is n ns spelt few) ∙ h) in
     (told.0, told.1, first_among (n ∷ ns) [] (n ∷ ns) 0 told.0 (gathers (λ n. n) IsNewName (n ∷ ns)) spelt told.2)
 
-same_repeated : (names : List (List ℕ)) (i : ℕ) → AreSpelt names → length names ≤ MOST_REGISTERS → names_fault names ≡ Some (SameName i) → Repeat names i
+same_repeated : (names : List (List ℕ)) (i : ℕ) → AreSpelt names → length names ≤ MOST_REGISTERS
+    → names_fault names ≡ Some (SameName i) → Repeat names i
 same_repeated [] i spelt few h = let bad : Some NoName ≡ Some (SameName i) = h in absurd (cc)
 same_repeated (n ∷ ns) i spelt few h =
     let told = repeated (n ∷ ns) (SameName i) spelt (omega arith) few h in
     let same : i ≡ told.0 = (let e = told.1 in cc) in
     subst (λ (k : ℕ). Repeat (n ∷ ns) k) (sym same) told.2
 
-pub all_differ : (names : List (List ℕ)) → AreSpelt names → length names ≤ MOST_REGISTERS → ((place : ℕ) → ¬ (names_fault names ≡ Some (SameName place))) → AllFit IsNewName names
+pub all_differ : (names : List (List ℕ)) → AreSpelt names → length names ≤ MOST_REGISTERS
+    → ((place : ℕ) → ¬ (names_fault names ≡ Some (SameName place))) → AllFit IsNewName names
 all_differ [] spelt few none = λ k x e. absurd (cc)
 all_differ (n ∷ ns) spelt few none =
     all_new (n ∷ ns) [] (n ∷ ns) 0 (gathers (λ n. n) IsNewName (n ∷ ns)) spelt (no_fault (first_repeat (n ∷ ns)) (λ place e. none place (fault_is n ns spelt few ∙ e)))
 
 -- the line of a name that stands earlier is told
-pub repeat_fails : (old : Rest) (names left : List (List ℕ)) (count place number : ℕ) (fault : ReadFault) → old.left ≡ names ++ left → length names ≤ count → fault ≡ Line number Name
+pub repeat_fails : (old : Rest) (names left : List (List ℕ)) (count place number : ℕ) (fault : ReadFault)
+    → old.left ≡ names ++ left → length names ≤ count → fault ≡ Line number Name
     → (old.number + place + 1 < 2 ^ 64 → number ≡ old.number + place + 1) → Repeat names place → IsFailure (IsWrongItem (λ n. n) IsNewName IsNoNewName count) old fault
 repeat_fails old names left count place number fault read short told number_is r =
     let all = ap length r.are ∙ length-append r.before (r.name ∷ r.rest) in
@@ -147,7 +161,8 @@ repeat_fails old names left count place number fault read short told number_is r
       wrong = record { items = r.before; are = sym (map_same r.before); fit = r.fit; fewer = omega (arith, all, short); wrong = inr (r.spelt, r.among, refl) };
     })
 
-no_name : (names : List (List ℕ)) (next : Option (List ℕ)) (why : ReadWhy) → IsWrongNext IsNoName next why → IsWrongNext (IsNoNewName names) next why
+no_name : (names : List (List ℕ)) (next : Option (List ℕ)) (why : ReadWhy) → IsWrongNext IsNoName next why
+    → IsWrongNext (IsNoNewName names) next why
 no_name names None why w = w
 no_name names (Some line) why w = inl w
 
@@ -155,7 +170,8 @@ no_memory : (number : ℕ) (why : ReadWhy) (f : ReadFault) → f ≡ Line number
 no_memory number why f told e = let bad : Line number why ≡ OutOfMemory = sym told ∙ e in absurd (cc)
 
 -- the line after these names is none
-pub wrong_name : (count : ℕ) (old now new : Rest) (names : List (List ℕ)) (i : ℕ) → i < count → Taken (λ n. n) (λ _ n. is_name n ≡ true) count old.left now.left names i → GoesOn old now
+pub wrong_name : (count : ℕ) (old now new : Rest) (names : List (List ℕ)) (i : ℕ) → i < count
+    → Taken (λ n. n) (λ _ n. is_name n ≡ true) count old.left now.left names i → GoesOn old now
     → (fault : ReadFault) (why : ReadWhy) (next : Option (List ℕ)) → fault ≡ Line new.number why → IsAsked now new → IsNext now.left next → IsWrongNext IsNoName next why → (fault ≡ OutOfMemory) ⊎ IsWrongName count old names fault
 wrong_name count old now new names i less t on fault why next told asked comes wrong =
     let at = placed_behind names [] old now new.number next (t.lines ∙ ap (λ l. l ++ now.left) (map_same names)) on (placed_now now new next asked comes) in
@@ -171,7 +187,8 @@ wrong_name count old now new names i less t on fault why next told asked comes w
     })
 
 -- the reading stopped: at a name that was read, where one stands earlier, and else where it stopped
-pub spelt_fails : (old : Rest) (names : List (List ℕ)) (count : ℕ) (stop fault : ReadFault) → count ≤ MOST_REGISTERS → (stop ≡ OutOfMemory → fault ≡ OutOfMemory)
+pub spelt_fails : (old : Rest) (names : List (List ℕ)) (count : ℕ) (stop fault : ReadFault) → count ≤ MOST_REGISTERS
+    → (stop ≡ OutOfMemory → fault ≡ OutOfMemory)
     → ((place : ℕ) → (stop ≡ OutOfMemory → ⊥) → names_fault names ≡ Some (SameName place) → (number : ℕ) × (fault ≡ Line number Name) × (old.number + place + 1 < 2 ^ 64 → number ≡ old.number + place + 1))
     → (((place : ℕ) → ¬ (names_fault names ≡ Some (SameName place))) → fault ≡ stop)
     → (stop ≡ OutOfMemory) ⊎ IsWrongName count old names stop → IsFailure (IsWrongItem (λ n. n) IsNewName IsNoNewName count) old fault

@@ -20,22 +20,27 @@ after_head r = counted_lines (codes "history ") (entry_text r.names) r.entries (
 abbrev pub after_history : Contents → List (List ℕ)
 after_history r = counted_lines (codes "order ") id_text r.order (tail_lines r.points)
 
-pub history_part : (version : Version) (r : Contents) (names : List (List ℕ)) (shape : Extent) (lines : List (List ℕ)) → names ≡ r.names → shape ≡ r.shape → lines ≡ after_head r → IsReportIn version r
+pub history_part : (version : Version) (r : Contents) (names : List (List ℕ)) (shape : Extent) (lines : List (List ℕ))
+    → names ≡ r.names → shape ≡ r.shape → lines ≡ after_head r → IsReportIn version r
     → IsCounted (codes "history ") (entry_text names) (Follows version names shape) MOST_ENTRIES lines (after_history r) r.entries
 history_part version r names shape lines n s e ok =
     let P : List (List ℕ) → Type 0 = λ x. IsCounted (codes "history ") (entry_text x) (Follows version x shape) MOST_ENTRIES lines (after_history r) r.entries in
     let Q : Extent → Type 0 = λ x. IsCounted (codes "history ") (entry_text r.names) (Follows version r.names x) MOST_ENTRIES lines (after_history r) r.entries in
     subst P (sym n) (subst Q (sym s) (record { lines = e; fit = λ k x h. (ok.entries k x h, ok.history k x h); few = ok.range.few_entries }))
 
-pub order_part : (version : Version) (r : Contents) (lines : List (List ℕ)) → lines ≡ after_history r → IsReportIn version r → IsCounted (codes "order ") id_text (λ _ x. IdFits version x) MOST_IDS lines (tail_lines r.points) r.order
+pub order_part : (version : Version) (r : Contents) (lines : List (List ℕ)) → lines ≡ after_history r
+    → IsReportIn version r
+    → IsCounted (codes "order ") id_text (λ _ x. IdFits version x) MOST_IDS lines (tail_lines r.points) r.order
 order_part version r lines e ok = record { lines = e; fit = ok.range.ids; few = ok.range.few_ids }
 
-pub same_contents : (r : Contents) (front : List ℕ) (shape : Extent) (names : List (List ℕ)) (entries : List Entry) (order : List OpId) (points : Option (List Point))
+pub same_contents : (r : Contents) (front : List ℕ) (shape : Extent) (names : List (List ℕ)) (entries : List Entry)
+    (order : List OpId) (points : Option (List Point))
     → front ≡ r.front → shape ≡ r.shape → names ≡ r.names → entries ≡ r.entries → order ≡ r.order → points ≡ r.points
     → record { front = front; shape = shape; names = names; entries = entries; order = order; points = points } ≡ r
 same_contents r front shape names entries order points a b d e f g = rw (a, b, d, e, f, g) refl
 
-pub from_parts : (version : Version) (front : List ℕ) (p : ℕ) (names : List (List ℕ)) (shape kept : Extent) (entries : List Entry) (order : List OpId) (points : Option (List Point)) (l0 l1 l2 l3 : List (List ℕ))
+pub from_parts : (version : Version) (front : List ℕ) (p : ℕ) (names : List (List ℕ)) (shape kept : Extent)
+    (entries : List Entry) (order : List OpId) (points : Option (List Point)) (l0 l1 l2 l3 : List (List ℕ))
     → l0 ≡ head_lines version front p names l1 → is_front front ≡ true → 0 < p → p ≤ most_processes version → names_fault names ≡ None → length names ≤ most_registers version → shape ≡ record { processes = p; registers = length names } → kept ≡ shape
     → IsCounted (codes "history ") (entry_text names) (Follows version names shape) MOST_ENTRIES l1 l2 entries
     → IsCounted (codes "order ") id_text (λ _ x. IdFits version x) MOST_IDS l2 l3 order

@@ -37,5 +37,7 @@ pub record ColumnsFit (version : Version) (at process number : ℕ) : Type 0 whe
 
 -- the parts of an entry are within the limits of a report of this version, and may stand in one
 abbrev pub EntryFits : Version → List (List ℕ) → Entry → Type 0
-EntryFits version names (Called at id op) = ColumnsFit version at id.process id.number × OpFits names op × (may_call version op ≡ true)
-EntryFits version names (Answered at id answer) = ColumnsFit version at id.process id.number × AnswerFits answer × (may_answer version answer ≡ true)
+EntryFits version names (Called at id op) =
+    ColumnsFit version at id.process id.number × OpFits names op × (may_call version op ≡ true)
+EntryFits version names (Answered at id answer) =
+    ColumnsFit version at id.process id.number × AnswerFits answer × (may_answer version answer ≡ true)

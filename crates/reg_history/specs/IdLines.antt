@@ -11,7 +11,9 @@ abbrev pub id_text : OpId → List ℕ
 id_text id = codes "p" ++ (decimal id.process ++ 32 ∷ (codes "#" ++ decimal id.number))
 
 abbrev pub point_text : Point → List ℕ
-point_text p = codes "p" ++ (decimal p.id.process ++ 32 ∷ (codes "#" ++ (decimal p.id.number ++ 32 ∷ (codes "at " ++ decimal p.at))))
+point_text p =
+    codes "p"
+    ++ (decimal p.id.process ++ 32 ∷ (codes "#" ++ (decimal p.id.number ++ 32 ∷ (codes "at " ++ decimal p.at))))
 
 -- within the limits of a report of this version
 abbrev pub IdFits : Version → OpId → Type 0

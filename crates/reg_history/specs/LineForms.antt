@@ -7,7 +7,8 @@ use Rattle.reg_text.specs.Forms.{is_numeral, HasOlderOpForm, IsCasForm, IsOpWhy}
 use Rattle.reg_text.specs.declared.faults.Why.{Why}
 use Rattle.reg_text.specs.declared.faults.Why.TheVariants.{Range}
 use Rattle.reg_history.specs.declared.report_faults.ReadWhy.{ReadWhy}
-use Rattle.reg_history.specs.declared.report_faults.ReadWhy.TheVariants.{Form as Misspelt, Range as BeyondLimit, Place as OutOfPlace}
+use Rattle.reg_history.specs.declared.report_faults.ReadWhy.TheVariants.{Form as Misspelt, Range as BeyondLimit}
+use Rattle.reg_history.specs.declared.report_faults.ReadWhy.TheVariants.{Place as OutOfPlace}
 use Rattle.reg_checkers.specs.declared.entries.Entry.{Entry}
 use Rattle.reg_history.specs.declared.versions.Version.{Version}
 use Rattle.reg_checkers.specs.History.{IsInPlace}
@@ -23,18 +24,22 @@ Follows version names shape before e = EntryFits version names e × IsInPlace sh
 
 -- the form of an operation of this version
 abbrev pub HasCallForm : Version → List ℕ → Type 0
-HasCallForm version text = HasOlderOpForm text ⊎ ((compares version ≡ true) × ((name expected digits : List ℕ) × IsCasForm text name expected digits))
+HasCallForm version text =
+    HasOlderOpForm text
+    ⊎ ((compares version ≡ true) × ((name expected digits : List ℕ) × IsCasForm text name expected digits))
 
 -- the form of an answer of this version, whatever its value
 abbrev pub HasAnswerForm : Version → List ℕ → Type 0
 HasAnswerForm version text =
     (text ≡ codes "done")
-    ⊎ (((digits : List ℕ) × ((is_numeral digits ≡ true) × (text ≡ codes "value " ++ digits))) ⊎ ((compares version ≡ true) × (text ≡ codes "unequal")))
+    ⊎ (((digits : List ℕ) × ((is_numeral digits ≡ true) × (text ≡ codes "value " ++ digits)))
+    ⊎ ((compares version ≡ true) × (text ≡ codes "unequal")))
 
 -- the form of what stands after the columns
 abbrev pub HasTailForm : Version → List ℕ → Type 0
 HasTailForm version rest =
-    ((text : List ℕ) × ((rest ≡ codes "call    " ++ text) × HasCallForm version text)) ⊎ ((text : List ℕ) × ((rest ≡ codes "answer  " ++ text) × HasAnswerForm version text))
+    ((text : List ℕ) × ((rest ≡ codes "call    " ++ text) × HasCallForm version text))
+    ⊎ ((text : List ℕ) × ((rest ≡ codes "answer  " ++ text) × HasAnswerForm version text))
 
 -- a numeral that has room in a column of this number of places
 pub record FitsColumn (places : ℕ) (numeral : List ℕ) : Type 0 where
@@ -55,7 +60,8 @@ AreWithin version at process number =
 
 -- the line has the form of an entry's, whatever the limits and the names
 abbrev pub HasEntryForm : Version → List ℕ → Type 0
-HasEntryForm version line = (at process number rest : List ℕ) × HasColumns line at process number rest × HasTailForm version rest
+HasEntryForm version line =
+    (at process number rest : List ℕ) × HasColumns line at process number rest × HasTailForm version rest
 
 -- Why what stands after the columns is not read, though it has its form: the value of an answer is beyond its range, or
 -- the operation of a call tells.
@@ -67,8 +73,10 @@ pub record IsTailWhy (names : List (List ℕ)) (rest : List ℕ) (why : Why) : T
 -- them tells
 pub record IsEntryWhy (version : Version) (names : List (List ℕ)) (line : List ℕ) (why : ReadWhy) : Type 0 where
   pub form : (¬ (HasEntryForm version line)) → why ≡ Misspelt
-  pub beyond : (at process number rest : List ℕ) → HasColumns line at process number rest → HasTailForm version rest → ¬ (AreWithin version at process number) → why ≡ BeyondLimit
-  pub within : (at process number rest : List ℕ) → HasColumns line at process number rest → HasTailForm version rest → AreWithin version at process number → (told : Why) × IsTailWhy names rest told × (why ≡ why_of told)
+  pub beyond : (at process number rest : List ℕ) → HasColumns line at process number rest → HasTailForm version rest
+      → ¬ (AreWithin version at process number) → why ≡ BeyondLimit
+  pub within : (at process number rest : List ℕ) → HasColumns line at process number rest → HasTailForm version rest
+      → AreWithin version at process number → (told : Why) × IsTailWhy names rest told × (why ≡ why_of told)
 
 -- the line is no entry's
 pub record IsNoEntry (version : Version) (names : List (List ℕ)) (line : List ℕ) (why : ReadWhy) : Type 0 where
@@ -76,7 +84,8 @@ pub record IsNoEntry (version : Version) (names : List (List ℕ)) (line : List 
   pub told : IsEntryWhy version names line why
 
 -- the line is that of an entry which may not come after those before it
-pub record IsMisplaced (version : Version) (names : List (List ℕ)) (shape : Extent) (before : List Entry) (line : List ℕ) (why : ReadWhy) : Type 0 where
+pub record IsMisplaced (version : Version) (names : List (List ℕ)) (shape : Extent) (before : List Entry)
+    (line : List ℕ) (why : ReadWhy) : Type 0 where
   pub entry : Entry
   pub spelled : line ≡ entry_text names entry
   pub fits : EntryFits version names entry
@@ -85,7 +94,9 @@ pub record IsMisplaced (version : Version) (names : List (List ℕ)) (shape : Ex
 
 -- the line has the form of an operation's, whatever the limits: these numerals in their places
 abbrev pub IsIdForm : List ℕ → List ℕ → List ℕ → Type 0
-IsIdForm line process number = (is_numeral process ≡ true) × (is_numeral number ≡ true) × (line ≡ codes "p" ++ (process ++ 32 ∷ (codes "#" ++ number)))
+IsIdForm line process number =
+    (is_numeral process ≡ true) × (is_numeral number ≡ true)
+    × (line ≡ codes "p" ++ (process ++ 32 ∷ (codes "#" ++ number)))
 
 abbrev pub HasIdForm : List ℕ → Type 0
 HasIdForm line = (process : List ℕ) × ((number : List ℕ) × IsIdForm line process number)
@@ -99,13 +110,15 @@ abbrev pub HasPointForm : List ℕ → Type 0
 HasPointForm line = (process : List ℕ) × ((number : List ℕ) × ((at : List ℕ) × IsPointForm line process number at))
 
 -- The line is no item's, for this reason: where it has the form of an item's, a number of it is beyond its limit.
-pub record IsBadLine {X : Type 0} (line_of : X → List ℕ) (Fits : X → Type 0) (HasForm : List ℕ → Type 0) (line : List ℕ) (why : ReadWhy) : Type 0 where
+pub record IsBadLine {X : Type 0} (line_of : X → List ℕ) (Fits : X → Type 0) (HasForm : List ℕ → Type 0) (line : List ℕ)
+    (why : ReadWhy) : Type 0 where
   pub none : (x : X) → Fits x → line ≢ line_of x
   pub range : HasForm line → why ≡ BeyondLimit
   pub form : (¬ HasForm line) → why ≡ Misspelt
 
 -- the lines are those of a count and of as many elements, each fit, no more than the limit, and then the rest
-pub record IsCounted {X : Type 0} (mark : List ℕ) (line_of : X → List ℕ) (Fits : List X → X → Type 0) (limit : ℕ) (old rest : List (List ℕ)) (xs : List X) : Type 0 where
+pub record IsCounted {X : Type 0} (mark : List ℕ) (line_of : X → List ℕ) (Fits : List X → X → Type 0) (limit : ℕ)
+    (old rest : List (List ℕ)) (xs : List X) : Type 0 where
   pub lines : old ≡ counted_lines mark line_of xs rest
   pub fit : AllFit Fits xs
   pub few : length xs ≤ limit

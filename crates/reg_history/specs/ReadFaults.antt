@@ -1,6 +1,7 @@
 -- What a fault of a text is in a report. To be believed: a promise speaks of it.
 use Rattle.reg_text.specs.declared.faults.Why.{Why}
-use Rattle.reg_text.specs.declared.faults.Why.TheVariants.{Form as TextForm, Range as TextRange, Name as TextName, End as TextEnd}
+use Rattle.reg_text.specs.declared.faults.Why.TheVariants.{Form as TextForm, Range as TextRange, Name as TextName}
+use Rattle.reg_text.specs.declared.faults.Why.TheVariants.{End as TextEnd}
 use Rattle.reg_text.specs.declared.faults.TextFault.{TextFault}
 use Rattle.reg_text.specs.declared.faults.TextFault.TheVariants.{Line as TextLine, OutOfMemory as TextOutOfMemory}
 use Rattle.reg_history.specs.declared.report_faults.ReadWhy.{ReadWhy}

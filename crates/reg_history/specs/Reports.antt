@@ -1,5 +1,6 @@
 -- The texts of a report. To be believed: promises speak of them.
-use Rattle.std.specs.Prelude.{ℕ, ◌≡◌, ◌≢◌, ◌<◌, ◌≤◌, ◌&&◌, nat_lt, nat_le, Bool, true, ◌⊎◌, List, [], ◌∷◌, ◌++◌, length, codes, Option, None, Some}
+use Rattle.std.specs.Prelude.{ℕ, ◌≡◌, ◌≢◌, ◌<◌, ◌≤◌, ◌&&◌, nat_lt, nat_le, Bool, true, ◌⊎◌, List, [], ◌∷◌, ◌++◌, length}
+use Rattle.std.specs.Prelude.{codes, Option, None, Some}
 use Rattle.std.specs.List.{list_all}
 use Rattle.std.specs.Fmt.{decimal}
 use Rattle.reg_base.specs.declared.memory.OpId.{OpId}
@@ -45,11 +46,13 @@ registers_lines Three names rest = newer_registers_lines names rest
 
 -- the first lines after that of the version, in version 2 and later ones
 abbrev pub newer_head_lines : List ℕ → ℕ → List (List ℕ) → List (List ℕ) → List (List ℕ)
-newer_head_lines front processes names rest = (codes "front " ++ front) ∷ (codes "processes " ++ decimal processes) ∷ newer_registers_lines names rest
+newer_head_lines front processes names rest =
+    (codes "front " ++ front) ∷ (codes "processes " ++ decimal processes) ∷ newer_registers_lines names rest
 
 abbrev pub head_lines : Version → List ℕ → ℕ → List (List ℕ) → List (List ℕ) → List (List ℕ)
 head_lines version front processes names rest =
-    version_line version ∷ (codes "front " ++ front) ∷ (codes "processes " ++ decimal processes) ∷ registers_lines version names rest
+    version_line version ∷ (codes "front " ++ front) ∷ (codes "processes " ++ decimal processes)
+    ∷ registers_lines version names rest
 
 abbrev pub tail_lines : Option (List Point) → List (List ℕ)
 tail_lines None = codes "end" ∷ []
@@ -79,7 +82,8 @@ PointsFit version None = Unit {0}
 PointsFit version (Some points) = AllFit (λ _ p. PointFits version p) points × (length points ≤ MOST_IDS)
 
 -- ids, points and lengths are within the limits of a report of this version
-pub record InRange (version : Version) (entries : List Entry) (order : List OpId) (points : Option (List Point)) : Type 0 where
+pub record InRange (version : Version) (entries : List Entry) (order : List OpId)
+    (points : Option (List Point)) : Type 0 where
   pub few_entries : length entries ≤ MOST_ENTRIES
   pub ids : AllFit (λ _ id. IdFits version id) order
   pub few_ids : length order ≤ MOST_IDS
@@ -109,4 +113,5 @@ SpellsReport text r = (version : Version) × IsReportIn version r × IsTextOf te
 abbrev pub IsReportFault : Contents → ReportFault → Type 0
 IsReportFault r Front = is_front r.front ≢ true
 IsReportFault r Names = (is_front r.front ≡ true) × (r.shape.registers ≢ length r.names)
-IsReportFault r Range = (is_front r.front ≡ true) × (r.shape.registers ≡ length r.names) × (¬ InRange Three r.entries r.order r.points)
+IsReportFault r Range =
+    (is_front r.front ≡ true) × (r.shape.registers ≡ length r.names) × (¬ InRange Three r.entries r.order r.points)

@@ -1,5 +1,6 @@
 -- Readers that stop at a line. They carry a proof: no promise speaks of them.
-use Rattle.std.specs.Prelude.{ℕ, ◌≡◌, ◌≢◌, ◌+◌, ◌<◌, ◌⊎◌, true, false, List, [], ◌∷◌, ◌++◌, length, codes, Option, Some, if◌then◌else◌}
+use Rattle.std.specs.Prelude.{ℕ, ◌≡◌, ◌≢◌, ◌+◌, ◌<◌, ◌⊎◌, true, false, List, [], ◌∷◌, ◌++◌, length, codes, Option, Some}
+use Rattle.std.specs.Prelude.{if◌then◌else◌}
 use Rattle.reg_base.specs.Names.{is_name}
 use Rattle.reg_text.specs.Forms.{is_word}
 use Rattle.reg_text.specs.Reading.{HasValue, IsBlock, IsNext}
@@ -15,7 +16,8 @@ use Rattle.reg_history.specs.Refusals.{IsNoEnd, IsWrongItem, IsWrongNext}
 use Rattle.reg_history.specs.declared.report_faults.ReadFault.{ReadFault}
 use Rattle.reg_history.specs.declared.report_faults.ReadFault.TheVariants.{Line, OutOfMemory}
 use Rattle.reg_history.specs.declared.report_faults.ReadWhy.{ReadWhy}
-use Rattle.reg_history.specs.declared.report_faults.ReadWhy.TheVariants.{Form as Misspelt, Name as BadName, End as NoLine}
+use Rattle.reg_history.specs.declared.report_faults.ReadWhy.TheVariants.{Form as Misspelt, Name as BadName}
+use Rattle.reg_history.specs.declared.report_faults.ReadWhy.TheVariants.{End as NoLine}
 
 -- the value of its operation or answer has 64 bits
 abbrev pub EntryHasValue : Entry → Type 0
@@ -45,7 +47,8 @@ pub record IsWrongName (count : ℕ) (old : Rest) (names : List (List ℕ)) (fau
   pub wrong : IsWrongNext IsNoName next why
 
 -- the fault is of a line, and it is wrong there
-pub record IsStop (IsWrong : List (List ℕ) → Option (List ℕ) → ReadWhy → Type 0) (old : Rest) (fault : ReadFault) : Type 0 where
+pub record IsStop (IsWrong : List (List ℕ) → Option (List ℕ) → ReadWhy → Type 0) (old : Rest)
+    (fault : ReadFault) : Type 0 where
   pub number : ℕ
   pub why : ReadWhy
   pub told : fault ≡ Line number why
@@ -68,10 +71,14 @@ IsFurther before next why = (before ≡ []) × (line : List ℕ) × (next ≡ So
 
 -- the last line is missing, or one more stands after it
 abbrev pub IsWrongEnd : List (List ℕ) → Option (List ℕ) → ReadWhy → Type 0
-IsWrongEnd before next why = IsFirst IsNoEnd before next why ⊎ ((before ≡ codes "end" ∷ []) × (line : List ℕ) × (next ≡ Some line) × (why ≡ NoLine))
+IsWrongEnd before next why =
+    IsFirst IsNoEnd before next why
+    ⊎ ((before ≡ codes "end" ∷ []) × (line : List ℕ) × (next ≡ Some line) × (why ≡ NoLine))
 
 -- one of the given number of points is wrong, or their last line is, or one more stands after it
 abbrev pub IsWrongPoints : Version → ℕ → List (List ℕ) → Option (List ℕ) → ReadWhy → Type 0
 IsWrongPoints version count before next why =
-    IsWrongItem point_text (λ _ p. PointFits version p) (λ _. IsBadLine point_text (PointFits version) HasPointForm) count before next why
-    ⊎ ((points : List Point) × (last : List (List ℕ)) × IsBlock point_text (λ _ p. PointFits version p) count before last points × IsWrongEnd last next why)
+    IsWrongItem point_text (λ _ p. PointFits version p)
+    (λ _. IsBadLine point_text (PointFits version) HasPointForm) count before next why
+    ⊎ ((points : List Point) × (last : List (List ℕ))
+    × IsBlock point_text (λ _ p. PointFits version p) count before last points × IsWrongEnd last next why)

@@ -22,8 +22,11 @@ use std::alloc::Allocator;
 /// The item of the next line.
 fn read_item<T: Listed>(lines: &mut Lines<'_>, version: Version) -> Result<T, ReadFault>
     ensures read { IfOk result (λ x. T.Fits version x × (lines.old.left ≡ T.line_of x ∷ lines.new.left)) }
-    ensures whole { (x : T) (rest : List (List ℕ)) → T.Fits version x → lines.old.left ≡ T.line_of x ∷ rest → result ≡ Ok x }
-    ensures why { IfErr result (λ f. (why : Why) × (next : Option (List ℕ)) × (f ≡ ReadFault.Line lines.new.number why) × IsNext lines.old.left next × IsWrongNext (IsBadLine T.line_of (T.Fits version) T.HasForm) next why) }
+    ensures whole { (x : T) (rest : List (List ℕ)) → T.Fits version x → lines.old.left ≡ T.line_of x ∷ rest
+        → result ≡ Ok x }
+    ensures why { IfErr result
+        (λ f. (why : Why) × (next : Option (List ℕ)) × (f ≡ ReadFault.Line lines.new.number why)
+        × IsNext lines.old.left next × IsWrongNext (IsBadLine T.line_of (T.Fits version) T.HasForm) next why) }
     ensures asked { IsAsked lines.old lines.new }
 {
     let Some(line) = lines.next() else {
@@ -42,10 +45,14 @@ pub fn read_block<T: Listed, A: Allocator + Copy>(
     count: u32,
     version: Version,
 ) -> Result<Vec<T, A>, ReadFault>
-    ensures read { IfOk result (λ v. IsBlock T.line_of (λ _ x. T.Fits version x) count lines.old.left lines.new.left v.items) }
-    ensures whole { (ys : List T) (rest : List (List ℕ)) → IsBlock T.line_of (λ _ x. T.Fits version x) count lines.old.left rest ys
+    ensures read { IfOk result
+        (λ v. IsBlock T.line_of (λ _ x. T.Fits version x) count lines.old.left lines.new.left v.items) }
+    ensures whole { (ys : List T) (rest : List (List ℕ))
+        → IsBlock T.line_of (λ _ x. T.Fits version x) count lines.old.left rest ys
         → MatchResult result (λ v. (v.items ≡ ys) × (lines.new.left ≡ rest)) (λ f. f ≡ ReadFault.OutOfMemory) }
-    ensures stopped { IfErr result (IsFailure (IsWrongItem T.line_of (λ _ x. T.Fits version x) (λ _. IsBadLine T.line_of (T.Fits version) T.HasForm) count) lines.old) }
+    ensures stopped { IfErr result
+        (IsFailure (IsWrongItem T.line_of (λ _ x. T.Fits version x)
+        (λ _. IsBadLine T.line_of (T.Fits version) T.HasForm) count) lines.old) }
     ensures on { OnOk result (GoesOn lines.old lines.new) }
 {
     let mut items = Vec::new(alloc);
@@ -68,11 +75,18 @@ pub fn read_entries<A: Allocator + Copy>(
 ) -> Result<(), ReadFault>
     requires spelt { names_fault names.now ≡ None }
     requires empty { history.old.entries ≡ [] }
-    ensures read { OnOk result (IsBlock (entry_text names.now) (Follows version names.now history.old.shape) count lines.old.left lines.new.left history.new.entries) }
+    ensures read { OnOk result
+        (IsBlock (entry_text names.now) (Follows version names.now history.old.shape) count lines.old.left
+        lines.new.left history.new.entries) }
     ensures shape { OnOk result (history.new.shape ≡ history.old.shape) }
-    ensures whole { (ys : List Entry) (rest : List (List ℕ)) → IsBlock (entry_text names.now) (Follows version names.now history.old.shape) count lines.old.left rest ys
-        → MatchResult result (λ _. (history.new.entries ≡ ys) × (lines.new.left ≡ rest)) (λ f. f ≡ ReadFault.OutOfMemory) }
-    ensures stopped { IfErr result (IsFailure (IsWrongItem (entry_text names.now) (Follows version names.now history.old.shape) (IsNoNextEntry version names.now history.old.shape) count) lines.old) }
+    ensures whole { (ys : List Entry) (rest : List (List ℕ))
+        → IsBlock (entry_text names.now) (Follows version names.now history.old.shape) count lines.old.left rest ys
+        → MatchResult result (λ _. (history.new.entries ≡ ys) × (lines.new.left ≡ rest))
+        (λ f. f ≡ ReadFault.OutOfMemory) }
+    ensures stopped { IfErr result
+        (IsFailure (IsWrongItem (entry_text names.now) (Follows version names.now history.old.shape)
+        (IsNoNextEntry version names.now history.old.shape) count)
+        lines.old) }
     ensures on { OnOk result (GoesOn lines.old lines.new) }
 {
     for _place in 0..count {

@@ -1,5 +1,6 @@
 //! Readers of the lines of a history.
-ghost use Rattle.std.specs.Prelude.{◌≡◌, ◌↔◌, ◌⊎◌, ◌++◌, ℕ, List, true, codes, None, Some, IfSome, IsSome, IsSomeAnd, IsTrue};
+ghost use Rattle.std.specs.Prelude.{◌≡◌, ◌↔◌, ◌⊎◌, ◌++◌, ℕ, List, true, codes, None, Some, IfSome, IsSome, IsSomeAnd};
+ghost use Rattle.std.specs.Prelude.{IsTrue};
 ghost use Rattle.reg_base.specs.Names.{names_fault};
 ghost use Rattle.reg_base.specs.declared.memory.Answer.{Answer};
 ghost use Rattle.reg_checkers.specs.declared.entries.Entry.{Entry};
@@ -7,7 +8,8 @@ ghost use Rattle.reg_text.specs.declared.faults.Why.{Why as AnyWhy};
 ghost use Rattle.reg_history.specs.EntryLines.{AnswerFits, columns_text, ColumnsFit, entry_text, EntryFits};
 ghost use Rattle.reg_base.specs.declared.memory.Op.{Op as AnyOp};
 ghost use Rattle.reg_text.specs.Ops.{answer_text, op_text, OpFits};
-ghost use Rattle.reg_history.specs.LineForms.{AreWithin, HasAnswerForm, HasCallForm, HasColumns, HasEntryForm, HasTailForm, IsTailWhy};
+ghost use Rattle.reg_history.specs.LineForms.{AreWithin, HasAnswerForm, HasCallForm, HasColumns, HasEntryForm};
+ghost use Rattle.reg_history.specs.LineForms.{HasTailForm, IsTailWhy};
 ghost use Rattle.reg_history.specs.Versions.{compares, may_answer, may_call};
 ghost use Rattle.reg_history.specs.ReadFaults.{why_of};
 ghost use Rattle.reg_text.specs.Forms.{is_numeral as is_numeral_of, IsOpWhy};
@@ -24,8 +26,10 @@ use std::alloc::Allocator;
 /// The operation that is the whole of the text, where a report of this version may have it.
 fn read_call<A: Allocator + Copy>(text: &[u8], names: &Names<A>, version: Version) -> Option<Op>
     requires { names_fault names.now ≡ None }
-    ensures read { IfSome result (λ op. (text.now ≡ op_text names.now op) × OpFits names.now op × (may_call version op ≡ true)) }
-    ensures whole { (op : AnyOp) → OpFits names.now op → may_call version op ≡ true → text.now ≡ op_text names.now op → result ≡ Some op }
+    ensures read { IfSome result
+        (λ op. (text.now ≡ op_text names.now op) × OpFits names.now op × (may_call version op ≡ true)) }
+    ensures whole { (op : AnyOp) → OpFits names.now op → may_call version op ≡ true → text.now ≡ op_text names.now op
+        → result ≡ Some op }
 {
     let op = read_op(text, names)?;
     if version.may_call(op) { Some(op) } else { None }
@@ -34,7 +38,8 @@ fn read_call<A: Allocator + Copy>(text: &[u8], names: &Names<A>, version: Versio
 /// The answer that is the whole of the bytes, where a report of this version may have it.
 fn read_answer(bytes: &[u8], version: Version) -> Option<Answer>
     ensures read { IfSome result (λ x. (bytes.now ≡ answer_text x) × AnswerFits x × (may_answer version x ≡ true)) }
-    ensures whole { (x : Answer) → AnswerFits x → may_answer version x ≡ true → bytes.now ≡ answer_text x → result ≡ Some x }
+    ensures whole { (x : Answer) → AnswerFits x → may_answer version x ≡ true → bytes.now ≡ answer_text x
+        → result ≡ Some x }
 {
     let answer = spelled_answer(bytes)?;
     if version.may_answer(answer) {
@@ -71,7 +76,9 @@ fn are_within(version: Version, at: u64, process: u64, number: u64) -> bool
 /// The columns of a line, and the rest.
 fn read_columns(line: &[u8], version: Version) -> Option<(u32, u8, u32, &[u8])>
     ensures read { IfSome result (λ p. (line.now ≡ columns_text p.0 p.1 p.2 p.3.now) × ColumnsFit version p.0 p.1 p.2) }
-    ensures whole { (at process number : ℕ) (rest : List ℕ) → ColumnsFit version at process number → line.now ≡ columns_text at process number rest → IsSomeAnd result (λ p. (p.0 ≡ at) × (p.1 ≡ process) × (p.2 ≡ number) × (p.3.now ≡ rest)) }
+    ensures whole { (at process number : ℕ) (rest : List ℕ) → ColumnsFit version at process number
+        → line.now ≡ columns_text at process number rest
+        → IsSomeAnd result (λ p. (p.0 ≡ at) × (p.1 ≡ process) × (p.2 ≡ number) × (p.3.now ≡ rest)) }
 {
     let (at, after) = right_field(line, 8, b"  p")?;
     let (process, others) = left_field(after, 3, b"  #")?;
@@ -129,7 +136,8 @@ fn answer_form(text: &[u8], version: Version) -> Option<Why>
 
 /// Why a text is not read as an operation of this version. None where it has the form of none.
 fn call_form<A: Allocator + Copy>(text: &[u8], names: &Names<A>, version: Version) -> Option<Why>
-    ensures read { IfSome result (λ why. HasCallForm version text.now × IsOpWhy names.now text.now why × ((why ≡ Why.Range) ⊎ (why ≡ Why.Name))) }
+    ensures read { IfSome result (λ why. HasCallForm version text.now × IsOpWhy names.now text.now why
+        × ((why ≡ Why.Range) ⊎ (why ≡ Why.Name))) }
     ensures whole { HasCallForm version text.now → IsSome result }
 {
     if version.compares() {
@@ -143,7 +151,8 @@ fn call_form<A: Allocator + Copy>(text: &[u8], names: &Names<A>, version: Versio
 
 /// Why what stands after the columns is not read. None where its form is not kept.
 fn tail_form<A: Allocator + Copy>(rest: &[u8], names: &Names<A>, version: Version) -> Option<Why>
-    ensures read { IfSome result (λ why. HasTailForm version rest.now × IsTailWhy names.now rest.now why × ((why ≡ Why.Range) ⊎ (why ≡ Why.Name))) }
+    ensures read { IfSome result (λ why. HasTailForm version rest.now × IsTailWhy names.now rest.now why
+        × ((why ≡ Why.Range) ⊎ (why ≡ Why.Name))) }
     ensures whole { HasTailForm version rest.now → IsSome result }
 {
     match skip(rest, b"call    ") {
@@ -165,8 +174,10 @@ fn columns_fit(version: Version, at: &[u8], process: &[u8], number: &[u8]) -> bo
 fn entry_form<A: Allocator + Copy>(line: &[u8], names: &Names<A>, version: Version) -> Option<Why>
     ensures read { IfSome result (λ why. HasEntryForm version line.now × ((why ≡ Why.Range) ⊎ (why ≡ Why.Name))) }
     ensures whole { HasEntryForm version line.now → IsSome result }
-    ensures beyond { (at process number rest : List ℕ) → HasColumns line.now at process number rest → ¬ (AreWithin version at process number) → IfSome result (λ why. why ≡ Why.Range) }
-    ensures within { (at process number rest : List ℕ) → HasColumns line.now at process number rest → AreWithin version at process number → IfSome result (IsTailWhy names.now rest) }
+    ensures beyond { (at process number rest : List ℕ) → HasColumns line.now at process number rest
+        → ¬ (AreWithin version at process number) → IfSome result (λ why. why ≡ Why.Range) }
+    ensures within { (at process number rest : List ℕ) → HasColumns line.now at process number rest
+        → AreWithin version at process number → IfSome result (IsTailWhy names.now rest) }
 {
     let (at, process, number, rest) = columns_form(line)?;
     let why = tail_form(rest, names, version)?;
@@ -181,8 +192,11 @@ fn entry_form<A: Allocator + Copy>(line: &[u8], names: &Names<A>, version: Versi
 /// them tells.
 pub fn why_entry<A: Allocator + Copy>(line: &[u8], names: &Names<A>, version: Version) -> ReadWhy
     ensures form { (¬ (HasEntryForm version line.now)) → result ≡ ReadWhy.Form }
-    ensures beyond { (at process number rest : List ℕ) → HasColumns line.now at process number rest → HasTailForm version rest → ¬ (AreWithin version at process number) → result ≡ ReadWhy.Range }
-    ensures within { (at process number rest : List ℕ) → HasColumns line.now at process number rest → HasTailForm version rest → AreWithin version at process number → (why : AnyWhy) × IsTailWhy names.now rest why × (result ≡ why_of why) }
+    ensures beyond { (at process number rest : List ℕ) → HasColumns line.now at process number rest
+        → HasTailForm version rest → ¬ (AreWithin version at process number) → result ≡ ReadWhy.Range }
+    ensures within { (at process number rest : List ℕ) → HasColumns line.now at process number rest
+        → HasTailForm version rest → AreWithin version at process number
+        → (why : AnyWhy) × IsTailWhy names.now rest why × (result ≡ why_of why) }
 {
     match entry_form(line, names, version) {
         Some(why) => ReadWhy::from(why),

@@ -14,8 +14,11 @@ use reg_text::{cut_at, field_within, form, is_numeral, numeral_within, skip};
 
 /// The numeral of the process of a line, and what stands after the sign of the number.
 fn process_form(line: &[u8]) -> Option<(&[u8], &[u8])>
-    ensures read { IfSome result (λ p. (is_numeral_of p.0.now ≡ true) × (line.now ≡ codes "p" ++ (p.0.now ++ 32 ∷ (codes "#" ++ p.1.now)))) }
-    ensures whole { (process rest : List ℕ) → is_numeral_of process ≡ true → line.now ≡ codes "p" ++ (process ++ 32 ∷ (codes "#" ++ rest)) → IsSomeAnd result (λ p. (p.0.now ≡ process) × (p.1.now ≡ rest)) }
+    ensures read { IfSome result
+        (λ p. (is_numeral_of p.0.now ≡ true) × (line.now ≡ codes "p" ++ (p.0.now ++ 32 ∷ (codes "#" ++ p.1.now)))) }
+    ensures whole { (process rest : List ℕ) → is_numeral_of process ≡ true
+        → line.now ≡ codes "p" ++ (process ++ 32 ∷ (codes "#" ++ rest))
+        → IsSomeAnd result (λ p. (p.0.now ≡ process) × (p.1.now ≡ rest)) }
 {
     let text = skip(line, b"p")?;
     let (process, after) = cut_at(text, b' ')?;
@@ -49,8 +52,11 @@ fn point_form(line: &[u8]) -> Option<()>
 
 /// The process of a line, within the limit, and what stands after the sign of the number.
 fn read_process(line: &[u8], version: Version) -> Option<(u8, &[u8])>
-    ensures read { IfSome result (λ p. (p.0 < most_processes version) × (line.now ≡ codes "p" ++ (decimal p.0 ++ 32 ∷ (codes "#" ++ p.1.now)))) }
-    ensures whole { (process : ℕ) (rest : List ℕ) → process < most_processes version → line.now ≡ codes "p" ++ (decimal process ++ 32 ∷ (codes "#" ++ rest)) → IsSomeAnd result (λ p. (p.0 ≡ process) × (p.1.now ≡ rest)) }
+    ensures read { IfSome result
+        (λ p. (p.0 < most_processes version) × (line.now ≡ codes "p" ++ (decimal p.0 ++ 32 ∷ (codes "#" ++ p.1.now)))) }
+    ensures whole { (process : ℕ) (rest : List ℕ) → process < most_processes version
+        → line.now ≡ codes "p" ++ (decimal process ++ 32 ∷ (codes "#" ++ rest))
+        → IsSomeAnd result (λ p. (p.0 ≡ process) × (p.1.now ≡ rest)) }
 {
     let text = skip(line, b"p")?;
     let (process, after) = field_within(text, version.last_process() as u64, b' ')?;

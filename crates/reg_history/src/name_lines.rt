@@ -1,5 +1,6 @@
 //! Readers of the registers of a report.
-ghost use Rattle.std.specs.Prelude.{◌≡◌, ◌≢◌, ◌<◌, ◌≤◌, ◌+◌, ◌^◌, ◌⊎◌, ◌++◌, ℕ, List, length, true, None, Some, IfOk, IfErr, OnOk, IfNone, IfSome, MatchResult, MatchOption, string_bytes, if◌then◌else◌};
+ghost use Rattle.std.specs.Prelude.{◌≡◌, ◌≢◌, ◌<◌, ◌≤◌, ◌+◌, ◌^◌, ◌⊎◌, ◌++◌, ℕ, List, length, true, None, Some, IfOk};
+ghost use Rattle.std.specs.Prelude.{IfErr, OnOk, IfNone, IfSome, MatchResult, MatchOption, string_bytes, if◌then◌else◌};
 ghost use Rattle.reg_base.specs.Names.{is_name as is_name_of, names_fault, texts};
 ghost use Rattle.reg_text.specs.Reading.{GoesOn, IsBlock};
 ghost use Rattle.reg_text.specs.Forms.{is_word as is_word_of};
@@ -21,7 +22,9 @@ use std::alloc::{AllocError, Allocator};
 
 /// The name that is the whole of a line. None where the line is no name, and then `why_name` says why.
 fn name_of_line<A: Allocator + Copy>(alloc: A, line: &[u8]) -> Result<Option<String<A>>, AllocError>
-    ensures { IfOk result (λ o. MatchOption o (is_name_of line.now ≢ true) (λ s. (string_bytes s ≡ line.now) × (is_name_of line.now ≡ true))) }
+    ensures { IfOk result
+        (λ o. MatchOption o (is_name_of line.now ≢ true)
+        (λ s. (string_bytes s ≡ line.now) × (is_name_of line.now ≡ true))) }
 {
     match owned(alloc, line)? {
         Some(name) => {
@@ -52,10 +55,14 @@ struct Spelt<A: Allocator + Copy> {
 
 /// The names of as many lines as the count says, whether or not they differ.
 fn read_spelt<A: Allocator + Copy>(alloc: A, lines: &mut Lines<'_>, count: u32) -> Spelt<A>
-    ensures read { IfNone result.stop (IsBlock (λ n. n) (λ _ n. is_name_of n ≡ true) count lines.old.left lines.new.left (texts result.names.items)) }
-    ensures whole { (ys rest : List (List ℕ)) → IsBlock (λ n. n) (λ _ n. is_name_of n ≡ true) count lines.old.left rest ys
-        → MatchOption result.stop ((texts result.names.items ≡ ys) × (lines.new.left ≡ rest)) (λ f. f ≡ ReadFault.OutOfMemory) }
-    ensures wrong { IfSome result.stop (λ f. (f ≡ ReadFault.OutOfMemory) ⊎ IsWrongName count lines.old (texts result.names.items) f) }
+    ensures read { IfNone result.stop (IsBlock (λ n. n)
+        (λ _ n. is_name_of n ≡ true) count lines.old.left lines.new.left (texts result.names.items)) }
+    ensures whole { (ys rest : List (List ℕ))
+        → IsBlock (λ n. n) (λ _ n. is_name_of n ≡ true) count lines.old.left rest ys
+        → MatchOption result.stop ((texts result.names.items ≡ ys) × (lines.new.left ≡ rest))
+        (λ f. f ≡ ReadFault.OutOfMemory) }
+    ensures wrong { IfSome result.stop
+        (λ f. (f ≡ ReadFault.OutOfMemory) ⊎ IsWrongName count lines.old (texts result.names.items) f) }
     ensures on { IfNone result.stop (GoesOn lines.old lines.new) }
 {
     let mut names = Vec::new(alloc);
@@ -86,7 +93,9 @@ fn read_spelt<A: Allocator + Copy>(alloc: A, lines: &mut Lines<'_>, count: u32) 
 /// The fault of the first name that stands earlier too, by the number of the line before the first name; and else the
 /// other fault.
 fn first_fault(fault: NamesFault, before: u64, other: ReadFault) -> ReadFault
-    ensures same { (place : ℕ) → fault ≡ NamesFault.SameName place → (number : ℕ) × (result ≡ ReadFault.Line number ReadWhy.Name) × (before + place + 1 < 2 ^ 64 → number ≡ before + place + 1) }
+    ensures same { (place : ℕ) → fault ≡ NamesFault.SameName place
+        → (number : ℕ) × (result ≡ ReadFault.Line number ReadWhy.Name)
+        × (before + place + 1 < 2 ^ 64 → number ≡ before + place + 1) }
     ensures other { ((place : ℕ) → fault ≢ NamesFault.SameName place) → result ≡ other }
 {
     match fault {
@@ -106,8 +115,12 @@ fn stopped_at<A: Allocator + Copy>(
     stop: ReadFault,
 ) -> ReadFault
     ensures memory { stop ≡ ReadFault.OutOfMemory → result ≡ ReadFault.OutOfMemory }
-    ensures same { (place : ℕ) → stop ≢ ReadFault.OutOfMemory → names_fault (texts names.items) ≡ Some (NamesFault.SameName place) → (number : ℕ) × (result ≡ ReadFault.Line number ReadWhy.Name) × (before + place + 1 < 2 ^ 64 → number ≡ before + place + 1) }
-    ensures other { ((place : ℕ) → ¬ (names_fault (texts names.items) ≡ Some (NamesFault.SameName place))) → result ≡ stop }
+    ensures same { (place : ℕ) → stop ≢ ReadFault.OutOfMemory
+        → names_fault (texts names.items) ≡ Some (NamesFault.SameName place)
+        → (number : ℕ) × (result ≡ ReadFault.Line number ReadWhy.Name)
+        × (before + place + 1 < 2 ^ 64 → number ≡ before + place + 1) }
+    ensures other { ((place : ℕ) → ¬ (names_fault (texts names.items) ≡ Some (NamesFault.SameName place)))
+        → result ≡ stop }
 {
     if stop == ReadFault::OutOfMemory {
         return stop;
@@ -125,10 +138,12 @@ fn read_listed<A: Allocator + Copy>(
     lines: &mut Lines<'_>,
     count: u32,
 ) -> Result<Names<A>, ReadFault>
-    ensures read { IfOk result (λ n. (lines.old.left ≡ n ++ lines.new.left) × (length n ≡ count) × (names_fault n ≡ None)) }
+    ensures read { IfOk result
+        (λ n. (lines.old.left ≡ n ++ lines.new.left) × (length n ≡ count) × (names_fault n ≡ None)) }
     ensures whole { (ns rest : List (List ℕ)) → names_fault ns ≡ None → length ns ≡ count → lines.old.left ≡ ns ++ rest
         → MatchResult result (λ n. (n ≡ ns) × (lines.new.left ≡ rest)) (λ f. f ≡ ReadFault.OutOfMemory) }
-    ensures stopped { 0 < count → count ≤ MOST_REGISTERS → IfErr result (IsFailure (IsWrongItem (λ n. n) IsNewName IsNoNewName count) lines.old) }
+    ensures stopped { 0 < count → count ≤ MOST_REGISTERS
+        → IfErr result (IsFailure (IsWrongItem (λ n. n) IsNewName IsNoNewName count) lines.old) }
     ensures on { OnOk result (GoesOn lines.old lines.new) }
 {
     let before = lines.number();
@@ -150,8 +165,11 @@ fn read_older_registers<A: Allocator + Copy>(
     alloc: A,
     lines: &mut Lines<'_>,
 ) -> Result<Names<A>, ReadFault>
-    ensures read { IfOk result (λ n. (lines.old.left ≡ registers_lines One n lines.new.left) × (names_fault n ≡ None) × (length n ≤ most_registers One)) }
-    ensures whole { (names rest : List (List ℕ)) → names_fault names ≡ None → length names ≤ most_registers One → lines.old.left ≡ registers_lines One names rest
+    ensures read { IfOk result
+        (λ n. (lines.old.left ≡ registers_lines One n lines.new.left) × (names_fault n ≡ None)
+        × (length n ≤ most_registers One)) }
+    ensures whole { (names rest : List (List ℕ)) → names_fault names ≡ None → length names ≤ most_registers One
+        → lines.old.left ≡ registers_lines One names rest
         → MatchResult result (λ n. (n ≡ names) × (lines.new.left ≡ rest)) (λ f. f ≡ ReadFault.OutOfMemory) }
     ensures stopped { IfErr result (IsFailure (IsWrongNames One) lines.old) }
     ensures on { OnOk result (GoesOn lines.old lines.new) }
@@ -165,8 +183,11 @@ fn read_newer_registers<A: Allocator + Copy>(
     alloc: A,
     lines: &mut Lines<'_>,
 ) -> Result<Names<A>, ReadFault>
-    ensures read { IfOk result (λ n. (lines.old.left ≡ registers_lines Two n lines.new.left) × (names_fault n ≡ None) × (length n ≤ most_registers Two)) }
-    ensures whole { (names rest : List (List ℕ)) → names_fault names ≡ None → length names ≤ most_registers Two → lines.old.left ≡ registers_lines Two names rest
+    ensures read { IfOk result
+        (λ n. (lines.old.left ≡ registers_lines Two n lines.new.left) × (names_fault n ≡ None)
+        × (length n ≤ most_registers Two)) }
+    ensures whole { (names rest : List (List ℕ)) → names_fault names ≡ None → length names ≤ most_registers Two
+        → lines.old.left ≡ registers_lines Two names rest
         → MatchResult result (λ n. (n ≡ names) × (lines.new.left ≡ rest)) (λ f. f ≡ ReadFault.OutOfMemory) }
     ensures stopped { IfErr result (IsFailure (IsWrongNames Two) lines.old) }
     ensures on { OnOk result (GoesOn lines.old lines.new) }
@@ -184,8 +205,11 @@ pub fn read_registers<A: Allocator + Copy>(
     lines: &mut Lines<'_>,
     version: Version,
 ) -> Result<Names<A>, ReadFault>
-    ensures read { IfOk result (λ n. (lines.old.left ≡ registers_lines version n lines.new.left) × (names_fault n ≡ None) × (length n ≤ most_registers version)) }
-    ensures whole { (names rest : List (List ℕ)) → names_fault names ≡ None → length names ≤ most_registers version → lines.old.left ≡ registers_lines version names rest
+    ensures read { IfOk result
+        (λ n. (lines.old.left ≡ registers_lines version n lines.new.left) × (names_fault n ≡ None)
+        × (length n ≤ most_registers version)) }
+    ensures whole { (names rest : List (List ℕ)) → names_fault names ≡ None → length names ≤ most_registers version
+        → lines.old.left ≡ registers_lines version names rest
         → MatchResult result (λ n. (n ≡ names) × (lines.new.left ≡ rest)) (λ f. f ≡ ReadFault.OutOfMemory) }
     ensures stopped { IfErr result (IsFailure (IsWrongNames version) lines.old) }
     ensures on { OnOk result (GoesOn lines.old lines.new) }

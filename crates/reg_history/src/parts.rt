@@ -1,5 +1,6 @@
 //! The counted parts of a report.
-ghost use Rattle.std.specs.Prelude.{◌≡◌, ◌<◌, ◌≤◌, length, ℕ, List, [], ◌∷◌, ◌++◌, None, Ok, IfOk, IfErr, OnOk, MatchResult, codes, Option, option_map, string_bytes, true};
+ghost use Rattle.std.specs.Prelude.{◌≡◌, ◌<◌, ◌≤◌, length, ℕ, List, [], ◌∷◌, ◌++◌, None, Ok, IfOk, IfErr, OnOk};
+ghost use Rattle.std.specs.Prelude.{MatchResult, codes, Option, option_map, string_bytes, true};
 ghost use Rattle.std.specs.Fmt.{decimal};
 ghost use Rattle.reg_base.specs.Names.{names_fault};
 ghost use Rattle.reg_base.specs.declared.memory.OpId.{OpId};
@@ -10,7 +11,8 @@ ghost use Rattle.reg_history.specs.Reports.{is_front as is_front_of};
 ghost use Rattle.reg_history.specs.IdLines.{id_text, IdFits, point_text, PointFits};
 ghost use Rattle.reg_text.specs.Reading.{GoesOn, IsBlock};
 ghost use Rattle.reg_history.specs.LineForms.{Follows, HasIdForm, IsBadLine, IsCounted};
-ghost use Rattle.reg_history.specs.Refusals.{IsNoCount, IsNoFront, IsNoNextEntry, IsNoVersion, IsWrongCounted, IsWrongHead, IsWrongLists, IsWrongTail};
+ghost use Rattle.reg_history.specs.Refusals.{IsNoCount, IsNoFront, IsNoNextEntry, IsNoVersion, IsWrongCounted};
+ghost use Rattle.reg_history.specs.Refusals.{IsWrongHead, IsWrongLists, IsWrongTail};
 ghost use Rattle.reg_history.specs.Stops.{IsFailure, IsFirst, IsFurther, IsWrongEnd, IsWrongPoints};
 ghost use Rattle.reg_history.specs.declared.report_faults.ReadWhy.{ReadWhy as Why};
 ghost use Rattle.reg_history.specs.Reports.{tail_lines, PointsFit, head_lines};
@@ -38,9 +40,13 @@ pub fn is_front(word: &[u8]) -> bool
 
 /// The word of the line of the front end.
 fn read_front<A: Allocator + Copy>(alloc: A, lines: &mut Lines<'_>) -> Result<String<A>, ReadFault>
-    ensures read { IfOk result (λ s. (lines.old.left ≡ (codes "front " ++ string_bytes s) ∷ lines.new.left) × (is_front_of (string_bytes s) ≡ true)) }
-    ensures whole { (front : List ℕ) (rest : List (List ℕ)) → is_front_of front ≡ true → lines.old.left ≡ (codes "front " ++ front) ∷ rest
-        → MatchResult result (λ s. (string_bytes s ≡ front) × (lines.new.left ≡ rest)) (λ f. f ≡ ReadFault.OutOfMemory) }
+    ensures read { IfOk result
+        (λ s. (lines.old.left ≡ (codes "front " ++ string_bytes s) ∷ lines.new.left)
+        × (is_front_of (string_bytes s) ≡ true)) }
+    ensures whole { (front : List ℕ) (rest : List (List ℕ)) → is_front_of front ≡ true
+        → lines.old.left ≡ (codes "front " ++ front) ∷ rest
+        → MatchResult result (λ s. (string_bytes s ≡ front) × (lines.new.left ≡ rest))
+        (λ f. f ≡ ReadFault.OutOfMemory) }
     ensures stopped { IfErr result (IsFailure (IsFirst IsNoFront) lines.old) }
     ensures on { OnOk result (GoesOn lines.old lines.new) }
 {
@@ -79,10 +85,14 @@ fn read_version(lines: &mut Lines<'_>) -> Result<Version, ReadFault>
 
 /// The number of processes.
 fn read_processes(lines: &mut Lines<'_>, version: Version) -> Result<u32, ReadFault>
-    ensures read { IfOk result (λ n. (lines.old.left ≡ (codes "processes " ++ decimal n) ∷ lines.new.left) × (0 < n) × (n ≤ most_processes version)) }
-    ensures whole { (n : ℕ) (rest : List (List ℕ)) → 0 < n → n ≤ most_processes version → lines.old.left ≡ (codes "processes " ++ decimal n) ∷ rest
+    ensures read { IfOk result
+        (λ n. (lines.old.left ≡ (codes "processes " ++ decimal n) ∷ lines.new.left) × (0 < n)
+        × (n ≤ most_processes version)) }
+    ensures whole { (n : ℕ) (rest : List (List ℕ)) → 0 < n → n ≤ most_processes version
+        → lines.old.left ≡ (codes "processes " ++ decimal n) ∷ rest
         → MatchResult result (λ m. (m ≡ n) × (lines.new.left ≡ rest)) (λ _. ⊥) }
-    ensures stopped { IfErr result (IsFailure (IsFirst (IsNoCount (codes "processes ") 1 (most_processes version))) lines.old) }
+    ensures stopped { IfErr result
+        (IsFailure (IsFirst (IsNoCount (codes "processes ") 1 (most_processes version))) lines.old) }
     ensures on { OnOk result (GoesOn lines.old lines.new) }
 {
     let processes = read_count(lines, b"processes ", version.most_processes() as u64)?;
@@ -97,11 +107,18 @@ pub fn read_head<A: Allocator + Copy>(
     alloc: A,
     lines: &mut Lines<'_>,
 ) -> Result<(Version, String<A>, u32, Names<A>), ReadFault>
-    ensures read { IfOk result (λ h. (lines.old.left ≡ head_lines h.0 (string_bytes h.1) h.2 h.3 lines.new.left) × (is_front_of (string_bytes h.1) ≡ true) × (0 < h.2) × (h.2 ≤ most_processes h.0) × (names_fault h.3 ≡ None) × (length h.3 ≤ most_registers h.0)) }
+    ensures read { IfOk result
+        (λ h. (lines.old.left ≡ head_lines h.0 (string_bytes h.1) h.2 h.3 lines.new.left)
+        × (is_front_of (string_bytes h.1) ≡ true) × (0 < h.2) × (h.2 ≤ most_processes h.0) × (names_fault h.3 ≡ None)
+        × (length h.3 ≤ most_registers h.0)) }
     ensures whole { (version : Version) (front : List ℕ) (processes : ℕ) (names : List (List ℕ)) (rest : List (List ℕ))
-        → is_front_of front ≡ true → 0 < processes → processes ≤ most_processes version → names_fault names ≡ None → length names ≤ most_registers version
+        → is_front_of front ≡ true → 0 < processes → processes ≤ most_processes version → names_fault names ≡ None
+        → length names ≤ most_registers version
         → lines.old.left ≡ head_lines version front processes names rest
-        → MatchResult result (λ h. (h.0 ≡ version) × (string_bytes h.1 ≡ front) × (h.2 ≡ processes) × (h.3 ≡ names) × (lines.new.left ≡ rest)) (λ f. f ≡ ReadFault.OutOfMemory) }
+        → MatchResult result
+        (λ h. (h.0 ≡ version) × (string_bytes h.1 ≡ front) × (h.2 ≡ processes) × (h.3 ≡ names)
+        × (lines.new.left ≡ rest))
+        (λ f. f ≡ ReadFault.OutOfMemory) }
     ensures stopped { IfErr result (IsFailure (IsWrongHead) lines.old) }
     ensures on { OnOk result (GoesOn lines.old lines.new) }
 {
@@ -122,10 +139,17 @@ pub fn read_history<A: Allocator + Copy>(
 ) -> Result<History<A>, ReadFault>
     requires { names_fault names.now ≡ None }
     ensures shape { IfOk result (λ h. h.shape ≡ shape) }
-    ensures read { IfOk result (λ h. IsCounted (codes "history ") (entry_text names.now) (Follows version names.now shape) MOST_ENTRIES lines.old.left lines.new.left h.entries) }
-    ensures whole { (ys : List Entry) (rest : List (List ℕ)) → IsCounted (codes "history ") (entry_text names.now) (Follows version names.now shape) MOST_ENTRIES lines.old.left rest ys
+    ensures read { IfOk result
+        (λ h. IsCounted (codes "history ") (entry_text names.now) (Follows version names.now shape) MOST_ENTRIES
+        lines.old.left lines.new.left h.entries) }
+    ensures whole { (ys : List Entry) (rest : List (List ℕ))
+        → IsCounted (codes "history ") (entry_text names.now) (Follows version names.now shape) MOST_ENTRIES
+        lines.old.left rest ys
         → MatchResult result (λ h. (h.entries ≡ ys) × (lines.new.left ≡ rest)) (λ f. f ≡ ReadFault.OutOfMemory) }
-    ensures stopped { IfErr result (IsFailure (IsWrongCounted (codes "history ") 0 MOST_ENTRIES (entry_text names.now) (Follows version names.now shape) (IsNoNextEntry version names.now shape)) lines.old) }
+    ensures stopped { IfErr result
+        (IsFailure (IsWrongCounted (codes "history ") 0 MOST_ENTRIES (entry_text names.now)
+        (Follows version names.now shape) (IsNoNextEntry version names.now shape))
+        lines.old) }
     ensures on { OnOk result (GoesOn lines.old lines.new) }
 {
     let count = read_count(lines, b"history ", MOST_ENTRIES as u64)?;
@@ -142,10 +166,15 @@ fn read_order<A: Allocator + Copy>(
     lines: &mut Lines<'_>,
     version: Version,
 ) -> Result<Vec<OpId, A>, ReadFault>
-    ensures read { IfOk result (λ v. IsCounted (codes "order ") id_text (λ _ x. IdFits version x) MOST_IDS lines.old.left lines.new.left v.items) }
-    ensures whole { (ys : List OpId) (rest : List (List ℕ)) → IsCounted (codes "order ") id_text (λ _ x. IdFits version x) MOST_IDS lines.old.left rest ys
+    ensures read { IfOk result
+        (λ v. IsCounted (codes "order ") id_text (λ _ x. IdFits version x) MOST_IDS lines.old.left lines.new.left
+        v.items) }
+    ensures whole { (ys : List OpId) (rest : List (List ℕ))
+        → IsCounted (codes "order ") id_text (λ _ x. IdFits version x) MOST_IDS lines.old.left rest ys
         → MatchResult result (λ v. (v.items ≡ ys) × (lines.new.left ≡ rest)) (λ f. f ≡ ReadFault.OutOfMemory) }
-    ensures stopped { IfErr result (IsFailure (IsWrongCounted (codes "order ") 0 MOST_IDS id_text (λ _ id. IdFits version id) (λ _. IsBadLine id_text (IdFits version) HasIdForm)) lines.old) }
+    ensures stopped { IfErr result
+        (IsFailure (IsWrongCounted (codes "order ") 0 MOST_IDS id_text (λ _ id. IdFits version id)
+        (λ _. IsBadLine id_text (IdFits version) HasIdForm)) lines.old) }
     ensures on { OnOk result (GoesOn lines.old lines.new) }
 {
     let count = read_count(lines, b"order ", MOST_IDS as u64)?;
@@ -178,7 +207,9 @@ fn read_end(lines: &mut Lines<'_>) -> Result<(), ReadFault>
 fn points_count(lines: &Lines<'_>, line: &[u8]) -> Result<u32, ReadFault>
     ensures read { IfOk result (λ n. (line.now ≡ codes "points " ++ decimal n) × (n ≤ MOST_IDS)) }
     ensures whole { (n : ℕ) → n ≤ MOST_IDS → line.now ≡ codes "points " ++ decimal n → result ≡ Ok n }
-    ensures none { IfErr result (λ f. (why : Why) × (f ≡ ReadFault.Line lines.now.number why) × IsNoCount (codes "points ") 0 MOST_IDS line.now why) }
+    ensures none { IfErr result
+        (λ f. (why : Why) × (f ≡ ReadFault.Line lines.now.number why)
+        × IsNoCount (codes "points ") 0 MOST_IDS line.now why) }
 {
     let Some(digits) = skip(line, b"points ") else {
         return Err(at_line(lines, ReadWhy::Form));
@@ -196,8 +227,10 @@ fn read_points<A: Allocator + Copy>(
     count: u32,
     version: Version,
 ) -> Result<Vec<Point, A>, ReadFault>
-    ensures read { IfOk result (λ v. IsBlock point_text (λ _ p. PointFits version p) count lines.old.left (codes "end" ∷ []) v.items) }
-    ensures whole { (ys : List Point) → IsBlock point_text (λ _ p. PointFits version p) count lines.old.left (codes "end" ∷ []) ys
+    ensures read { IfOk result
+        (λ v. IsBlock point_text (λ _ p. PointFits version p) count lines.old.left (codes "end" ∷ []) v.items) }
+    ensures whole { (ys : List Point)
+        → IsBlock point_text (λ _ p. PointFits version p) count lines.old.left (codes "end" ∷ []) ys
         → MatchResult result (λ v. v.items ≡ ys) (λ f. f ≡ ReadFault.OutOfMemory) }
     ensures stopped { IfErr result (IsFailure (IsWrongPoints version count) lines.old) }
 {
@@ -212,7 +245,9 @@ fn read_tail<A: Allocator + Copy>(
     lines: &mut Lines<'_>,
     version: Version,
 ) -> Result<Option<Vec<Point, A>>, ReadFault>
-    ensures read { IfOk result (λ o. let points = option_map (λ v. v.items) o in (lines.old.left ≡ tail_lines points) × PointsFit version points) }
+    ensures read { IfOk result
+        (λ o. let points = option_map (λ v. v.items) o in (lines.old.left ≡ tail_lines points)
+        × PointsFit version points) }
     ensures whole { (points : Option (List Point)) → PointsFit version points → lines.old.left ≡ tail_lines points
         → MatchResult result (λ o. option_map (λ v. v.items) o ≡ points) (λ f. f ≡ ReadFault.OutOfMemory) }
     ensures stopped { IfErr result (IsFailure (IsWrongTail version) lines.old) }
@@ -235,9 +270,15 @@ pub fn read_lists<A: Allocator + Copy>(
     lines: &mut Lines<'_>,
     version: Version,
 ) -> Result<(Vec<OpId, A>, Option<Vec<Point, A>>), ReadFault>
-    ensures read { IfOk result (λ p. let points = option_map (λ v. v.items) p.1 in (mid : List (List ℕ)) × IsCounted (codes "order ") id_text (λ _ x. IdFits version x) MOST_IDS lines.old.left mid p.0.items × (mid ≡ tail_lines points) × PointsFit version points) }
-    ensures whole { (order : List OpId) (points : Option (List Point)) → IsCounted (codes "order ") id_text (λ _ x. IdFits version x) MOST_IDS lines.old.left (tail_lines points) order → PointsFit version points
-        → MatchResult result (λ p. (p.0.items ≡ order) × (option_map (λ v. v.items) p.1 ≡ points)) (λ f. f ≡ ReadFault.OutOfMemory) }
+    ensures read { IfOk result
+        (λ p. let points = option_map (λ v. v.items) p.1 in (mid : List (List ℕ))
+        × IsCounted (codes "order ") id_text (λ _ x. IdFits version x) MOST_IDS lines.old.left mid p.0.items
+        × (mid ≡ tail_lines points) × PointsFit version points) }
+    ensures whole { (order : List OpId) (points : Option (List Point))
+        → IsCounted (codes "order ") id_text (λ _ x. IdFits version x) MOST_IDS lines.old.left (tail_lines points) order
+        → PointsFit version points
+        → MatchResult result (λ p. (p.0.items ≡ order) × (option_map (λ v. v.items) p.1 ≡ points))
+        (λ f. f ≡ ReadFault.OutOfMemory) }
     ensures stopped { IfErr result (IsFailure (IsWrongLists version) lines.old) }
 {
     let order = read_order(alloc, lines, version)?;

@@ -1,5 +1,6 @@
 //! Reports, and their texts.
-ghost use Rattle.std.specs.Prelude.{◌≡◌, ◌↔◌, ◌⊎◌, ◌-◌, ◌^◌, ◌<◌, ◌≤◌, ℕ, length, Some, IfOk, IfErr, MatchOption, MatchResult, IsTrue, option_map, slice_get, string_bytes};
+ghost use Rattle.std.specs.Prelude.{◌≡◌, ◌↔◌, ◌⊎◌, ◌-◌, ◌^◌, ◌<◌, ◌≤◌, ℕ, length, Some, IfOk, IfErr, MatchOption};
+ghost use Rattle.std.specs.Prelude.{MatchResult, IsTrue, option_map, slice_get, string_bytes};
 ghost use Rattle.reg_text.specs.Writing.{Puts, IsWrittenOr};
 ghost use Rattle.reg_checkers.specs.declared.entries.Entry.{Entry};
 ghost use Rattle.reg_history.specs.Refusals.{IsFirstWrong, RefusesReportLine};
@@ -7,7 +8,8 @@ ghost use Rattle.reg_history.specs.Stops.{EntryHasValue, IsFailure};
 ghost use Rattle.reg_history.specs.declared.report_faults.ReadWhy.{ReadWhy as Why};
 ghost use Rattle.reg_history.specs.declared.versions.Version.{Version};
 ghost use Rattle.reg_history.specs.declared.versions.Version.TheVariants.{Three};
-ghost use Rattle.reg_history.specs.Reports.{lines_in, report_text, IsReport, IsReportIn, IsReportFault, InRange, PointsFit, SpellsReport, Contents};
+ghost use Rattle.reg_history.specs.Reports.{lines_in, report_text, IsReport, IsReportIn, IsReportFault, InRange};
+ghost use Rattle.reg_history.specs.Reports.{PointsFit, SpellsReport, Contents};
 
 use crate::items::all_fit;
 use crate::parts::{is_front, read_head, read_history, read_lists};
@@ -41,9 +43,25 @@ impl<A: Allocator + Copy> Model for Report<A> {
 
     ghost Value = { Contents };
 
-    ghost view = { λ r. record { front = string_bytes r.front; shape = r.history.shape; names = r.names; entries = r.history.entries; order = r.order.items; points = option_map (λ v. v.items) r.points } };
+    ghost view = { λ r.
+        record {
+          front = string_bytes r.front;
+          shape = r.history.shape;
+          names = r.names;
+          entries = r.history.entries;
+          order = r.order.items;
+          points = option_map (λ v. v.items) r.points;
+        } };
 
-    ghost invariant = { λ r. IsReport (record { front = string_bytes r.front; shape = r.history.shape; names = r.names; entries = r.history.entries; order = r.order.items; points = option_map (λ v. v.items) r.points }) };
+    ghost invariant = { λ r. IsReport
+        (record {
+          front = string_bytes r.front;
+          shape = r.history.shape;
+          names = r.names;
+          entries = r.history.entries;
+          order = r.order.items;
+          points = option_map (λ v. v.items) r.points;
+        }) };
 }
 
 fn points_fit<A: Allocator + Copy>(points: &Option<Vec<Point, A>>) -> bool
@@ -96,7 +114,14 @@ fn parts_fault<A: Allocator + Copy>(
     order: &[OpId],
     points: &Option<Vec<Point, A>>,
 ) -> Option<ReportFault>
-    ensures { let parts : Contents = record { front = front.now; shape = history.now.shape; names = names.now; entries = history.now.entries; order = order.now; points = option_map (λ v. v.items) points.now } in
+    ensures { let parts : Contents = record {
+      front = front.now;
+      shape = history.now.shape;
+      names = names.now;
+      entries = history.now.entries;
+      order = order.now;
+      points = option_map (λ v. v.items) points.now;
+    } in
         MatchOption result (IsReport parts) (λ fault. IsReportFault parts fault) }
 {
     if !is_front(front.as_bytes()) {
@@ -129,7 +154,14 @@ impl<A: Allocator + Copy> Report<A> {
         order: Vec<OpId, A>,
         points: Option<Vec<Point, A>>,
     ) -> Result<Report<A>, ReportFault>
-        ensures { let parts : Contents = record { front = string_bytes front; shape = history.shape; names = names; entries = history.entries; order = order.items; points = option_map (λ v. v.items) points } in
+        ensures { let parts : Contents = record {
+          front = string_bytes front;
+          shape = history.shape;
+          names = names;
+          entries = history.entries;
+          order = order.items;
+          points = option_map (λ v. v.items) points;
+        } in
             MatchResult result (λ r. (r ≡ parts) × IsReport parts) (λ fault. IsReportFault parts fault) }
     {
         if let Some(fault) = parts_fault(
@@ -161,7 +193,14 @@ impl<A: Allocator + Copy> Report<A> {
         points: Option<Vec<Point, A>>,
     ) -> Result<Report<A>, ReportFault>
         ensures report { IsReport self }
-        ensures lists { let parts : Contents = record { front = self.front; shape = self.shape; names = self.names; entries = self.entries; order = order.items; points = option_map (λ v. v.items) points } in
+        ensures lists { let parts : Contents = record {
+          front = self.front;
+          shape = self.shape;
+          names = self.names;
+          entries = self.entries;
+          order = order.items;
+          points = option_map (λ v. v.items) points;
+        } in
             MatchResult result (λ r. (r ≡ parts) × IsReport parts) (λ fault. IsReportFault parts fault) }
     {
         let Report {
@@ -217,8 +256,10 @@ impl<A: Allocator + Copy> Report<A> {
 
 /// The report of these lines.
 fn read_lines<A: Allocator + Copy>(alloc: A, lines: &mut Lines<'_>) -> Result<Report<A>, ReadFault>
-    ensures read { IfOk result (λ r. (version : Version) × IsReportIn version r × (lines.old.left ≡ lines_in version r)) }
-    ensures whole { (version : Version) (r : Contents) → IsReportIn version r → lines.old.left ≡ lines_in version r → MatchResult result (λ w. w ≡ r) (λ f. f ≡ ReadFault.OutOfMemory) }
+    ensures read { IfOk result
+        (λ r. (version : Version) × IsReportIn version r × (lines.old.left ≡ lines_in version r)) }
+    ensures whole { (version : Version) (r : Contents) → IsReportIn version r → lines.old.left ≡ lines_in version r
+        → MatchResult result (λ w. w ≡ r) (λ f. f ≡ ReadFault.OutOfMemory) }
     ensures stopped { IfErr result (IsFailure IsFirstWrong lines.old) }
 {
     let (version, front, processes, names) = read_head(alloc, lines)?;
@@ -245,8 +286,12 @@ fn read_lines<A: Allocator + Copy>(alloc: A, lines: &mut Lines<'_>) -> Result<Re
 pub fn read_report<A: Allocator + Copy>(alloc: A, text: &str) -> Result<Report<A>, ReadFault>
     ensures read { IfOk result (λ r. SpellsReport text.now r) }
     ensures good { IfOk result (λ r. IsReport r) }
-    ensures whole { (r : Contents) → SpellsReport text.now r → MatchResult result (λ w. w ≡ r) (λ f. f ≡ ReadFault.OutOfMemory) }
-    ensures line { length text.now < 2 ^ 64 - 1 → IfErr result (λ f. (f ≡ ReadFault.OutOfMemory) ⊎ ((number : ℕ) × (why : Why) × (f ≡ ReadFault.Line number why) × RefusesReportLine number why text.now)) }
+    ensures whole { (r : Contents) → SpellsReport text.now r
+        → MatchResult result (λ w. w ≡ r) (λ f. f ≡ ReadFault.OutOfMemory) }
+    ensures line { length text.now < 2 ^ 64 - 1
+        → IfErr result
+        (λ f. (f ≡ ReadFault.OutOfMemory)
+        ⊎ ((number : ℕ) × (why : Why) × (f ≡ ReadFault.Line number why) × RefusesReportLine number why text.now)) }
 {
     let mut lines = Lines::new(text.as_bytes());
     read_lines(alloc, &mut lines)
@@ -277,7 +322,8 @@ pub fn write_report<A: Allocator + Copy, W: Write>(
     writer: &mut W,
     report: &Report<A>,
 ) -> Result<(), WriteFault>
-    ensures { IsWrittenOr WriteFault.Write result (W.contents writer.old) (W.contents writer.new) (report_text report.now) }
+    ensures { IsWrittenOr WriteFault.Write result (W.contents writer.old) (W.contents writer.new)
+        (report_text report.now) }
 {
     let mut sink = Sink::new(writer);
     put_report(&mut sink, report);

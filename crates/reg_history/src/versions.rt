@@ -2,7 +2,8 @@
 ghost use Rattle.std.specs.Prelude.{◌≡◌, ◌+◌, IfSome, Some, IsTrue, true, ◌↔◌};
 ghost use Rattle.std.specs.List.{list_all};
 ghost use Rattle.reg_history.specs.declared.versions.Version.{Version};
-ghost use Rattle.reg_history.specs.Versions.{compares, is_older_entry, may_answer, may_call, most_processes, most_registers, version_for as version_for_entries, version_line};
+ghost use Rattle.reg_history.specs.Versions.{compares, is_older_entry, may_answer, may_call, most_processes};
+ghost use Rattle.reg_history.specs.Versions.{most_registers, version_for as version_for_entries, version_line};
 
 use crate::report_limits::{OLDER_PROCESSES, OLDER_REGISTERS};
 use reg_base::limits::{MOST_PROCESSES, MOST_REGISTERS};

@@ -1,5 +1,6 @@
 //! Writing a report.
-ghost use Rattle.std.specs.Prelude.{◌≡◌, ◌+◌, ◌≤◌, ◌<◌, ◌^◌, ◌++◌, ◌∷◌, [], codes, length, option_map, take, drop, replicate};
+ghost use Rattle.std.specs.Prelude.{◌≡◌, ◌+◌, ◌≤◌, ◌<◌, ◌^◌, ◌++◌, ◌∷◌, [], codes, length, option_map, take, drop};
+ghost use Rattle.std.specs.Prelude.{replicate};
 ghost use Rattle.std.specs.Fmt.{decimal};
 ghost use Rattle.reg_history.specs.EntryLines.{entry_text};
 ghost use Rattle.reg_text.specs.Ops.{answer_text, op_text};
@@ -73,7 +74,10 @@ fn put_left<W: Write>(sink: &mut Sink<'_, W>, number: u64, places: usize, marked
 #[inline(never)]
 fn put_wide_columns<W: Write>(sink: &mut Sink<'_, W>, at: u32, id: OpId, marked: &[u8])
     requires { marked.now ≡ replicate 6 32 ++ drop 6 marked.now }
-    ensures { Puts W.contents sink.old sink.new (to_right 8 (decimal at) ++ (codes "  p" ++ (to_left 3 (decimal id.process) ++ (codes "  #" ++ (to_left 6 (decimal id.number) ++ drop 6 marked.now))))) }
+    ensures { Puts W.contents sink.old sink.new
+        (to_right 8 (decimal at)
+        ++ (codes "  p"
+        ++ (to_left 3 (decimal id.process) ++ (codes "  #" ++ (to_left 6 (decimal id.number) ++ drop 6 marked.now))))) }
 {
     let mut event = *b"            p";
     let start = write_digits(at as u64, &mut event, 10);
@@ -86,7 +90,10 @@ fn put_wide_columns<W: Write>(sink: &mut Sink<'_, W>, at: u32, id: OpId, marked:
 /// are blank.
 fn put_columns<W: Write>(sink: &mut Sink<'_, W>, at: u32, id: OpId, line: &mut [u8; 33])
     requires { line.old ≡ codes "          p     #      " ++ drop 23 line.old }
-    ensures { Puts W.contents sink.old sink.new (to_right 8 (decimal at) ++ (codes "  p" ++ (to_left 3 (decimal id.process) ++ (codes "  #" ++ (to_left 6 (decimal id.number) ++ drop 23 line.old))))) }
+    ensures { Puts W.contents sink.old sink.new
+        (to_right 8 (decimal at)
+        ++ (codes "  p"
+        ++ (to_left 3 (decimal id.process) ++ (codes "  #" ++ (to_left 6 (decimal id.number) ++ drop 23 line.old))))) }
 {
     if at > 99_999_999 || id.number > 999_999 {
         put_wide_columns(sink, at, id, &line[17..]);

@@ -1,5 +1,6 @@
 -- The casts of a heap in order: they are the same however the heap keeps them.
-use Rattle.std.proofs.Common.{◌≡◌, ℕ, ◌+◌, ◌<◌, ◌≤◌, Bool, true, false, cond, List, [], ◌∷◌, ◌++◌, length, Option, Some, None, refl, ap, sym, subst, ◌∙◌, inl, inr, arith}
+use Rattle.std.proofs.Common.{◌≡◌, ℕ, ◌+◌, ◌<◌, ◌≤◌, Bool, true, false, cond, List, [], ◌∷◌, ◌++◌, length, Option, Some}
+use Rattle.std.proofs.Common.{None, refl, ap, sym, subst, ◌∙◌, inl, inr, arith}
 use Rattle.std.specs.Prelude.{nat_eq, ◌&&◌, ◌⊎◌, slice_get, slice_index_or, IsPermutation}
 use Rattle.std.specs.BinaryHeap.{IsHeap}
 use Rattle.std.specs.List.{All, AllByRecursion, sum_by}
@@ -8,7 +9,8 @@ use Rattle.std.specs.declared.cmp.Ordering.{Ordering}
 use Rattle.std.specs.declared.cmp.Ordering.TheVariants.{Less, Equal, Greater}
 use Rattle.std.proofs.lemmas.Bool.{cond-true, cond-false, cases_eq, and_parts, false≢true}
 use Rattle.std.proofs.lemmas.Bool.Decides.{nat_tests}
-use Rattle.std.proofs.lemmas.List.Sorted.{All-permutation, IsPermutation-sym, IsPermutation-refl, sum_by-IsPermutation, sum_by_pushed}
+use Rattle.std.proofs.lemmas.List.Sorted.{All-permutation, IsPermutation-sym, IsPermutation-refl, sum_by-IsPermutation}
+use Rattle.std.proofs.lemmas.List.Sorted.{sum_by_pushed}
 use Rattle.std.proofs.lemmas.List.Elements.{All-cons, All-tail}
 use Rattle.reg_base.specs.declared.stamps.Stamp.{Stamp}
 use Rattle.reg_base.specs.declared.stamps.Delivered.{Delivered}
@@ -52,7 +54,8 @@ uncounted s (h ∷ hs) f = let m = many_more s h hs in elim (same_cases s h.cast
   | inr z ↦ let k = uncounted s hs (λ c i. f c (insert_old c h.cast (in_order hs) i)) in omega (arith, m, z, k)
 ]
 
-apart_more : (h : HeldCast) (hs : List HeldCast) → AreApart hs → ((c : Delivered) → In c (in_order hs) → c.stamp ≡ h.cast.stamp → ⊥) → AreApart (h ∷ hs)
+apart_more : (h : HeldCast) (hs : List HeldCast) → AreApart hs
+    → ((c : Delivered) → In c (in_order hs) → c.stamp ≡ h.cast.stamp → ⊥) → AreApart (h ∷ hs)
 apart_more h hs a f s = let m = many_more s h hs in elim (same_cases s h.cast.stamp) [
   | inl e ↦ let u = uncounted s hs (λ c i q. f c i (q ∙ e.0)) in omega (arith, m, e.1, u)
   | inr z ↦ let k = a s in omega (arith, m, z, k)
@@ -62,10 +65,12 @@ pub apart_less : (h : HeldCast) (hs : List HeldCast) → AreApart (h ∷ hs) →
 apart_less h hs a s = let m = many_more s h hs in let k = a s in omega (arith, m, k)
 
 pub apart_permuted : (xs ys : List HeldCast) → IsPermutation xs ys → AreApart xs → AreApart ys
-apart_permuted xs ys p a s = let e = sum_by-IsPermutation (λ h. same s h.cast.stamp) xs ys p in let k = a s in omega (arith, e, k)
+apart_permuted xs ys p a s =
+    let e = sum_by-IsPermutation (λ h. same s h.cast.stamp) xs ys p in let k = a s in omega (arith, e, k)
 
 -- the stamp of the first of them is another one than those of the rest
-first_apart : (h : HeldCast) (hs : List HeldCast) → AreApart (h ∷ hs) → (d : Delivered) → In d (in_order hs) → d.stamp ≡ h.cast.stamp → ⊥
+first_apart : (h : HeldCast) (hs : List HeldCast) → AreApart (h ∷ hs) → (d : Delivered) → In d (in_order hs)
+    → d.stamp ≡ h.cast.stamp → ⊥
 first_apart h hs a d i e =
     let m = many_more d.stamp h hs in
     let o = same_itself d.stamp h.cast.stamp e in
@@ -75,17 +80,20 @@ first_apart h hs a d i e =
 
 pub rises : (hs : List HeldCast) → AreApart hs → Rising (in_order hs)
 rises [] a = tt
-rises (h ∷ hs) a = rising_insert h.cast (in_order hs) (rises hs (apart_less h hs a)) (λ d i. elim (cases_stamps d.stamp h.cast.stamp) [
-  | inl e ↦ absurd (first_apart h hs a d i e)
-  | inr k ↦ k
-])
+rises (h ∷ hs) a =
+    rising_insert h.cast (in_order hs) (rises hs (apart_less h hs a)) (λ d i. elim (cases_stamps d.stamp h.cast.stamp) [
+      | inl e ↦ absurd (first_apart h hs a d i e)
+      | inr k ↦ k
+    ])
 
 -- what holds of all that stand in order holds of all of the heap, and the other way round
-each_kept : (P : Delivered → Type 0) (hs : List HeldCast) → ((c : Delivered) → In c (in_order hs) → P c) → All (λ h. P h.cast) hs
+each_kept : (P : Delivered → Type 0) (hs : List HeldCast) → ((c : Delivered) → In c (in_order hs) → P c)
+    → All (λ h. P h.cast) hs
 each_kept P [] f = λ k d l. absurd (omega (arith, l))
 each_kept P (h ∷ hs) f = All-cons (λ h. P h.cast) h hs (f h.cast (insert_new h.cast h.cast (in_order hs) refl)) (each_kept P hs (λ c i. f c (insert_old c h.cast (in_order hs) i)))
 
-each_in_order : (P : Delivered → Type 0) (hs : List HeldCast) → All (λ h. P h.cast) hs → (c : Delivered) → In c (in_order hs) → P c
+each_in_order : (P : Delivered → Type 0) (hs : List HeldCast) → All (λ h. P h.cast) hs → (c : Delivered)
+    → In c (in_order hs) → P c
 each_in_order P [] a c i = absurd i
 each_in_order P (h ∷ hs) a c i = elim (in_insert c h.cast (in_order hs) i) [
   | inl e ↦ subst P (sym e) (a 0 h (omega arith))
@@ -96,11 +104,13 @@ in_permuted : (xs ys : List HeldCast) → IsPermutation xs ys → (c : Delivered
 in_permuted xs ys p = each_in_order (λ c. In c (in_order ys)) xs (All-permutation (λ (h : HeldCast). In h.cast (in_order ys)) ys xs (IsPermutation-sym xs ys p) (each_kept (λ c. In c (in_order ys)) ys (λ c i. i)))
 
 -- two rising lists of the same casts are the same
-one_rising : (xs ys : List Delivered) → Rising xs → Rising ys → ((c : Delivered) → In c xs → In c ys) → ((c : Delivered) → In c ys → In c xs) → xs ≡ ys
+one_rising : (xs ys : List Delivered) → Rising xs → Rising ys → ((c : Delivered) → In c xs → In c ys)
+    → ((c : Delivered) → In c ys → In c xs) → xs ≡ ys
 one_rising [] [] r s f g = refl
 one_rising [] (y ∷ ys) r s f g = absurd (g y (inl refl))
 one_rising (x ∷ xs) [] r s f g = absurd (f x (inl refl))
-one_rising (x ∷ xs) (y ∷ ys) r s f g = let e = heads in ap (λ z. z ∷ xs) e ∙ ap (λ zs. y ∷ zs) (one_rising xs ys r.1 s.1 (down e) (up e))
+one_rising (x ∷ xs) (y ∷ ys) r s f g =
+    let e = heads in ap (λ z. z ∷ xs) e ∙ ap (λ zs. y ∷ zs) (one_rising xs ys r.1 s.1 (down e) (up e))
   where
     heads : x ≡ y
     heads = elim (f x (inl refl)) [
@@ -128,7 +138,8 @@ pub one_order : (xs ys : List HeldCast) → IsPermutation xs ys → AreApart xs 
 one_order xs ys p a = one_rising (in_order ys) (in_order xs) (rises ys (apart_permuted xs ys p a)) (rises xs a) (in_permuted ys xs (IsPermutation-sym xs ys p)) (in_permuted xs ys p)
 
 -- one below all others comes first
-insert_front : (c : Delivered) (l : List Delivered) → ((d : Delivered) → In d l → Below c.stamp d.stamp) → insert c l ≡ c ∷ l
+insert_front : (c : Delivered) (l : List Delivered) → ((d : Delivered) → In d l → Below c.stamp d.stamp)
+    → insert c l ≡ c ∷ l
 insert_front c [] f = refl
 insert_front c (x ∷ xs) f = cond-true (below c.stamp x.stamp) (c ∷ x ∷ xs) (x ∷ insert c xs) ((Decides-below c.stamp x.stamp).1 (f x (inl refl)))
 
@@ -140,7 +151,8 @@ not_above x y n b = go (stamp_cmp y.cast.stamp x.cast.stamp) refl n
     go Equal e q = below_irrefl y.cast.stamp (subst (λ (s : Stamp). Below y.cast.stamp s) (sym (stamp_rank y.cast.stamp x.cast.stamp Equal e)) b)
     go Greater e q = below_asym y.cast.stamp x.cast.stamp b (stamp_rank y.cast.stamp x.cast.stamp Greater e)
 
-none_above : (x : HeldCast) (hs : List HeldCast) → AllByRecursion (λ y. is_lt (later_cmp x y) ≡ false) hs → (d : Delivered) → In d (in_order hs) → Below d.stamp x.cast.stamp → ⊥
+none_above : (x : HeldCast) (hs : List HeldCast) → AllByRecursion (λ y. is_lt (later_cmp x y) ≡ false) hs
+    → (d : Delivered) → In d (in_order hs) → Below d.stamp x.cast.stamp → ⊥
 none_above x [] u d i b = absurd i
 none_above x (h ∷ hs) u d i b = elim (in_insert d h.cast (in_order hs) i) [
   | inl e ↦ not_above x h u.0 (subst (λ (c : Delivered). Below c.stamp x.cast.stamp) e b)
@@ -148,7 +160,8 @@ none_above x (h ∷ hs) u d i b = elim (in_insert d h.cast (in_order hs) i) [
 ]
 
 -- the greatest of the heap is the first in order
-pub top_first : (x : HeldCast) (hs : List HeldCast) → AreApart (x ∷ hs) → AllByRecursion (λ y. is_lt (later_cmp x y) ≡ false) hs → in_order (x ∷ hs) ≡ x.cast ∷ in_order hs
+pub top_first : (x : HeldCast) (hs : List HeldCast) → AreApart (x ∷ hs)
+    → AllByRecursion (λ y. is_lt (later_cmp x y) ≡ false) hs → in_order (x ∷ hs) ≡ x.cast ∷ in_order hs
 top_first x hs a u = insert_front x.cast (in_order hs) (λ d i. elim (cases_stamps d.stamp x.cast.stamp) [
   | inl e ↦ absurd (first_apart x hs a d i e)
   | inr k ↦ elim k [
@@ -169,20 +182,25 @@ pub as_many : (hs : List HeldCast) → length (in_order hs) ≡ length hs
 as_many [] = refl
 as_many (h ∷ hs) = let e = length_insert h.cast (in_order hs) in let k = as_many hs in omega (arith, e, k)
 
-pub first_is : (hs : List HeldCast) (x : HeldCast) → AreApart hs → 0 < length hs → x ≡ slice_index_or hs 0 x → AllByRecursion (λ y. is_lt (later_cmp x y) ≡ false) hs → Some x.cast ≡ slice_get (in_order hs) 0
+pub first_is : (hs : List HeldCast) (x : HeldCast) → AreApart hs → 0 < length hs → x ≡ slice_index_or hs 0 x
+    → AllByRecursion (λ y. is_lt (later_cmp x y) ≡ false) hs → Some x.cast ≡ slice_get (in_order hs) 0
 first_is [] x a l e u = absurd (omega (arith, l))
 first_is (h ∷ hs) x a l e u =
     let t = top_first h hs a (subst (λ (z : HeldCast). AllByRecursion (λ y. is_lt (later_cmp z y) ≡ false) hs) e u.1) in
     ap (λ (z : HeldCast). Some z.cast) e ∙ sym (ap (λ l. slice_get l 0) t)
 
 -- what is left where the greatest is taken out
-pub popped : (hs left : List HeldCast) (x : HeldCast) → AreApart hs → IsPermutation hs (x ∷ left) → AllByRecursion (λ y. is_lt (later_cmp x y) ≡ false) left → in_order hs ≡ x.cast ∷ in_order left
+pub popped : (hs left : List HeldCast) (x : HeldCast) → AreApart hs → IsPermutation hs (x ∷ left)
+    → AllByRecursion (λ y. is_lt (later_cmp x y) ≡ false) left → in_order hs ≡ x.cast ∷ in_order left
 popped hs left x a p u = sym (one_order hs (x ∷ left) p a) ∙ top_first x left (apart_permuted hs (x ∷ left) p a) u
 
 -- what a heap of held casts keeps to
-pub unchanged_kept : (hs new : List HeldCast) → new ≡ hs → IsHeap later_cmp hs × AreApart hs → IsHeap later_cmp new × AreApart new
+pub unchanged_kept : (hs new : List HeldCast) → new ≡ hs → IsHeap later_cmp hs × AreApart hs
+    → IsHeap later_cmp new × AreApart new
 unchanged_kept hs new e i = subst (λ l. IsHeap later_cmp l × AreApart l) (sym e) i
 
 -- none that is held has this stamp
-pub apart_fresh : (h : HeldCast) (hs : List HeldCast) (held : List Delivered) → in_order hs ≡ held → AreApart hs → ((c : Delivered) → In c held → c.stamp ≡ h.cast.stamp → ⊥) → AreApart (h ∷ hs)
-apart_fresh h hs held v a f = apart_more h hs a (subst (λ l. (c : Delivered) → In c l → c.stamp ≡ h.cast.stamp → ⊥) (sym v) f)
+pub apart_fresh : (h : HeldCast) (hs : List HeldCast) (held : List Delivered) → in_order hs ≡ held → AreApart hs
+    → ((c : Delivered) → In c held → c.stamp ≡ h.cast.stamp → ⊥) → AreApart (h ∷ hs)
+apart_fresh h hs held v a f =
+    apart_more h hs a (subst (λ l. (c : Delivered) → In c l → c.stamp ≡ h.cast.stamp → ⊥) (sym v) f)

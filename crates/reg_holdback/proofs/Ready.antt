@@ -1,5 +1,6 @@
 -- What the first held cast is where it is clear, and what holds where it isn't.
-use Rattle.std.proofs.Common.{◌≡◌, Bool, true, false, cond, List, [], ◌∷◌, length, Option, Some, None, refl, subst, inl, inr, arith}
+use Rattle.std.proofs.Common.{◌≡◌, Bool, true, false, cond, List, [], ◌∷◌, length, Option, Some, None, refl, subst, inl}
+use Rattle.std.proofs.Common.{inr, arith}
 use Rattle.std.specs.Prelude.{slice_index, option_map, IfSome, IfNone}
 use Rattle.std.specs.Bool.{Decides}
 use Rattle.reg_base.specs.declared.stamps.Stamp.{Stamp}
@@ -27,12 +28,14 @@ at_most_self : (c d : Delivered) → c ≡ d → AtMost d.stamp c.stamp
 at_most_self c d e = subst (λ (x : Delivered). AtMost x.stamp c.stamp) e (inr (refl, omega arith))
 
 -- the first of a rising list is least
-first_least : (c : Delivered) (cs : List Delivered) → Rising (c ∷ cs) → (d : Delivered) → In d (c ∷ cs) → AtMost c.stamp d.stamp
+first_least : (c : Delivered) (cs : List Delivered) → Rising (c ∷ cs) → (d : Delivered) → In d (c ∷ cs)
+    → AtMost c.stamp d.stamp
 first_least c cs r d (inl e) = at_most_self d c e
 first_least c cs r d (inr i) = at_most_of c.stamp d.stamp (r.0 d i)
 
 -- by the list that is held, whether its first is clear
-ready : (w : Waiting) (held : List Delivered) → held ≡ w.held → Rising held → (c : Delivered) → Some c ≡ ready_in w.me w.seen held → IsReady w c
+ready : (w : Waiting) (held : List Delivered) → held ≡ w.held → Rising held → (c : Delivered)
+    → Some c ≡ ready_in w.me w.seen held → IsReady w c
 ready w [] h r c e = absurd (cc)
 ready w (x ∷ xs) h r c e = by_test (test w x.stamp) refl e
   where
@@ -47,7 +50,8 @@ ready w (x ∷ xs) h r c e = by_test (test w x.stamp) refl e
     by_test true t q = let same : x ≡ c = cc in subst (IsReady w) same (is_ready t)
     by_test false t q = absurd (cc)
 
-none : (w : Waiting) (held : List Delivered) → held ≡ w.held → Rising held → None ≡ ready_in w.me w.seen held → NoneClear w
+none : (w : Waiting) (held : List Delivered) → held ≡ w.held → Rising held → None ≡ ready_in w.me w.seen held
+    → NoneClear w
 none w held h r e = subst (λ l. (c : Delivered) → In c l → Clear w c.stamp → ⊥) h (each held r e)
   where
     first_not : (x : Delivered) (b : Bool) → test w x.stamp ≡ b → None ≡ cond b (Some x) None → Clear w x.stamp → ⊥
@@ -59,10 +63,12 @@ none w held h r e = subst (λ l. (c : Delivered) → In c l → Clear w c.stamp 
     each (x ∷ xs) s q c (inl i) k = first_not x (test w x.stamp) refl q (subst (λ (d : Delivered). Clear w d.stamp) i k)
     each (x ∷ xs) s q c (inr i) k = first_not x (test w x.stamp) refl q (clear_below w.me (slice_index w.seen) (length w.seen) x.stamp c.stamp (s.0 c i) k)
 
-pub ready_where_some : (w : Waiting) (r : Option (Stamp × Op)) → option_map cast_of r ≡ ready_of w → Rising w.held → IfSome r (λ e. IsReady w (cast_of e))
+pub ready_where_some : (w : Waiting) (r : Option (Stamp × Op)) → option_map cast_of r ≡ ready_of w → Rising w.held
+    → IfSome r (λ e. IsReady w (cast_of e))
 ready_where_some w None h s = tt
 ready_where_some w (Some e) h s = ready w w.held refl s (cast_of e) h
 
-pub none_where_none : (w : Waiting) (r : Option (Stamp × Op)) → option_map cast_of r ≡ ready_of w → Rising w.held → IfNone r (NoneClear w)
+pub none_where_none : (w : Waiting) (r : Option (Stamp × Op)) → option_map cast_of r ≡ ready_of w → Rising w.held
+    → IfNone r (NoneClear w)
 none_where_none w None h s = none w w.held refl s h
 none_where_none w (Some e) h s = tt

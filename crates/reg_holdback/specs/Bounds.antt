@@ -7,7 +7,8 @@ use Rattle.reg_holdback.specs.Waiting.{Waiting}
 
 -- what is held of another process was heard of
 abbrev pub IsHeard : ℕ → List ℕ → List Delivered → Type 0
-IsHeard me seen held = (c : Delivered) → In c held → (c.stamp.process ≡ me → ⊥) → c.stamp.time ≤ slice_index seen c.stamp.process
+IsHeard me seen held =
+    (c : Delivered) → In c held → (c.stamp.process ≡ me → ⊥) → c.stamp.time ≤ slice_index seen c.stamp.process
 
 pub record InRange (w : Waiting) : Type 0 where
   pub me : w.me < length w.seen

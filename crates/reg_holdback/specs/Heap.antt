@@ -10,7 +10,8 @@ use Rattle.reg_holdback.specs.declared.held.HeldCast.{HeldCast}
 
 -- the one with the earlier stamp is the greater
 abbrev pub later_cmp : HeldCast → HeldCast → Ordering
-later_cmp = then_cmp (flip_args (on (λ h. h.cast.stamp.time) nat_cmp)) (flip_args (on (λ h. h.cast.stamp.process) nat_cmp))
+later_cmp =
+    then_cmp (flip_args (on (λ h. h.cast.stamp.time) nat_cmp)) (flip_args (on (λ h. h.cast.stamp.process) nat_cmp))
 
 -- the casts of a heap in the order of their stamps
 abbrev pub in_order : List HeldCast → List Delivered

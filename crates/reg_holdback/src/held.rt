@@ -35,7 +35,8 @@ impl Eq for HeldCast {
 }
 
 impl Ord for HeldCast {
-    ghost cmp = { then_cmp (flip_args (on (λ h. h.cast.stamp.time) nat_cmp)) (flip_args (on (λ h. h.cast.stamp.process) nat_cmp)) };
+    ghost cmp = { then_cmp (flip_args (on (λ h. h.cast.stamp.time) nat_cmp))
+        (flip_args (on (λ h. h.cast.stamp.process) nat_cmp)) };
 
     ghost total = { Prim.search (comparing, rules) };
 
@@ -53,7 +54,9 @@ impl Ord for HeldCast {
 }
 
 impl PartialOrd for HeldCast {
-    ghost partial_cmp = { as_partial_cmp (then_cmp (flip_args (on (λ h. h.cast.stamp.time) nat_cmp)) (flip_args (on (λ h. h.cast.stamp.process) nat_cmp))) };
+    ghost partial_cmp = { as_partial_cmp
+        (then_cmp (flip_args (on (λ h. h.cast.stamp.time) nat_cmp))
+        (flip_args (on (λ h. h.cast.stamp.process) nat_cmp))) };
 
     ghost laws = { partial_order_from_own_ties (Prim.search (comparing, rules)) (Prim.search (comparing, rules)) };
 

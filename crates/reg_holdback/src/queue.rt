@@ -1,8 +1,11 @@
 //! The hold-back queue: casts in the order of their stamps.
-ghost use Rattle.std.specs.Prelude.{◌≡◌, ◌<◌, ◌≤◌, [], length, replicate, slice_index, IfOk, IfSome, IfNone, MatchResult, MatchOption, if◌then◌else◌, is_ok, option_map, Some, None, IfErr, IsTrue, false};
+ghost use Rattle.std.specs.Prelude.{◌≡◌, ◌<◌, ◌≤◌, [], length, replicate, slice_index, IfOk, IfSome, IfNone};
+ghost use Rattle.std.specs.Prelude.{MatchResult, MatchOption, if◌then◌else◌, is_ok, option_map, Some, None, IfErr};
+ghost use Rattle.std.specs.Prelude.{IsTrue, false};
 ghost use Rattle.reg_base.specs.declared.limits.TheConstants.{MOST_PROCESSES};
 ghost use Rattle.reg_base.specs.Order.{Rising, is_clear as is_clear_by};
-ghost use Rattle.reg_holdback.specs.Waiting.{cast_of, ready_of, without_first, with_cast, received, receive_fault, refusal_of, IsLatestOwn, seen_of, IsReady, NoneClear};
+ghost use Rattle.reg_holdback.specs.Waiting.{cast_of, ready_of, without_first, with_cast, received, receive_fault};
+ghost use Rattle.reg_holdback.specs.Waiting.{refusal_of, IsLatestOwn, seen_of, IsReady, NoneClear};
 
 use crate::held::HeldCasts;
 use reg_base::{Delivered, Op, Shape, Stamp};
@@ -109,7 +112,9 @@ impl<A: Allocator + Copy> Holdback<A> {
     // (in line: most bodies carry no cast, and then it is a few tests)
     #[inline(always)]
     pub fn receive(&mut self, stamp: Stamp, op: Option<Op>) -> Result<(), HoldFault>
-        ensures exact { MatchResult result (λ _. (receive_fault self.old stamp ≡ None) × (self.new ≡ received self.old stamp op)) (λ fault. (receive_fault self.old stamp ≡ refusal_of fault) × (self.new ≡ self.old)) }
+        ensures exact { MatchResult result
+            (λ _. (receive_fault self.old stamp ≡ None) × (self.new ≡ received self.old stamp op))
+            (λ fault. (receive_fault self.old stamp ≡ refusal_of fault) × (self.new ≡ self.old)) }
 
         // A body without a cast takes no memory.
         ensures bare { IfErr result (λ fault. op ≡ None → receive_fault self.old stamp ≡ Some fault) }

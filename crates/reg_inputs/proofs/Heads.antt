@@ -1,5 +1,6 @@
 -- Where and why the reader of the header lines stops.
-use Rattle.std.proofs.Common.{ℕ, ◌≡◌, ◌⊎◌, inl, inr, ◌<◌, ◌≤◌, true, false, List, [], ◌∷◌, ◌++◌, length, get_or, drop, codes, Option, None, Some, Result, Err, refl, sym, ap, ◌∙◌, subst, lit<, lit≤}
+use Rattle.std.proofs.Common.{ℕ, ◌≡◌, ◌⊎◌, inl, inr, ◌<◌, ◌≤◌, true, false, List, [], ◌∷◌, ◌++◌, length, get_or, drop}
+use Rattle.std.proofs.Common.{codes, Option, None, Some, Result, Err, refl, sym, ap, ◌∙◌, subst, lit<, lit≤}
 use Rattle.std.specs.Fmt.{decimal}
 use Rattle.reg_base.specs.Names.{names_fault}
 use Rattle.reg_base.specs.declared.limits.TheConstants.{MOST_PROCESSES, MOST_REGISTERS}
@@ -21,7 +22,8 @@ use Rattle.reg_inputs.specs.Schedules.{Plan, IsPlan, plan_lines}
 abbrev plan_of : ℕ → List (List ℕ) → Front → Plan
 plan_of processes names front = record { shape = record { processes = processes; registers = length names }; names = names; front = front; events = [] }
 
-is_plan : (processes : ℕ) (names : List (List ℕ)) (front : Front) → 0 < processes → processes ≤ MOST_PROCESSES → names_fault names ≡ None → IsPlan (plan_of processes names front)
+is_plan : (processes : ℕ) (names : List (List ℕ)) (front : Front) → 0 < processes → processes ≤ MOST_PROCESSES
+    → names_fault names ≡ None → IsPlan (plan_of processes names front)
 is_plan processes names front some few spelt = record {
   names = spelt;
   some_process = some;
@@ -124,7 +126,8 @@ module _ (n : ℕ) (f : TextFault) (why : Why) (is : f ≡ Line n why) where
     },
   )
 
-  pub third_refused : {A : Type 0} (left : List (List ℕ)) (processes : ℕ) (names : List (List ℕ)) → 0 < processes → processes ≤ MOST_PROCESSES → names_fault names ≡ None
+  pub third_refused : {A : Type 0} (left : List (List ℕ)) (processes : ℕ) (names : List (List ℕ)) → 0 < processes
+      → processes ≤ MOST_PROCESSES → names_fault names ≡ None
       → (left ≡ [] → (let r : Result A TextFault = Err f in r ≡ Err (Line n End)))
       → ((word : List ℕ) (rest : List (List ℕ)) → is_front_form word ≡ true → left ≡ (codes "front " ++ word) ∷ rest → f ≡ Line n Name)
       → ((line : List ℕ) (rest : List (List ℕ)) → left ≡ line ∷ rest → ((word : List ℕ) → line ≡ codes "front " ++ word → is_front_form word ≡ false) → (let r : Result A TextFault = Err f in r ≡ Err (Line n Form)))

@@ -16,7 +16,8 @@ pub record HasNumbers (w : Load) : Type 0 where
   pub some_event : 0 < w.budget
   pub budget : w.budget ≤ MOST_EVENTS
 
-pub loaded : (w : Load) (vs : List Value) (p r : ℕ) → names_fault w.names ≡ None → w.shape ≡ record { processes = p; registers = r } → p ≡ length w.scripts → r ≡ length w.names
+pub loaded : (w : Load) (vs : List Value) (p r : ℕ) → names_fault w.names ≡ None
+    → w.shape ≡ record { processes = p; registers = r } → p ≡ length w.scripts → r ≡ length w.names
     → map view vs ≡ map (script_data w.names) w.scripts → 0 < length vs → length vs ≤ MOST_PROCESSES → AllFit (λ _ ops. IsScript w.names ops) w.scripts → HasNumbers w → IsLoad w
 loaded w vs p r names shape processes registers same some few scripts numbers =
     let count : length vs ≡ length w.scripts = sym (length-map vs view) ∙ ap length same ∙ length-map w.scripts (script_data w.names) in

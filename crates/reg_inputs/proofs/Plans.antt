@@ -1,5 +1,7 @@
 -- Where and why the reader of a schedule stops, after its header lines and in a text.
-use Rattle.std.proofs.Common.{ℕ, suc, ◌≡◌, ◌⊎◌, inl, inr, ◌-◌, ◌<◌, ◌≤◌, ◌^◌, true, List, [], ◌∷◌, ◌++◌, length, map, get_or, drop, codes, None, Some, Result, Ok, Err, refl, sym, ap, ◌∙◌, subst, arith, append_assoc, append-nil}
+use Rattle.std.proofs.Common.{ℕ, suc, ◌≡◌, ◌⊎◌, inl, inr, ◌-◌, ◌<◌, ◌≤◌, ◌^◌, true, List, [], ◌∷◌, ◌++◌, length, map}
+use Rattle.std.proofs.Common.{get_or, drop, codes, None, Some, Result, Ok, Err, refl, sym, ap, ◌∙◌, subst, arith}
+use Rattle.std.proofs.Common.{append_assoc, append-nil}
 use Rattle.std.specs.Prelude.{slice_get, IfErr}
 use Rattle.reg_base.specs.Names.{names_fault}
 use Rattle.reg_base.specs.declared.limits.TheConstants.{MOST_PROCESSES, MOST_EVENTS}
@@ -18,7 +20,8 @@ use Rattle.reg_inputs.specs.Stops.{StopsFirst, IsWrongEvent}
 use Rattle.reg_inputs.proofs.Heads.{processes_line, registers_line}
 
 -- after the lines of these events the next one is that of an event
-find : (f : Event → List ℕ) (F : Event → Type 0) (line : List ℕ) (more : List (List ℕ)) (before es : List Event) → map f es ≡ map f before ++ line ∷ more → ((k : ℕ) (e : Event) → slice_get es k ≡ Some e → F e)
+find : (f : Event → List ℕ) (F : Event → Type 0) (line : List ℕ) (more : List (List ℕ)) (before es : List Event)
+    → map f es ≡ map f before ++ line ∷ more → ((k : ℕ) (e : Event) → slice_get es k ≡ Some e → F e)
     → (e : Event) × F e × (line ≡ f e) × (length before < length es)
 find f F line more [] [] same fit = absurd (cc)
 find f F line more [] (e ∷ es) same fit = (e, fit 0 e refl, sym (ap (λ l. get_or l 0 []) same), omega arith)
@@ -32,7 +35,9 @@ abbrev head : ℕ → List (List ℕ) → Front → List (List ℕ)
 head processes names front = processes_line processes ∷ registers_line names ∷ (codes "front " ++ front_name front) ∷ []
 
 -- the head lines of two plans that begin alike
-same_head : (old left more : List (List ℕ)) (n m : ℕ) (names others : List (List ℕ)) (front other : Front) (events : List Event) (rest : List (List ℕ)) → old ≡ plan_head n names front left
+same_head : (old left more : List (List ℕ)) (n m : ℕ) (names others : List (List ℕ)) (front other : Front)
+    (events : List Event) (rest : List (List ℕ))
+    → old ≡ plan_head n names front left
     → plan_head m others other (map (event_text others) events) ≡ (head n names front ++ rest) ++ more → old ≡ plan_head m others other left
 same_head old left more n m names others front other events rest read e =
     read ∙ ap (λ l. l ∷ registers_line names ∷ (codes "front " ++ front_name front) ∷ left) (sym (ap (λ l. get_or l 0 []) e))
@@ -76,7 +81,8 @@ module _ (old mid new : Rest) (processes : ℕ) (names : List (List ℕ)) (front
   }
 
 -- the line of the text at which the reader stops
-one_line : (text : List ℕ) (old new : Rest) (f : TextFault) → length text < 2 ^ 64 - 1 → old.left ≡ kept (lines_of text) → old.all ≡ lines_of text → old.number ≡ 0 → old.skips ≡ true
+one_line : (text : List ℕ) (old new : Rest) (f : TextFault) → length text < 2 ^ 64 - 1 → old.left ≡ kept (lines_of text)
+    → old.all ≡ lines_of text → old.number ≡ 0 → old.skips ≡ true
     → (f ≡ OutOfMemory) ⊎ ((why : Why) × (f ≡ Line new.number why) × StopsFirst old new why) → (f ≡ OutOfMemory) ⊎ ((number : ℕ) × (why : Why) × (f ≡ Line number why) × RefusesLine number why text)
 one_line text old new f few left all number skips (inl memory) = inl memory
 one_line text old new f few left all number skips (inr (why, is, s)) =
@@ -93,7 +99,8 @@ one_line text old new f few left all number skips (inr (why, is, s)) =
       },
     )
 
-pub text_line : {A : Type 0} (text : List ℕ) (old new : Rest) (r : Result A TextFault) → length text < 2 ^ 64 - 1 → old.left ≡ kept (lines_of text) → old.all ≡ lines_of text → old.number ≡ 0 → old.skips ≡ true
+pub text_line : {A : Type 0} (text : List ℕ) (old new : Rest) (r : Result A TextFault) → length text < 2 ^ 64 - 1
+    → old.left ≡ kept (lines_of text) → old.all ≡ lines_of text → old.number ≡ 0 → old.skips ≡ true
     → IfErr r (λ f. (f ≡ OutOfMemory) ⊎ ((why : Why) × (f ≡ Line new.number why) × StopsFirst old new why)) → IfErr r (λ f. (f ≡ OutOfMemory) ⊎ ((number : ℕ) × (why : Why) × (f ≡ Line number why) × RefusesLine number why text))
 text_line text old new (Ok x) few left all number skips s = tt
 text_line text old new (Err f) few left all number skips s = one_line text old new f few left all number skips s

@@ -1,5 +1,6 @@
 -- The text of a schedule is read as that schedule.
-use Rattle.std.proofs.Common.{ℕ, suc, ◌≡◌, ◌<◌, List, [], ◌∷◌, ◌++◌, length, map, codes, None, Some, refl, ap, ◌∙◌, arith, append-nil}
+use Rattle.std.proofs.Common.{ℕ, suc, ◌≡◌, ◌<◌, List, [], ◌∷◌, ◌++◌, length, map, codes, None, Some, refl, ap, ◌∙◌}
+use Rattle.std.proofs.Common.{arith, append-nil}
 use Rattle.std.specs.Prelude.{slice_get, slice_index_or}
 use Rattle.std.specs.Fmt.{decimal}
 use Rattle.reg_base.specs.Names.{names_fault, is_name}
@@ -19,7 +20,8 @@ use Rattle.reg_process.specs.declared.events.Event.TheVariants.{Call, Take, Tick
 use Rattle.reg_inputs.specs.Schedules.{Plan, IsPlan, EventFits, event_text, plan_lines}
 use Rattle.reg_inputs.specs.ScheduleText.{IsScheduleText}
 
-pub names_lack : (ns : List (List ℕ)) → ((r : ℕ) → r < length ns → is_name (slice_index_or ns r []) ≡ true) → Lacks 10 (names_text ns)
+pub names_lack : (ns : List (List ℕ)) → ((r : ℕ) → r < length ns → is_name (slice_index_or ns r []) ≡ true)
+    → Lacks 10 (names_text ns)
 names_lack [] h = refl
 names_lack (n ∷ ns) h = joined 10 (32 ∷ n) (names_text ns) (joined 10 (32 ∷ []) n refl (name_lacks 10 n (omega arith) (h 0 (omega arith)))) (names_lack ns (λ r l. h (suc r) (omega arith)))
 
@@ -28,7 +30,8 @@ front_lacks Linear = refl
 front_lacks LocalRead = refl
 front_lacks LocalWrite = refl
 
-event_lacks : (names : List (List ℕ)) (e : Event) → names_fault names ≡ None → EventFits names e → Lacks 10 (event_text names e)
+event_lacks : (names : List (List ℕ)) (e : Event) → names_fault names ≡ None → EventFits names e
+    → Lacks 10 (event_text names e)
 event_lacks names (Call p op) ok fits =
     joined 10 (codes "call ") (decimal p ++ 32 ∷ op_text names op) refl
     (joined 10 (decimal p) (32 ∷ op_text names op) (number p (let l = fits.0 in omega (arith, l))) (joined 10 (32 ∷ []) (op_text names op) refl (op_lacks names op ok fits.1)))
@@ -39,18 +42,22 @@ event_lacks names (Take from to i) ok fits =
     (joined 10 (decimal to) (32 ∷ decimal i) (number to (let l = fits.1 in omega (arith, l))) (joined 10 (32 ∷ []) (decimal i) refl (number i (let l = fits.2 in omega (arith, l)))))))
 event_lacks names (Tick p) ok fits = joined 10 (codes "tick ") (decimal p) refl (number p (omega (arith, fits)))
 
-events_lack : (names : List (List ℕ)) (es : List Event) → names_fault names ≡ None → ((k : ℕ) (e : Event) → slice_get es k ≡ Some e → EventFits names e) → AllLack (map (event_text names) es)
+events_lack : (names : List (List ℕ)) (es : List Event) → names_fault names ≡ None
+    → ((k : ℕ) (e : Event) → slice_get es k ≡ Some e → EventFits names e) → AllLack (map (event_text names) es)
 events_lack names [] ok fit = tt
-events_lack names (e ∷ es) ok fit = (event_lacks names e ok (fit 0 e refl), events_lack names es ok (λ k x h. fit (suc k) x h))
+events_lack names (e ∷ es) ok fit =
+    (event_lacks names e ok (fit 0 e refl), events_lack names es ok (λ k x h. fit (suc k) x h))
 
-event_kept : (names : List (List ℕ)) (e : Event) (lines : List (List ℕ)) → kept (event_text names e ∷ lines) ≡ event_text names e ∷ kept lines
+event_kept : (names : List (List ℕ)) (e : Event) (lines : List (List ℕ))
+    → kept (event_text names e ∷ lines) ≡ event_text names e ∷ kept lines
 event_kept names (Call p op) lines = kept_line (event_text names (Call p op)) lines refl
 event_kept names (Take from to i) lines = kept_line (event_text names (Take from to i)) lines refl
 event_kept names (Tick p) lines = kept_line (event_text names (Tick p)) lines refl
 
 events_kept : (names : List (List ℕ)) (es : List Event) → kept (map (event_text names) es) ≡ map (event_text names) es
 events_kept names [] = none_kept
-events_kept names (e ∷ es) = event_kept names e (map (event_text names) es) ∙ ap (λ l. event_text names e ∷ l) (events_kept names es)
+events_kept names (e ∷ es) =
+    event_kept names e (map (event_text names) es) ∙ ap (λ l. event_text names e ∷ l) (events_kept names es)
 
 plan_kept : (p : Plan) → kept (plan_lines p) ≡ plan_lines p
 plan_kept p =

@@ -1,5 +1,6 @@
 -- The first items of an array, read one after another.
-use Rattle.std.proofs.Common.{◌≡◌, ℕ, zero, suc, ◌+◌, ◌<◌, ◌≤◌, Bool, true, List, [], ◌∷◌, ◌++◌, length, map, take, get_or, Some, slice_get, refl, sym, ap, subst, ◌∙◌, arith, inl, inr}
+use Rattle.std.proofs.Common.{◌≡◌, ℕ, zero, suc, ◌+◌, ◌<◌, ◌≤◌, Bool, true, List, [], ◌∷◌, ◌++◌, length, map, take}
+use Rattle.std.proofs.Common.{get_or, Some, slice_get, refl, sym, ap, subst, ◌∙◌, arith, inl, inr}
 use Rattle.std.proofs.lemmas.Bool.{cases_Bool}
 use Rattle.std.proofs.lemmas.List.{map-append, length-map, take-map, take_more, take_all, get_or-map}
 use Rattle.std.proofs.lemmas.List.Folds.{list_all_at}
@@ -23,16 +24,19 @@ pub record Spelled {X : Type 0} (spell : X → Data) (Fits : X → Type 0) (vs :
   pub only : (ys : List X) → AllFit (λ _ y. Fits y) ys → map view vs ≡ map spell ys → xs ≡ take n ys
 
 pub spelled_none : {X : Type 0} (spell : X → Data) (Fits : X → Type 0) (vs : List Value) → Spelled spell Fits vs 0 []
-spelled_none spell Fits vs = record { within = omega arith; before = refl; known = λ k x e. absurd (cc); only = λ ys f e. refl }
+spelled_none spell Fits vs =
+    record { within = omega arith; before = refl; known = λ k x e. absurd (cc); only = λ ys f e. refl }
 
-one_more : {X : Type 0} (P : X → Type 0) (xs : List X) (x : X) → ((k : ℕ) (y : X) → slice_get xs k ≡ Some y → P y) → P x → (k : ℕ) (y : X) → slice_get (xs ++ x ∷ []) k ≡ Some y → P y
+one_more : {X : Type 0} (P : X → Type 0) (xs : List X) (x : X) → ((k : ℕ) (y : X) → slice_get xs k ≡ Some y → P y) → P x
+    → (k : ℕ) (y : X) → slice_get (xs ++ x ∷ []) k ≡ Some y → P y
 one_more P [] x h p zero y e = let z : x ≡ y = cc in subst P z p
 one_more P [] x h p (suc k) y e = absurd (cc)
 one_more P (z ∷ xs) x h p zero y e = h zero y e
 one_more P (z ∷ xs) x h p (suc k) y e = one_more P xs x (λ i d q. h (suc i) d q) p k y e
 
 -- what the n-th value spells is the n-th of all that the values spell
-nth_only : {X : Type 0} (spell : X → Data) (Fits : X → Type 0) (vs : List Value) (n : ℕ) (v : Value) (x : X) (ys : List X)
+nth_only : {X : Type 0} (spell : X → Data) (Fits : X → Type 0) (vs : List Value) (n : ℕ) (v : Value) (x : X)
+    (ys : List X)
     → n < length vs → v ≡ get_or vs n v → ((y : X) → Fits y → view v ≡ spell y → x ≡ y) → AllFit (λ _ y. Fits y) ys → map view vs ≡ map spell ys → x ≡ get_or ys n x
 nth_only spell Fits vs n v x ys h at one fit e =
     let count : length vs ≡ length ys = sym (length-map vs view) ∙ ap length e ∙ length-map ys spell in
@@ -42,7 +46,8 @@ nth_only spell Fits vs n v x ys h at one fit e =
     ap view at ∙ sym (get_or-map view vs n v (view v) h) ∙ ap (λ l. get_or l n (view v)) e ∙ get_or-map spell ys n x (view v) less in
     one (get_or ys n x) (fit n (get_or ys n x) here) same
 
-pub spelled_more : {X : Type 0} (spell : X → Data) (Fits : X → Type 0) (vs : List Value) (n : ℕ) (xs ys : List X) (v : Value) (x : X)
+pub spelled_more : {X : Type 0} (spell : X → Data) (Fits : X → Type 0) (vs : List Value) (n : ℕ) (xs ys : List X)
+    (v : Value) (x : X)
     → n < length vs → v ≡ get_or vs n v → view v ≡ spell x → Fits x → ((y : X) → Fits y → view v ≡ spell y → x ≡ y) → ys ≡ xs ++ x ∷ [] → Spelled spell Fits vs n xs → Spelled spell Fits vs (n + 1) ys
 spelled_more {X} spell Fits vs n xs ys v x h at is fits one e s =
     let more : map view (take (n + 1) vs) ≡ map view (take n vs) ++ view (get_or vs n v) ∷ [] =
@@ -62,15 +67,18 @@ spelled_more {X} spell Fits vs n xs ys v x h at is fits one e s =
           subst P last (ap (λ l. l ++ x ∷ []) front) ∙ sym more;
     })
 
-pub spelled_only : {X : Type 0} (spell : X → Data) (Fits : X → Type 0) (vs : List Value) (n : ℕ) (xs ys : List X) → length vs ≤ n → Spelled spell Fits vs n xs → AllFit (λ _ y. Fits y) ys → map view vs ≡ map spell ys → xs ≡ ys
+pub spelled_only : {X : Type 0} (spell : X → Data) (Fits : X → Type 0) (vs : List Value) (n : ℕ) (xs ys : List X)
+    → length vs ≤ n → Spelled spell Fits vs n xs → AllFit (λ _ y. Fits y) ys → map view vs ≡ map spell ys → xs ≡ ys
 spelled_only spell Fits vs n xs ys h s f e =
     let count : length vs ≡ length ys = sym (length-map vs view) ∙ ap length e ∙ length-map ys spell in
     s.only ys f e ∙ take_all n ys (omega arith)
 
-pub spelled_all : {X : Type 0} (spell : X → Data) (Fits : X → Type 0) (vs : List Value) (n : ℕ) (xs : List X) → length vs ≤ n → Spelled spell Fits vs n xs → map view vs ≡ map spell xs
+pub spelled_all : {X : Type 0} (spell : X → Data) (Fits : X → Type 0) (vs : List Value) (n : ℕ) (xs : List X)
+    → length vs ≤ n → Spelled spell Fits vs n xs → map view vs ≡ map spell xs
 spelled_all spell Fits vs n xs h s = ap (map view) (sym (take_all n vs h)) ∙ s.before
 
-pub first_wrong : (names : List (List ℕ)) (vs : List Value) (n : ℕ) (ops : List Op) (v : Value) → n < length vs → v ≡ get_or vs n v
+pub first_wrong : (names : List (List ℕ)) (vs : List Value) (n : ℕ) (ops : List Op) (v : Value) → n < length vs
+    → v ≡ get_or vs n v
     → ((op : Op) → OpFits names op → view v ≡ string (op_text names op) → ⊥) → Spelled (op_data names) (OpFits names) vs n ops → IsFirstWrong names (map view vs) n
 first_wrong names vs n ops v h at wrong s =
     let few : length (map view vs) ≡ length vs = length-map vs view in
@@ -84,17 +92,21 @@ first_wrong names vs n ops v h at wrong s =
       wrong = λ op fits e. wrong op fits (cc);
     }
 
-passes_at : {X : Type 0} (p : X → Bool) (xs : List X) (n : ℕ) (x : X) → n < length xs → x ≡ get_or xs n x → list_all p xs ≡ true → p x ≡ true
+passes_at : {X : Type 0} (p : X → Bool) (xs : List X) (n : ℕ) (x : X) → n < length xs → x ≡ get_or xs n x
+    → list_all p xs ≡ true → p x ≡ true
 passes_at p xs n x h at all =
     elim (cases_Bool (p (get_or xs n x))) [
       | inl good ↦ ap p at ∙ good
       | inr bad ↦ let none = list_all_at p xs n x h bad in absurd (cc)
     ]
 
-pub script_at : (p : Data → Bool) (vs : List Value) (n : ℕ) (v : Value) → n < length vs → v ≡ get_or vs n v → list_all (λ w. p (view w)) vs ≡ true → p (view v) ≡ true
+pub script_at : (p : Data → Bool) (vs : List Value) (n : ℕ) (v : Value) → n < length vs → v ≡ get_or vs n v
+    → list_all (λ w. p (view w)) vs ≡ true → p (view v) ≡ true
 script_at p vs n v h at all = passes_at (λ w. p (view w)) vs n v h at all
 
-pub first_refused : (names : List (List ℕ)) (vs : List Value) (n place : ℕ) (scripts : List (List Op)) (v : Value) (lines : List Value) → n < length vs → v ≡ get_or vs n v
+pub first_refused : (names : List (List ℕ)) (vs : List Value) (n place : ℕ) (scripts : List (List Op)) (v : Value)
+    (lines : List Value)
+    → n < length vs → v ≡ get_or vs n v
     → view v ≡ array (items_of (map view lines)) → IsFirstWrong names (map view lines) place → Spelled (script_data names) (IsScript names) vs n scripts → IsFirstRefused names (map view vs) n place
 first_refused names vs n place scripts v lines h at is wrong s =
     let few : length (map view vs) ≡ length vs = length-map vs view in
@@ -107,7 +119,9 @@ first_refused names vs n place scripts v lines h at is wrong s =
       first = wrong;
     }
 
-pub script_is_read : (names : List (List ℕ)) (vs : List Value) (n : ℕ) (ops : List Op) → length vs ≤ n → length vs ≤ MOST_OPERATIONS → Spelled (op_data names) (OpFits names) vs n ops → (map view vs ≡ map (op_data names) ops) × IsScript names ops
+pub script_is_read : (names : List (List ℕ)) (vs : List Value) (n : ℕ) (ops : List Op) → length vs ≤ n
+    → length vs ≤ MOST_OPERATIONS → Spelled (op_data names) (OpFits names) vs n ops
+    → (map view vs ≡ map (op_data names) ops) × IsScript names ops
 script_is_read names vs n ops h few s =
     let all = spelled_all (op_data names) (OpFits names) vs n ops h s in
     let same : length vs ≡ length ops = sym (length-map vs view) ∙ ap length all ∙ length-map ops (op_data names) in

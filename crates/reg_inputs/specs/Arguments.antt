@@ -1,5 +1,6 @@
 -- What stands behind the first word of a line, word by word. It carries a proof: no promise speaks of it.
-use Rattle.std.specs.Prelude.{ℕ, ◌≡◌, ◌≢◌, ◌+◌, ◌⊎◌, ⊤, List, [], ◌∷◌, ◌++◌, length, codes, Option, None, Some, slice_get}
+use Rattle.std.specs.Prelude.{ℕ, ◌≡◌, ◌≢◌, ◌+◌, ◌⊎◌, ⊤, List, [], ◌∷◌, ◌++◌, length, codes, Option, None, Some}
+use Rattle.std.specs.Prelude.{slice_get}
 use Rattle.reg_text.specs.declared.faults.Why.{Why}
 use Rattle.reg_text.specs.declared.faults.Why.TheVariants.{Range, Name}
 use Rattle.reg_inputs.specs.declared.misfits.Rule.{Rule}
@@ -35,7 +36,8 @@ next_of [] = End
 next_of (wanted ∷ more) = wanted
 
 -- the words before that of the misfit are what is wanted there, and that one isn't; so many words stand before them
-pub record IsStop (skipped : ℕ) (by : Rule) (names : List (List ℕ)) (all : List Wanted) (line : List (List ℕ)) (misfit : Misfit) : Type 0 where
+pub record IsStop (skipped : ℕ) (by : Rule) (names : List (List ℕ)) (all : List Wanted) (line : List (List ℕ))
+    (misfit : Misfit) : Type 0 where
   pub done : List Wanted
   pub left : List Wanted
   pub before : List (List ℕ)
@@ -64,7 +66,8 @@ pub record Reached (rule : Rule) (names : List (List ℕ)) (done : List Wanted) 
 -- the words of an operation
 abbrev pub AreOpWords : Rule → List (List ℕ) → List (List ℕ) → Type 0
 AreOpWords rule names [] = ⊥
-AreOpWords rule names (word ∷ words) = (arguments : List Wanted) × TakesArguments word arguments × FitAll rule names arguments words
+AreOpWords rule names (word ∷ words) =
+    (arguments : List Wanted) × TakesArguments word arguments × FitAll rule names arguments words
 
 -- the words of a call behind the first
 abbrev pub AreCallWords : Rule → List (List ℕ) → List (List ℕ) → Type 0
@@ -83,7 +86,8 @@ abbrev pub AreEventWords : Rule → List (List ℕ) → List (List ℕ) → Type
 AreEventWords rule names [] = ⊥
 AreEventWords rule names (word ∷ words) =
     ((word ≡ codes "call") × AreCallWords rule names words)
-    ⊎ (((word ≡ codes "take") × FitAll rule names take_arguments words) ⊎ ((word ≡ codes "tick") × FitAll rule names tick_arguments words))
+    ⊎ (((word ≡ codes "take") × FitAll rule names take_arguments words)
+    ⊎ ((word ≡ codes "tick") × FitAll rule names tick_arguments words))
 
 -- such words go on so, or end
 abbrev pub Follows : (List (List ℕ) → Type 0) → List (List ℕ) → Option (List ℕ) → Type 0
@@ -91,7 +95,8 @@ Follows Are before None = Are before
 Follows Are before (Some word) = (after : List (List ℕ)) × Are (before ++ word ∷ after)
 
 -- the word at this place is the first with which no such words go on, and what is wanted there goes on
-pub record IsWordMisfit (Are : List (List ℕ) → Type 0) (IsWantedThere : Option (List ℕ) → Type 0) (line : List (List ℕ)) (place : ℕ) : Type 0 where
+pub record IsWordMisfit (Are : List (List ℕ) → Type 0) (IsWantedThere : Option (List ℕ) → Type 0) (line : List (List ℕ))
+    (place : ℕ) : Type 0 where
   pub before : List (List ℕ)
   pub after : List (List ℕ)
   pub words : line ≡ before ++ after
@@ -105,7 +110,8 @@ pub record IsWordMisfit (Are : List (List ℕ) → Type 0) (IsWantedThere : Opti
 abbrev pub TellsWords : (List (List ℕ) → Type 0) → ℕ → Rule → List (List ℕ) → List (List ℕ) → Option Misfit → Type 0
 TellsWords Are skipped rule names words None = Are words
 TellsWords Are skipped rule names words (Some misfit) =
-    (place : ℕ) × (skipped + place ≡ misfit.word) × (misfit.rule ≡ rule) × IsWordMisfit Are (IsWanted rule names misfit.wanted) words place
+    (place : ℕ) × (skipped + place ≡ misfit.word) × (misfit.rule ≡ rule)
+    × IsWordMisfit Are (IsWanted rule names misfit.wanted) words place
 
 -- Why words that have the form of these arguments aren't such: a number is beyond its range, or a name is that of no
 -- register.
@@ -113,12 +119,15 @@ abbrev pub IsArgumentsWhy : List (List ℕ) → List Wanted → List (List ℕ) 
 IsArgumentsWhy names (Register ∷ []) words why = why ≡ Name
 IsArgumentsWhy names (Register ∷ wanted ∷ more) [] why = ⊤
 IsArgumentsWhy names (Register ∷ wanted ∷ more) (name ∷ words) why =
-    ((i : ℕ) → slice_get names i ≡ Some name → why ≡ Range) × (((i : ℕ) → ¬ (slice_get names i ≡ Some name)) → why ≡ Name)
+    ((i : ℕ) → slice_get names i ≡ Some name → why ≡ Range)
+    × (((i : ℕ) → ¬ (slice_get names i ≡ Some name)) → why ≡ Name)
 IsArgumentsWhy names _ words why = why ≡ Range
 
 -- why words that have the form of an operation are none
 abbrev pub IsOpWordsWhy : List (List ℕ) → List (List ℕ) → Why → Type 0
-IsOpWordsWhy names words why = (word : List ℕ) (more : List (List ℕ)) (arguments : List Wanted) → words ≡ word ∷ more → TakesArguments word arguments → IsArgumentsWhy names arguments more why
+IsOpWordsWhy names words why =
+    (word : List ℕ) (more : List (List ℕ)) (arguments : List Wanted) → words ≡ word ∷ more
+    → TakesArguments word arguments → IsArgumentsWhy names arguments more why
 
 -- why words that have the form of a call behind its first are none
 abbrev pub IsCallWordsWhy : List (List ℕ) → List (List ℕ) → Why → Type 0
@@ -128,4 +137,5 @@ IsCallWordsWhy names words why = (process : List ℕ) (more : List (List ℕ)) �
 -- why words that have the form of an event's line are none
 abbrev pub IsEventWordsWhy : List (List ℕ) → List (List ℕ) → Why → Type 0
 IsEventWordsWhy names words why = (word : List ℕ) (more : List (List ℕ)) → words ≡ word ∷ more
-    → (word ≡ codes "call" → IsCallWordsWhy names more why) × (word ≡ codes "take" → why ≡ Range) × (word ≡ codes "tick" → why ≡ Range)
+    → (word ≡ codes "call" → IsCallWordsWhy names more why) × (word ≡ codes "take" → why ≡ Range)
+    × (word ≡ codes "tick" → why ≡ Range)

@@ -2,7 +2,8 @@
 use Rattle.std.specs.Prelude.{ℕ, List, ◌++◌, codes}
 use Rattle.std.specs.Fmt.{decimal}
 use Rattle.reg_inputs.specs.declared.faults.WorkloadFault.{WorkloadFault}
-use Rattle.reg_inputs.specs.declared.faults.WorkloadFault.TheVariants.{Toml, UnknownKey, Missing, Kind, Range, Script, OutOfMemory}
+use Rattle.reg_inputs.specs.declared.faults.WorkloadFault.TheVariants.{Toml, UnknownKey, Missing, Kind, Range, Script}
+use Rattle.reg_inputs.specs.declared.faults.WorkloadFault.TheVariants.{OutOfMemory}
 use Rattle.reg_inputs.specs.Keys.{key_name}
 
 abbrev pub workload_text : WorkloadFault → List ℕ

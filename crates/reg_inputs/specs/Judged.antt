@@ -1,10 +1,12 @@
 -- The first fault of a table.
-use Rattle.std.specs.Prelude.{ℕ, pos, negsuc, ◌≡◌, ◌⊎◌, ◌<◌, Bool, true, false, ◌&&◌, ◌||◌, nat_lt, nat_le, Option, Some, None, List, [], ◌∷◌, length, map, take, slice_get, codes}
+use Rattle.std.specs.Prelude.{ℕ, pos, negsuc, ◌≡◌, ◌⊎◌, ◌<◌, Bool, true, false, ◌&&◌, ◌||◌, nat_lt, nat_le, Option}
+use Rattle.std.specs.Prelude.{Some, None, List, [], ◌∷◌, length, map, take, slice_get, codes}
 use Rattle.std.specs.List.{list_all}
 use Rattle.std.specs.Str.{bytes_eq}
 use Rattle.toml.specs.Data.{Data, string, integer, array, Items, no_items, item, Members, get_member}
 use Rattle.toml.specs.View.{items_of}
-use Rattle.reg_base.specs.declared.limits.TheConstants.{MOST_PROCESSES, MOST_OPERATIONS, MOST_EVENTS, MOST_ODDS, LAST_SEED}
+use Rattle.reg_base.specs.declared.limits.TheConstants.{MOST_PROCESSES, MOST_OPERATIONS, MOST_EVENTS, MOST_ODDS}
+use Rattle.reg_base.specs.declared.limits.TheConstants.{LAST_SEED}
 use Rattle.reg_base.specs.declared.memory.Op.{Op}
 use Rattle.reg_base.specs.declared.naming.NamesFault.{NamesFault}
 use Rattle.reg_base.specs.Names.{names_fault}
@@ -50,7 +52,8 @@ optional fault (Some d) = fault d
 
 -- one of the three names of front ends
 abbrev pub is_front : List ℕ → Bool
-is_front name = bytes_eq name (codes "linear") || (bytes_eq name (codes "local-read") || bytes_eq name (codes "local-write"))
+is_front name =
+    bytes_eq name (codes "linear") || (bytes_eq name (codes "local-read") || bytes_eq name (codes "local-write"))
 
 abbrev pub front_fault : Data → Option WorkloadFault
 front_fault (string name) = unless (is_front name) (Range key.Front)
@@ -105,7 +108,8 @@ abbrev pub front_at : Members → Option WorkloadFault
 front_at ms = needed key.Front front_fault (get_member (key_name key.Front) ms)
 
 abbrev pub registers_at : Members → Option WorkloadFault
-registers_at ms = needed key.Registers (array_fault key.Registers registers_fault) (get_member (key_name key.Registers) ms)
+registers_at ms =
+    needed key.Registers (array_fault key.Registers registers_fault) (get_member (key_name key.Registers) ms)
 
 abbrev pub scripts_at : Members → Option WorkloadFault
 scripts_at ms = needed key.Scripts (array_fault key.Scripts scripts_fault) (get_member (key_name key.Scripts) ms)

@@ -16,7 +16,12 @@ key_name Budget = codes "budget"
 
 -- one of the keys of a workload, as it is written
 abbrev pub is_key : List ℕ → Bool
-is_key name = bytes_eq name (codes "front") || (bytes_eq name (codes "registers") || (bytes_eq name (codes "scripts") || (bytes_eq name (codes "seed") || (bytes_eq name (codes "loss") || (bytes_eq name (codes "repeat") || bytes_eq name (codes "budget"))))))
+is_key name =
+    bytes_eq name (codes "front") ||
+    (bytes_eq name (codes "registers") ||
+    (bytes_eq name (codes "scripts") ||
+    (bytes_eq name (codes "seed") ||
+    (bytes_eq name (codes "loss") || (bytes_eq name (codes "repeat") || bytes_eq name (codes "budget"))))))
 
 -- all keys of a table are keys of a workload
 abbrev pub all_known : Members → Bool

@@ -14,7 +14,8 @@ is_front_form word = not (length word == 0) && list_all is_front_letter word
 
 -- `call`, a numeral and the form of an operation
 abbrev pub IsCallForm : List ℕ → List ℕ → List ℕ → Type 0
-IsCallForm line process text = (is_numeral process ≡ true) × HasOpForm text × (line ≡ codes "call " ++ (process ++ 32 ∷ text))
+IsCallForm line process text =
+    (is_numeral process ≡ true) × HasOpForm text × (line ≡ codes "call " ++ (process ++ 32 ∷ text))
 
 -- `take` and three numerals
 abbrev pub IsTakeForm : List ℕ → List ℕ → List ℕ → List ℕ → Type 0
@@ -35,8 +36,10 @@ HasEventForm line =
 -- a call whose process is within it, the operation tells.
 pub record IsEventWhy (names : List (List ℕ)) (line : List ℕ) (why : Why) : Type 0 where
   pub formed : HasEventForm line
-  pub call : (process : ℕ) (text : List ℕ) → process ≤ 255 → IsCallForm line (decimal process) text → IsOpWhy names text why
-  pub beyond : (process text : List ℕ) → ((p : ℕ) → p ≤ 255 → ¬ (process ≡ decimal p)) → IsCallForm line process text → why ≡ Range
+  pub call : (process : ℕ) (text : List ℕ) → process ≤ 255 → IsCallForm line (decimal process) text
+      → IsOpWhy names text why
+  pub beyond : (process text : List ℕ) → ((p : ℕ) → p ≤ 255 → ¬ (process ≡ decimal p)) → IsCallForm line process text
+      → why ≡ Range
   pub take : (from to number : List ℕ) → IsTakeForm line from to number → why ≡ Range
   pub tick : (process : List ℕ) → IsTickForm line process → why ≡ Range
 

@@ -2,7 +2,8 @@
 use Rattle.std.specs.Prelude.{ℕ, pos, ◌≡◌, ◌<◌, ◌≤◌, true, None, Some, Option, List, length, map}
 use Rattle.toml.specs.Data.{Data, string, integer, array, Members, get_member}
 use Rattle.toml.specs.View.{items_of}
-use Rattle.reg_base.specs.declared.limits.TheConstants.{MOST_PROCESSES, MOST_OPERATIONS, MOST_EVENTS, MOST_ODDS, LAST_SEED, USUAL_BUDGET}
+use Rattle.reg_base.specs.declared.limits.TheConstants.{MOST_PROCESSES, MOST_OPERATIONS, MOST_EVENTS, MOST_ODDS}
+use Rattle.reg_base.specs.declared.limits.TheConstants.{LAST_SEED, USUAL_BUDGET}
 use Rattle.reg_base.specs.declared.memory.Op.{Op}
 use Rattle.reg_base.specs.Shape.{Extent}
 use Rattle.reg_base.specs.Names.{names_fault}

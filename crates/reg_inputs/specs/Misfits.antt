@@ -1,6 +1,7 @@
 -- How far the words of a line go on as those of an event's line, or of an operation. To be believed: promises speak of
 -- it.
-use Rattle.std.specs.Prelude.{ℕ, ◌≡◌, ◌≤◌, ◌-◌, ◌^◌, ◌⊎◌, ◌↔◌, ⊤, true, List, [], ◌∷◌, ◌++◌, length, codes, Option, None, Some, slice_get}
+use Rattle.std.specs.Prelude.{ℕ, ◌≡◌, ◌≤◌, ◌-◌, ◌^◌, ◌⊎◌, ◌↔◌, ⊤, true, List, [], ◌∷◌, ◌++◌, length, codes, Option}
+use Rattle.std.specs.Prelude.{None, Some, slice_get}
 use Rattle.std.specs.Fmt.{decimal}
 use Rattle.reg_base.specs.declared.memory.Op.{Op}
 use Rattle.reg_process.specs.declared.events.Event.{Event}
@@ -15,7 +16,8 @@ use Rattle.reg_inputs.specs.LineForms.{HasEventForm}
 use Rattle.reg_inputs.specs.declared.misfits.Rule.{Rule}
 use Rattle.reg_inputs.specs.declared.misfits.Rule.TheVariants.{Form, Limits}
 use Rattle.reg_inputs.specs.declared.misfits.Wanted.{Wanted}
-use Rattle.reg_inputs.specs.declared.misfits.Wanted.TheVariants.{Event as AnyEvent, Operation, Process, Frame, Value, Register, End}
+use Rattle.reg_inputs.specs.declared.misfits.Wanted.TheVariants.{Event as AnyEvent, Operation, Process, Frame, Value}
+use Rattle.reg_inputs.specs.declared.misfits.Wanted.TheVariants.{Register, End}
 use Rattle.reg_inputs.specs.declared.misfits.Misfit.{Misfit}
 
 -- a numeral, and within the limits one up to this number
@@ -61,7 +63,8 @@ pub record AreWordsOf (text : List ℕ) (words : List (List ℕ)) : Type 0 where
 -- some text of this kind begins with these words, and the next one is this, or it ends behind them
 abbrev pub GoesOn : (List ℕ → Type 0) → List (List ℕ) → Option (List ℕ) → Type 0
 GoesOn Is before None = (text : List ℕ) × Is text × AreWordsOf text before
-GoesOn Is before (Some word) = (text : List ℕ) × (after : List (List ℕ)) × Is text × AreWordsOf text (before ++ word ∷ after)
+GoesOn Is before (Some word) =
+    (text : List ℕ) × (after : List (List ℕ)) × Is text × AreWordsOf text (before ++ word ∷ after)
 
 -- the first of the words, if there is one
 abbrev pub first_of : List (List ℕ) → Option (List ℕ)
@@ -70,7 +73,8 @@ first_of (word ∷ words) = Some word
 
 -- The word at this place, from 0, is the first with which no text of this kind goes on; or the text ends in its place,
 -- and none does. After the words before it, just what is wanted goes on.
-pub record IsMisfit (Is : List ℕ → Type 0) (IsWantedThere : Option (List ℕ) → Type 0) (text : List ℕ) (place : ℕ) : Type 0 where
+pub record IsMisfit (Is : List ℕ → Type 0) (IsWantedThere : Option (List ℕ) → Type 0) (text : List ℕ)
+    (place : ℕ) : Type 0 where
   pub before : List (List ℕ)
   pub after : List (List ℕ)
   pub words : AreWordsOf text (before ++ after)
@@ -90,7 +94,8 @@ IsEventBy names Form line = HasEventForm line
 IsEventBy names Limits line = (event : Event) × EventFits names event × (line ≡ event_text names event)
 
 -- The first word is told with which no text of this kind goes on: by its form, or where it has that, by the limits.
-pub record TellsMisfit (Is : Rule → List ℕ → Type 0) (names : List (List ℕ)) (text : List ℕ) (misfit : Misfit) : Type 0 where
+pub record TellsMisfit (Is : Rule → List ℕ → Type 0) (names : List (List ℕ)) (text : List ℕ)
+    (misfit : Misfit) : Type 0 where
   pub first : IsMisfit (Is misfit.rule) (IsWanted misfit.rule names misfit.wanted) text misfit.word
   pub formed : misfit.rule ≡ Limits → Is Form text
 

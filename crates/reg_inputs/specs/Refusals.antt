@@ -20,7 +20,8 @@ pub record IsProcessesWhy (line : List ℕ) (why : Why) : Type 0 where
 
 -- why a second line is refused: it has no words, or they are no names or too many
 pub record IsRegistersWhy (line : List ℕ) (why : Why) : Type 0 where
-  pub words : (ws : List (List ℕ)) → AreWords ws → line ≡ codes "registers" ++ names_text ws → IsNamesWhy MOST_REGISTERS ws why
+  pub words : (ws : List (List ℕ)) → AreWords ws → line ≡ codes "registers" ++ names_text ws
+      → IsNamesWhy MOST_REGISTERS ws why
   pub form : ((text : List ℕ) → HasWords text → ¬ (line ≡ codes "registers" ++ text)) → why ≡ Form
 
 -- why a third line is refused: it has no word, or one that names no front end

@@ -33,7 +33,9 @@ pub record Plan : Type 0 where
 
 -- the three header lines, and then the rest
 abbrev pub plan_head : ℕ → List (List ℕ) → Front → List (List ℕ) → List (List ℕ)
-plan_head processes names front rest = (codes "processes " ++ decimal processes) ∷ (codes "registers" ++ names_text names) ∷ (codes "front " ++ front_name front) ∷ rest
+plan_head processes names front rest =
+    (codes "processes " ++ decimal processes) ∷ (codes "registers" ++ names_text names)
+    ∷ (codes "front " ++ front_name front) ∷ rest
 
 -- the lines of a schedule, one for each event after the header lines
 abbrev pub plan_lines : Plan → List (List ℕ)

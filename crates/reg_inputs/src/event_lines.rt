@@ -23,8 +23,10 @@ const LAST_FRAME: u64 = 4_294_967_295;
 /// The process and the operation of a call.
 fn read_call<A: Allocator + Copy>(text: &[u8], names: &Names<A>) -> Option<(u8, Op)>
     requires { names_fault names.now ≡ None }
-    ensures read { IfSome result (λ p. (text.now ≡ decimal p.0 ++ 32 ∷ op_text names.now p.1) × (p.0 ≤ 255) × OpFits names.now p.1) }
-    ensures whole { (process : ℕ) (op : Op) → process ≤ 255 → OpFits names.now op → text.now ≡ decimal process ++ 32 ∷ op_text names.now op → result ≡ Some (process, op) }
+    ensures read { IfSome result
+        (λ p. (text.now ≡ decimal p.0 ++ 32 ∷ op_text names.now p.1) × (p.0 ≤ 255) × OpFits names.now p.1) }
+    ensures whole { (process : ℕ) (op : Op) → process ≤ 255 → OpFits names.now op
+        → text.now ≡ decimal process ++ 32 ∷ op_text names.now op → result ≡ Some (process, op) }
 {
     let (process, rest) = field_within(text, LAST_PROCESS, b' ')?;
     let op = read_op(rest, names)?;
@@ -33,8 +35,11 @@ fn read_call<A: Allocator + Copy>(text: &[u8], names: &Names<A>) -> Option<(u8, 
 
 /// The wire and the number of a take.
 fn read_take(text: &[u8]) -> Option<(u8, u8, u32)>
-    ensures read { IfSome result (λ p. (text.now ≡ decimal p.0 ++ 32 ∷ (decimal p.1 ++ 32 ∷ decimal p.2)) × (p.0 ≤ 255) × (p.1 ≤ 255) × (p.2 ≤ 4294967295)) }
-    ensures whole { (from to number : ℕ) → from ≤ 255 → to ≤ 255 → number ≤ 4294967295 → text.now ≡ decimal from ++ 32 ∷ (decimal to ++ 32 ∷ decimal number) → result ≡ Some (from, to, number) }
+    ensures read { IfSome result
+        (λ p. (text.now ≡ decimal p.0 ++ 32 ∷ (decimal p.1 ++ 32 ∷ decimal p.2)) × (p.0 ≤ 255) × (p.1 ≤ 255)
+        × (p.2 ≤ 4294967295)) }
+    ensures whole { (from to number : ℕ) → from ≤ 255 → to ≤ 255 → number ≤ 4294967295
+        → text.now ≡ decimal from ++ 32 ∷ (decimal to ++ 32 ∷ decimal number) → result ≡ Some (from, to, number) }
 {
     let (from, rest) = field_within(text, LAST_PROCESS, b' ')?;
     let (to, digits) = field_within(rest, LAST_PROCESS, b' ')?;

@@ -6,7 +6,8 @@ ghost use Rattle.reg_text.specs.Words.{names_text};
 ghost use Rattle.reg_inputs.specs.declared.misfits.Rule.TheVariants.{Form, Limits};
 ghost use Rattle.reg_inputs.specs.LineForms.{IsLineWhy};
 ghost use Rattle.reg_inputs.specs.Misfits.{AreApart, AreWordsOf, IsOpBy, IsEventBy, TellsMisfit, why_of};
-ghost use Rattle.reg_inputs.specs.Arguments.{AreOpWords, AreCallWords, AreEventWords, TellsWords, IsOpWordsWhy, IsCallWordsWhy, IsEventWordsWhy};
+ghost use Rattle.reg_inputs.specs.Arguments.{AreOpWords, AreCallWords, AreEventWords, TellsWords, IsOpWordsWhy};
+ghost use Rattle.reg_inputs.specs.Arguments.{IsCallWordsWhy, IsEventWordsWhy};
 
 use crate::misfits::{
     Misfit, Rule, Wanted, arguments_misfit, arguments_of, first_word, fits, next_word,
@@ -24,8 +25,10 @@ fn op_misfit_by<A: Allocator + Copy>(
 ) -> Option<Misfit>
     requires few { before ≤ 2 }
     requires named { names_fault names.now ≡ None }
-    ensures told { (words : List (List ℕ)) → AreWordsOf text.now words → TellsWords (AreOpWords rule names.now) before rule names.now words result }
-    ensures why { (words : List (List ℕ)) → AreWordsOf text.now words → rule ≡ Limits → AreOpWords Form names.now words → IfSome result (λ m. IsOpWordsWhy names.now words (why_of Limits m.wanted)) }
+    ensures told { (words : List (List ℕ)) → AreWordsOf text.now words
+        → TellsWords (AreOpWords rule names.now) before rule names.now words result }
+    ensures why { (words : List (List ℕ)) → AreWordsOf text.now words → rule ≡ Limits → AreOpWords Form names.now words
+        → IfSome result (λ m. IsOpWordsWhy names.now words (why_of Limits m.wanted)) }
 {
     let (word, rest) = first_word(text);
     match arguments_of(word) {
@@ -42,8 +45,11 @@ fn op_misfit_by<A: Allocator + Copy>(
 fn call_misfit<A: Allocator + Copy>(text: &[u8], names: &Names<A>, rule: Rule) -> Option<Misfit>
     requires named { names_fault names.now ≡ None }
     requires starts { Starts 32 text.now }
-    ensures told { (words : List (List ℕ)) → AreApart words → text.now ≡ names_text words → TellsWords (AreCallWords rule names.now) 1 rule names.now words result }
-    ensures why { (words : List (List ℕ)) → AreApart words → text.now ≡ names_text words → rule ≡ Limits → AreCallWords Form names.now words → IfSome result (λ m. IsCallWordsWhy names.now words (why_of Limits m.wanted)) }
+    ensures told { (words : List (List ℕ)) → AreApart words → text.now ≡ names_text words
+        → TellsWords (AreCallWords rule names.now) 1 rule names.now words result }
+    ensures why { (words : List (List ℕ)) → AreApart words → text.now ≡ names_text words → rule ≡ Limits
+        → AreCallWords Form names.now words
+        → IfSome result (λ m. IsCallWordsWhy names.now words (why_of Limits m.wanted)) }
 {
     let Some((process, rest)) = next_word(text) else {
         return Some(Misfit {
@@ -76,8 +82,11 @@ pub(crate) fn event_misfit_by<A: Allocator + Copy>(
     rule: Rule,
 ) -> Option<Misfit>
     requires named { names_fault names.now ≡ None }
-    ensures told { (words : List (List ℕ)) → AreWordsOf line.now words → TellsWords (AreEventWords rule names.now) 0 rule names.now words result }
-    ensures why { (words : List (List ℕ)) → AreWordsOf line.now words → rule ≡ Limits → AreEventWords Form names.now words → IfSome result (λ m. IsEventWordsWhy names.now words (why_of Limits m.wanted)) }
+    ensures told { (words : List (List ℕ)) → AreWordsOf line.now words
+        → TellsWords (AreEventWords rule names.now) 0 rule names.now words result }
+    ensures why { (words : List (List ℕ)) → AreWordsOf line.now words → rule ≡ Limits
+        → AreEventWords Form names.now words
+        → IfSome result (λ m. IsEventWordsWhy names.now words (why_of Limits m.wanted)) }
 {
     let (word, rest) = first_word(line);
     if word == b"call".as_slice() {

@@ -1,5 +1,6 @@
 //! The head lines that schedules and records have in common, and their readers.
-ghost use Rattle.std.specs.Prelude.{◌≡◌, ◌<◌, ◌≤◌, ℕ, List, [], ◌∷◌, ◌++◌, codes, true, false, Err, IfOk, IfErr, MatchResult, if◌then◌else◌};
+ghost use Rattle.std.specs.Prelude.{◌≡◌, ◌<◌, ◌≤◌, ℕ, List, [], ◌∷◌, ◌++◌, codes, true, false, Err, IfOk, IfErr};
+ghost use Rattle.std.specs.Prelude.{MatchResult, if◌then◌else◌};
 ghost use Rattle.std.specs.Fmt.{decimal};
 ghost use Rattle.reg_front.specs.declared.named.Front.{Front as AnyFront};
 ghost use Rattle.reg_front.specs.Table.{front_name};
@@ -32,10 +33,15 @@ fn why_front(word: &[u8]) -> Why
 /// line names no front end, `End` that no line is left.
 pub fn read_front(lines: &mut Lines<'_>) -> Result<Front, TextFault>
     ensures read { IfOk result (λ f. lines.old.left ≡ (codes "front " ++ front_name f) ∷ lines.new.left) }
-    ensures whole { (f : AnyFront) (rest : List (List ℕ)) → lines.old.left ≡ (codes "front " ++ front_name f) ∷ rest → MatchResult result (λ g. (g ≡ f) × (lines.new.left ≡ rest)) (λ _. ⊥) }
+    ensures whole { (f : AnyFront) (rest : List (List ℕ)) → lines.old.left ≡ (codes "front " ++ front_name f) ∷ rest
+        → MatchResult result (λ g. (g ≡ f) × (lines.new.left ≡ rest)) (λ _. ⊥) }
     ensures end { lines.old.left ≡ [] → result ≡ Err (TextFault.Line lines.new.number Why.End) }
-    ensures name { (word : List ℕ) (rest : List (List ℕ)) → is_front_form word ≡ true → lines.old.left ≡ (codes "front " ++ word) ∷ rest → IfErr result (λ f. f ≡ TextFault.Line lines.new.number Why.Name) }
-    ensures form { (line : List ℕ) (rest : List (List ℕ)) → lines.old.left ≡ line ∷ rest → ((word : List ℕ) → line ≡ codes "front " ++ word → is_front_form word ≡ false) → result ≡ Err (TextFault.Line lines.new.number Why.Form) }
+    ensures name { (word : List ℕ) (rest : List (List ℕ)) → is_front_form word ≡ true
+        → lines.old.left ≡ (codes "front " ++ word) ∷ rest
+        → IfErr result (λ f. f ≡ TextFault.Line lines.new.number Why.Name) }
+    ensures form { (line : List ℕ) (rest : List (List ℕ)) → lines.old.left ≡ line ∷ rest
+        → ((word : List ℕ) → line ≡ codes "front " ++ word → is_front_form word ≡ false)
+        → result ≡ Err (TextFault.Line lines.new.number Why.Form) }
     ensures fault { IfErr result (λ f. (why : AnyWhy) × (f ≡ TextFault.Line lines.new.number why)) }
     ensures asked { IsAsked lines.old lines.new }
 {
@@ -61,11 +67,18 @@ pub fn read_front(lines: &mut Lines<'_>) -> Result<Front, TextFault>
 /// `Line` names the line: `Range` says that the number is out of range, `Form` that the line has no number of
 /// processes, `End` that there is no line left.
 pub fn read_processes(lines: &mut Lines<'_>) -> Result<u32, TextFault>
-    ensures read { IfOk result (λ n. (lines.old.left ≡ (codes "processes " ++ decimal n) ∷ lines.new.left) × (0 < n) × (n ≤ MOST_PROCESSES)) }
-    ensures whole { (n : ℕ) (rest : List (List ℕ)) → 0 < n → n ≤ MOST_PROCESSES → lines.old.left ≡ (codes "processes " ++ decimal n) ∷ rest → MatchResult result (λ m. (m ≡ n) × (lines.new.left ≡ rest)) (λ _. ⊥) }
+    ensures read { IfOk result
+        (λ n. (lines.old.left ≡ (codes "processes " ++ decimal n) ∷ lines.new.left) × (0 < n) × (n ≤ MOST_PROCESSES)) }
+    ensures whole { (n : ℕ) (rest : List (List ℕ)) → 0 < n → n ≤ MOST_PROCESSES
+        → lines.old.left ≡ (codes "processes " ++ decimal n) ∷ rest
+        → MatchResult result (λ m. (m ≡ n) × (lines.new.left ≡ rest)) (λ _. ⊥) }
     ensures end { lines.old.left ≡ [] → result ≡ Err (TextFault.Line lines.new.number Why.End) }
-    ensures range { (digits : List ℕ) (rest : List (List ℕ)) → is_numeral digits ≡ true → lines.old.left ≡ (codes "processes " ++ digits) ∷ rest → IfErr result (λ f. f ≡ TextFault.Line lines.new.number Why.Range) }
-    ensures form { (line : List ℕ) (rest : List (List ℕ)) → lines.old.left ≡ line ∷ rest → ((digits : List ℕ) → line ≡ codes "processes " ++ digits → is_numeral digits ≡ false) → result ≡ Err (TextFault.Line lines.new.number Why.Form) }
+    ensures range { (digits : List ℕ) (rest : List (List ℕ)) → is_numeral digits ≡ true
+        → lines.old.left ≡ (codes "processes " ++ digits) ∷ rest
+        → IfErr result (λ f. f ≡ TextFault.Line lines.new.number Why.Range) }
+    ensures form { (line : List ℕ) (rest : List (List ℕ)) → lines.old.left ≡ line ∷ rest
+        → ((digits : List ℕ) → line ≡ codes "processes " ++ digits → is_numeral digits ≡ false)
+        → result ≡ Err (TextFault.Line lines.new.number Why.Form) }
     ensures fault { IfErr result (λ f. (why : AnyWhy) × (f ≡ TextFault.Line lines.new.number why)) }
     ensures asked { IsAsked lines.old lines.new }
 {

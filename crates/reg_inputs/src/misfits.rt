@@ -3,7 +3,8 @@ ghost use Rattle.std.specs.Prelude.{◌≡◌, ◌≤◌, ◌↔◌, ℕ, List, 
 ghost use Rattle.reg_text.specs.Parts.{Lacks};
 ghost use Rattle.reg_text.specs.Reading.{Starts};
 ghost use Rattle.reg_text.specs.Words.{names_text};
-ghost use Rattle.reg_inputs.specs.Misfits.{IsEventWord, IsOperationWord, IsWanted, IsNumber, IsRegister, AreApart, why_of};
+ghost use Rattle.reg_inputs.specs.Misfits.{IsEventWord, IsOperationWord, IsWanted, IsNumber, IsRegister, AreApart};
+ghost use Rattle.reg_inputs.specs.Misfits.{why_of};
 ghost use Rattle.reg_inputs.specs.Arguments.{TakesArguments, IsPlain, Stops};
 
 use reg_base::Names;
@@ -163,7 +164,8 @@ pub(crate) fn arguments_misfit<A: Allocator + Copy>(
     requires few { (before ≤ 3) × (length arguments.now ≤ 3) }
     requires plain { IsPlain arguments.now }
     requires starts { Starts 32 text.now }
-    ensures { (words : List (List ℕ)) → AreApart words → text.now ≡ names_text words → Stops before rule names.now arguments.now words result }
+    ensures { (words : List (List ℕ)) → AreApart words → text.now ≡ names_text words
+        → Stops before rule names.now arguments.now words result }
 {
     let mut rest = text;
     let mut word = before;

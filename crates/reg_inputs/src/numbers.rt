@@ -25,7 +25,10 @@ pub(crate) struct Numbers {
 
 /// The integer that a value is, within these limits.
 fn number_of(value: &Value, key: Key, least: u64, most: u64) -> Result<u64, WorkloadFault>
-    ensures { MatchResult result (λ n. (view value.now ≡ integer (pos n)) × (number_fault key least most (view value.now) ≡ None) × (least ≤ n) × (n ≤ most)) (λ e. number_fault key least most (view value.now) ≡ Some e) }
+    ensures { MatchResult result
+        (λ n. (view value.now ≡ integer (pos n)) × (number_fault key least most (view value.now) ≡ None) × (least ≤ n)
+        × (n ≤ most))
+        (λ e. number_fault key least most (view value.now) ≡ Some e) }
 {
     let Some(number) = value.as_integer() else {
         return Err(WorkloadFault::Kind { key });
@@ -51,7 +54,10 @@ fn read_number(
 ) -> Result<u64, WorkloadFault>
     requires least { least ≤ usual }
     requires most { usual ≤ most }
-    ensures { MatchResult result (λ n. SaysNumber usual n (get_member (key_name key) (table_view table.now)) × (number_at key least most (table_view table.now) ≡ None) × (least ≤ n) × (n ≤ most)) (λ e. number_at key least most (table_view table.now) ≡ Some e) }
+    ensures { MatchResult result
+        (λ n. SaysNumber usual n (get_member (key_name key) (table_view table.now))
+        × (number_at key least most (table_view table.now) ≡ None) × (least ≤ n) × (n ≤ most))
+        (λ e. number_at key least most (table_view table.now) ≡ Some e) }
 {
     match value_at(table, key) {
         Some(value) => number_of(value, key, least, most),
@@ -61,11 +67,18 @@ fn read_number(
 
 /// The seed, the odds and the budget of a table.
 pub(crate) fn read_numbers(table: &Table) -> Result<Numbers, WorkloadFault>
-    ensures fault { MatchResult result (λ _. numbers_at (table_view table.now) ≡ None) (λ e. numbers_at (table_view table.now) ≡ Some e) }
-    ensures seed { IfOk result (λ n. SaysNumber 0 n.seed (get_member (key_name key.Seed) (table_view table.now)) × (n.seed ≤ LAST_SEED)) }
-    ensures loss { IfOk result (λ n. SaysNumber 0 n.loss (get_member (key_name key.Loss) (table_view table.now)) × (n.loss ≤ MOST_ODDS)) }
-    ensures repeat { IfOk result (λ n. SaysNumber 0 n.repeat (get_member (key_name key.Repeat) (table_view table.now)) × (n.repeat ≤ MOST_ODDS)) }
-    ensures budget { IfOk result (λ n. SaysNumber USUAL_BUDGET n.budget (get_member (key_name key.Budget) (table_view table.now)) × (0 < n.budget) × (n.budget ≤ MOST_EVENTS)) }
+    ensures fault { MatchResult result (λ _. numbers_at (table_view table.now) ≡ None)
+        (λ e. numbers_at (table_view table.now) ≡ Some e) }
+    ensures seed { IfOk result
+        (λ n. SaysNumber 0 n.seed (get_member (key_name key.Seed) (table_view table.now)) × (n.seed ≤ LAST_SEED)) }
+    ensures loss { IfOk result
+        (λ n. SaysNumber 0 n.loss (get_member (key_name key.Loss) (table_view table.now)) × (n.loss ≤ MOST_ODDS)) }
+    ensures repeat { IfOk result
+        (λ n. SaysNumber 0 n.repeat (get_member (key_name key.Repeat) (table_view table.now))
+        × (n.repeat ≤ MOST_ODDS)) }
+    ensures budget { IfOk result
+        (λ n. SaysNumber USUAL_BUDGET n.budget (get_member (key_name key.Budget) (table_view table.now))
+        × (0 < n.budget) × (n.budget ≤ MOST_EVENTS)) }
 {
     let seed = read_number(table, Key::Seed, 0, LAST_SEED, 0)?;
     let loss = read_number(table, Key::Loss, 0, u64::from(MOST_ODDS), 0)?;

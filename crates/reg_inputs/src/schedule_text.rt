@@ -17,7 +17,8 @@ use std::io::Write;
 
 /// Puts the event that takes the frame at this place, from 0, of a wire, without a line feed.
 pub fn put_take<W: Write>(sink: &mut Sink<'_, W>, from: u8, to: u8, place: usize)
-    ensures { Puts W.contents sink.old sink.new (codes "take " ++ (decimal from ++ 32 ∷ (decimal to ++ 32 ∷ decimal place))) }
+    ensures { Puts W.contents sink.old sink.new
+        (codes "take " ++ (decimal from ++ 32 ∷ (decimal to ++ 32 ∷ decimal place))) }
 {
     put_number(sink, "take ", from as u64);
     put_number(sink, " ", to as u64);

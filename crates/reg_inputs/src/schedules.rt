@@ -1,5 +1,6 @@
 //! Schedules, and their reader.
-ghost use Rattle.std.specs.Prelude.{◌≡◌, ◌<◌, ◌≤◌, ◌⊎◌, ◌-◌, ◌^◌, OnOk, ℕ, List, length, map, None, Err, IfOk, IfErr, MatchResult};
+ghost use Rattle.std.specs.Prelude.{◌≡◌, ◌<◌, ◌≤◌, ◌⊎◌, ◌-◌, ◌^◌, OnOk, ℕ, List, length, map, None, Err, IfOk, IfErr};
+ghost use Rattle.std.specs.Prelude.{MatchResult};
 ghost use Rattle.reg_base.specs.Names.{names_fault};
 ghost use Rattle.reg_process.specs.declared.events.Event.{Event};
 ghost use Rattle.reg_front.specs.declared.named.Front.{Front};
@@ -45,11 +46,17 @@ fn read_head<A: Allocator + Copy>(
     alloc: A,
     lines: &mut Lines<'_>,
 ) -> Result<(u32, Names<A>, Front), ScheduleFault>
-    ensures read { IfOk result (λ h. (lines.old.left ≡ plan_head h.0 h.1 h.2 lines.new.left) × (0 < h.0) × (h.0 ≤ MOST_PROCESSES) × (names_fault h.1 ≡ None)) }
+    ensures read { IfOk result
+        (λ h. (lines.old.left ≡ plan_head h.0 h.1 h.2 lines.new.left) × (0 < h.0) × (h.0 ≤ MOST_PROCESSES)
+        × (names_fault h.1 ≡ None)) }
     ensures whole { (processes : ℕ) (names : List (List ℕ)) (front : Front) (rest : List (List ℕ))
-        → 0 < processes → processes ≤ MOST_PROCESSES → names_fault names ≡ None → lines.old.left ≡ plan_head processes names front rest
-        → MatchResult result (λ h. (h.0 ≡ processes) × (h.1 ≡ names) × (h.2 ≡ front) × (lines.new.left ≡ rest)) (λ f. f ≡ TextFault.OutOfMemory) }
-    ensures stopped { IfErr result (λ f. (f ≡ TextFault.OutOfMemory) ⊎ ((why : AnyWhy) × (f ≡ TextFault.Line lines.new.number why) × StopsFirst lines.old lines.new why)) }
+        → 0 < processes → processes ≤ MOST_PROCESSES → names_fault names ≡ None
+        → lines.old.left ≡ plan_head processes names front rest
+        → MatchResult result (λ h. (h.0 ≡ processes) × (h.1 ≡ names) × (h.2 ≡ front) × (lines.new.left ≡ rest))
+        (λ f. f ≡ TextFault.OutOfMemory) }
+    ensures stopped { IfErr result
+        (λ f. (f ≡ TextFault.OutOfMemory)
+        ⊎ ((why : AnyWhy) × (f ≡ TextFault.Line lines.new.number why) × StopsFirst lines.old lines.new why)) }
     ensures on { OnOk result (GoesOn lines.old lines.new) }
 {
     let processes = read_processes(lines)?;
@@ -65,10 +72,16 @@ fn read_events<A: Allocator + Copy>(
     names: &Names<A>,
 ) -> Result<Vec<Event, A>, ScheduleFault>
     requires { names_fault names.now ≡ None }
-    ensures read { IfOk result (λ v. (lines.old.left ≡ map (event_text names.now) v.items) × AllFit (λ _ x. EventFits names.now x) v.items × (length v.items ≤ MOST_EVENTS)) }
-    ensures whole { (ys : List Event) → AllFit (λ _ x. EventFits names.now x) ys → length ys ≤ MOST_EVENTS → lines.old.left ≡ map (event_text names.now) ys
+    ensures read { IfOk result
+        (λ v. (lines.old.left ≡ map (event_text names.now) v.items) × AllFit (λ _ x. EventFits names.now x) v.items
+        × (length v.items ≤ MOST_EVENTS)) }
+    ensures whole { (ys : List Event) → AllFit (λ _ x. EventFits names.now x) ys → length ys ≤ MOST_EVENTS
+        → lines.old.left ≡ map (event_text names.now) ys
         → MatchResult result (λ v. v.items ≡ ys) (λ f. f ≡ TextFault.OutOfMemory) }
-    ensures wrong { IfErr result (λ f. (f ≡ TextFault.OutOfMemory) ⊎ ((why : AnyWhy) × (f ≡ TextFault.Line lines.new.number why) × IsWrongEvent names.now lines.old lines.new why)) }
+    ensures wrong { IfErr result
+        (λ f. (f ≡ TextFault.OutOfMemory)
+        ⊎ ((why : AnyWhy) × (f ≡ TextFault.Line lines.new.number why)
+        × IsWrongEvent names.now lines.old lines.new why)) }
 {
     let mut events = Vec::new(alloc);
     for _place in 0..MOST_EVENTS {
@@ -95,8 +108,11 @@ fn read_plan<A: Allocator + Copy>(
     lines: &mut Lines<'_>,
 ) -> Result<Schedule<A>, ScheduleFault>
     ensures read { IfOk result (λ s. (lines.old.left ≡ plan_lines s) × IsPlan s) }
-    ensures whole { (p : Plan) → IsPlan p → lines.old.left ≡ plan_lines p → MatchResult result (λ w. w ≡ p) (λ f. f ≡ TextFault.OutOfMemory) }
-    ensures stopped { IfErr result (λ f. (f ≡ TextFault.OutOfMemory) ⊎ ((why : AnyWhy) × (f ≡ TextFault.Line lines.new.number why) × StopsFirst lines.old lines.new why)) }
+    ensures whole { (p : Plan) → IsPlan p → lines.old.left ≡ plan_lines p
+        → MatchResult result (λ w. w ≡ p) (λ f. f ≡ TextFault.OutOfMemory) }
+    ensures stopped { IfErr result
+        (λ f. (f ≡ TextFault.OutOfMemory)
+        ⊎ ((why : AnyWhy) × (f ≡ TextFault.Line lines.new.number why) × StopsFirst lines.old lines.new why)) }
 {
     let (processes, names, front) = read_head(alloc, lines)?;
     let Ok(shape) = Shape::new(processes, names.count() as u32) else {
@@ -123,8 +139,12 @@ pub fn parse_schedule<A: Allocator + Copy>(
     text: &str,
 ) -> Result<Schedule<A>, ScheduleFault>
     ensures read { IfOk result (λ s. Spells text.now s × IsPlan s) }
-    ensures whole { (p : Plan) → IsPlan p → Spells text.now p → MatchResult result (λ w. w ≡ p) (λ f. f ≡ TextFault.OutOfMemory) }
-    ensures line { length text.now < 2 ^ 64 - 1 → IfErr result (λ f. (f ≡ TextFault.OutOfMemory) ⊎ ((number : ℕ) × (why : AnyWhy) × (f ≡ TextFault.Line number why) × RefusesLine number why text.now)) }
+    ensures whole { (p : Plan) → IsPlan p → Spells text.now p
+        → MatchResult result (λ w. w ≡ p) (λ f. f ≡ TextFault.OutOfMemory) }
+    ensures line { length text.now < 2 ^ 64 - 1
+        → IfErr result
+        (λ f. (f ≡ TextFault.OutOfMemory)
+        ⊎ ((number : ℕ) × (why : AnyWhy) × (f ≡ TextFault.Line number why) × RefusesLine number why text.now)) }
 {
     let mut lines = Lines::skipping(text.as_bytes());
     read_plan(alloc, &mut lines)

@@ -23,7 +23,8 @@ use toml::Value;
 fn op_of<A: Allocator + Copy>(value: &Value, names: &Names<A>) -> Option<Op>
     requires { names_fault names.now ≡ None }
     ensures read { IfSome result (λ op. (view value.now ≡ string (op_text names.now op)) × OpFits names.now op) }
-    ensures whole { (op : Op) → OpFits names.now op → view value.now ≡ string (op_text names.now op) → result ≡ Some op }
+    ensures whole { (op : Op) → OpFits names.now op → view value.now ≡ string (op_text names.now op)
+        → result ≡ Some op }
 {
     match value.as_str() {
         Some(text) => read_op(text.as_bytes(), names),
@@ -40,9 +41,14 @@ fn script_of<A: Allocator + Copy>(
 ) -> Result<Vec<Op, A>, WorkloadFault>
     requires names { names_fault names.now ≡ None }
     requires short { length lines.now ≤ MOST_OPERATIONS }
-    ensures read { IfOk result (λ v. (map view lines.now ≡ map (op_data names.now) v.items) × IsScript names.now v.items) }
-    ensures only { IfOk result (λ v. (ops : List Op) → IsScript names.now ops → map view lines.now ≡ map (op_data names.now) ops → v.items ≡ ops) }
-    ensures refused { IfErr result (λ e. (e ≡ OutOfMemory) ⊎ ((place : ℕ) × (e ≡ Script process place) × IsFirstWrong names.now (map view lines.now) place)) }
+    ensures read { IfOk result
+        (λ v. (map view lines.now ≡ map (op_data names.now) v.items) × IsScript names.now v.items) }
+    ensures only { IfOk result
+        (λ v. (ops : List Op) → IsScript names.now ops → map view lines.now ≡ map (op_data names.now) ops
+        → v.items ≡ ops) }
+    ensures refused { IfErr result
+        (λ e. (e ≡ OutOfMemory)
+        ⊎ ((place : ℕ) × (e ≡ Script process place) × IsFirstWrong names.now (map view lines.now) place)) }
 {
     let mut ops = Vec::new(alloc);
     let mut place = 0u32;
@@ -81,9 +87,16 @@ pub(crate) fn scripts_of<A: Allocator + Copy>(
     requires few { length scripts.now ≤ MOST_PROCESSES }
     requires kind { list_all (λ v. is_script (view v)) scripts.now ≡ true }
     requires short { list_all (λ v. is_short (view v)) scripts.now ≡ true }
-    ensures read { IfOk result (λ v. (map view scripts.now ≡ map (script_data names.now) (lists v.items)) × AllFit (λ _ ops. IsScript names.now ops) (lists v.items)) }
-    ensures only { IfOk result (λ v. (all : List (List Op)) → AllFit (λ _ ops. IsScript names.now ops) all → map view scripts.now ≡ map (script_data names.now) all → lists v.items ≡ all) }
-    ensures refused { IfErr result (λ e. (e ≡ OutOfMemory) ⊎ ((process : ℕ) × (place : ℕ) × (e ≡ Script process place) × IsFirstRefused names.now (map view scripts.now) process place)) }
+    ensures read { IfOk result
+        (λ v. (map view scripts.now ≡ map (script_data names.now) (lists v.items))
+        × AllFit (λ _ ops. IsScript names.now ops) (lists v.items)) }
+    ensures only { IfOk result
+        (λ v. (all : List (List Op)) → AllFit (λ _ ops. IsScript names.now ops) all
+        → map view scripts.now ≡ map (script_data names.now) all → lists v.items ≡ all) }
+    ensures refused { IfErr result
+        (λ e. (e ≡ OutOfMemory)
+        ⊎ ((process : ℕ) × (place : ℕ) × (e ≡ Script process place)
+        × IsFirstRefused names.now (map view scripts.now) process place)) }
 {
     let mut all = Vec::new(alloc);
     let mut process = 0u8;

@@ -1,5 +1,6 @@
 //! The values of a table.
-ghost use Rattle.std.specs.Prelude.{◌≡◌, ◌⊎◌, ◌<◌, ◌≤◌, Option, List, None, Some, Ok, true, IsTrue, IfOk, MatchResult, map, length, option_map, nat_lt, nat_le, ◌&&◌};
+ghost use Rattle.std.specs.Prelude.{◌≡◌, ◌⊎◌, ◌<◌, ◌≤◌, Option, List, None, Some, Ok, true, IsTrue, IfOk, MatchResult};
+ghost use Rattle.std.specs.Prelude.{map, length, option_map, nat_lt, nat_le, ◌&&◌};
 ghost use Rattle.std.specs.List.{list_all};
 ghost use Rattle.toml.specs.Data.{Data, get_member, string, array};
 ghost use Rattle.toml.specs.View.{table_view, view, items_of};
@@ -12,7 +13,9 @@ ghost use Rattle.reg_inputs.specs.declared.keys.Key.TheVariants as key;
 ghost use Rattle.reg_inputs.specs.declared.faults.WorkloadFault.{WorkloadFault};
 ghost use Rattle.reg_inputs.specs.declared.faults.WorkloadFault.TheVariants.{OutOfMemory};
 ghost use Rattle.reg_inputs.specs.Loads.{texts_data};
-ghost use Rattle.reg_inputs.specs.Judged.{needed, front_fault, array_fault, is_text, text_of, registers_fault, is_script as is_script_data, is_short as is_short_data, are_few as are_few_data, front_at, registers_at, scripts_at};
+ghost use Rattle.reg_inputs.specs.Judged.{needed, front_fault, array_fault, is_text, text_of, registers_fault};
+ghost use Rattle.reg_inputs.specs.Judged.{is_script as is_script_data, is_short as is_short_data};
+ghost use Rattle.reg_inputs.specs.Judged.{are_few as are_few_data, front_at, registers_at, scripts_at};
 
 use crate::faults::WorkloadFault;
 use crate::keys::{Key, is_key};
@@ -38,7 +41,9 @@ pub(crate) fn value_at(table: &Table, key: Key) -> Option<&Value>
 
 /// The front end that a value names.
 fn front_of(value: &Value) -> Result<Front, WorkloadFault>
-    ensures fault { MatchResult result (λ f. (view value.now ≡ string (front_name f)) × (front_fault (view value.now) ≡ None)) (λ e. front_fault (view value.now) ≡ Some e) }
+    ensures fault { MatchResult result
+        (λ f. (view value.now ≡ string (front_name f)) × (front_fault (view value.now) ≡ None))
+        (λ e. front_fault (view value.now) ≡ Some e) }
     ensures whole { (f : Front) → view value.now ≡ string (front_name f) → result ≡ Ok f }
 {
     let Some(name) = value.as_str() else {
@@ -52,8 +57,12 @@ fn front_of(value: &Value) -> Result<Front, WorkloadFault>
 
 /// The front end of a table.
 pub(crate) fn read_front(table: &Table) -> Result<Front, WorkloadFault>
-    ensures fault { MatchResult result (λ f. (get_member (key_name key.Front) (table_view table.now) ≡ Some (string (front_name f))) × (front_at (table_view table.now) ≡ None)) (λ e. front_at (table_view table.now) ≡ Some e) }
-    ensures whole { (f : Front) → get_member (key_name key.Front) (table_view table.now) ≡ Some (string (front_name f)) → result ≡ Ok f }
+    ensures fault { MatchResult result
+        (λ f. (get_member (key_name key.Front) (table_view table.now) ≡ Some (string (front_name f)))
+        × (front_at (table_view table.now) ≡ None))
+        (λ e. front_at (table_view table.now) ≡ Some e) }
+    ensures whole { (f : Front) → get_member (key_name key.Front) (table_view table.now) ≡ Some (string (front_name f))
+        → result ≡ Ok f }
 {
     match value_at(table, Key::Front) {
         Some(value) => front_of(value),
@@ -63,8 +72,10 @@ pub(crate) fn read_front(table: &Table) -> Result<Front, WorkloadFault>
 
 /// The values of an array, which each workload has.
 fn array_at(table: &Table, key: Key) -> Result<&[Value], WorkloadFault>
-    ensures { MatchResult result (λ a. get_member (key_name key) (table_view table.now) ≡ Some (array (items_of (map view a.now))))
-        (λ e. (fault : List Data → Option WorkloadFault) → needed key (array_fault key fault) (get_member (key_name key) (table_view table.now)) ≡ Some e) }
+    ensures { MatchResult result
+        (λ a. get_member (key_name key) (table_view table.now) ≡ Some (array (items_of (map view a.now))))
+        (λ e. (fault : List Data → Option WorkloadFault)
+        → needed key (array_fault key fault) (get_member (key_name key) (table_view table.now)) ≡ Some e) }
 {
     let Some(value) = value_at(table, key) else {
         return Err(WorkloadFault::Missing { key });
@@ -106,7 +117,9 @@ fn copied<A: Allocator + Copy>(alloc: A, values: &[Value]) -> Result<Vec<String<
 
 /// The names that an array holds.
 fn names_of<A: Allocator + Copy>(alloc: A, values: &[Value]) -> Result<Names<A>, WorkloadFault>
-    ensures { MatchResult result (λ n. (map view values.now ≡ map string n) × (names_fault n ≡ None) × (registers_fault (map view values.now) ≡ None))
+    ensures { MatchResult result
+        (λ n. (map view values.now ≡ map string n) × (names_fault n ≡ None)
+        × (registers_fault (map view values.now) ≡ None))
         (λ e. (e ≡ OutOfMemory) ⊎ (registers_fault (map view values.now) ≡ Some e)) }
 {
     let key = Key::Registers;
@@ -127,7 +140,9 @@ pub(crate) fn read_names<A: Allocator + Copy>(
     alloc: A,
     table: &Table,
 ) -> Result<Names<A>, WorkloadFault>
-    ensures { MatchResult result (λ n. (get_member (key_name key.Registers) (table_view table.now) ≡ Some (texts_data n)) × (names_fault n ≡ None) × (registers_at (table_view table.now) ≡ None))
+    ensures { MatchResult result
+        (λ n. (get_member (key_name key.Registers) (table_view table.now) ≡ Some (texts_data n))
+        × (names_fault n ≡ None) × (registers_at (table_view table.now) ≡ None))
         (λ e. (e ≡ OutOfMemory) ⊎ (registers_at (table_view table.now) ≡ Some e)) }
 {
     let values = array_at(table, Key::Registers)?;
@@ -194,7 +209,10 @@ fn are_few(values: &[Value]) -> bool
 
 /// The scripts of a table, each an array of texts that is not too long.
 pub(crate) fn read_scripts(table: &Table) -> Result<&[Value], WorkloadFault>
-    ensures fault { MatchResult result (λ a. (get_member (key_name key.Scripts) (table_view table.now) ≡ Some (array (items_of (map view a.now)))) × (scripts_at (table_view table.now) ≡ None)) (λ e. scripts_at (table_view table.now) ≡ Some e) }
+    ensures fault { MatchResult result
+        (λ a. (get_member (key_name key.Scripts) (table_view table.now) ≡ Some (array (items_of (map view a.now))))
+        × (scripts_at (table_view table.now) ≡ None))
+        (λ e. scripts_at (table_view table.now) ≡ Some e) }
     ensures some { IfOk result (λ a. 0 < length a.now) }
     ensures few { IfOk result (λ a. length a.now ≤ MOST_PROCESSES) }
     ensures kind { IfOk result (λ a. list_all (λ v. is_script_data (view v)) a.now ≡ true) }

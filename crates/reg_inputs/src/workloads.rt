@@ -41,9 +41,29 @@ impl<A: Allocator + Copy> Model for Workload<A> {
 
     ghost Value = { Load };
 
-    ghost view = { λ w. record { shape = w.shape; names = w.names; front = w.front; scripts = lists w.scripts.items; seed = w.seed; loss = w.loss; repeat = w.repeat; budget = w.budget } };
+    ghost view = { λ w.
+        record {
+          shape = w.shape;
+          names = w.names;
+          front = w.front;
+          scripts = lists w.scripts.items;
+          seed = w.seed;
+          loss = w.loss;
+          repeat = w.repeat;
+          budget = w.budget;
+        } };
 
-    ghost invariant = { λ w. IsLoad (record { shape = w.shape; names = w.names; front = w.front; scripts = lists w.scripts.items; seed = w.seed; loss = w.loss; repeat = w.repeat; budget = w.budget }) };
+    ghost invariant = { λ w. IsLoad
+        (record {
+          shape = w.shape;
+          names = w.names;
+          front = w.front;
+          scripts = lists w.scripts.items;
+          seed = w.seed;
+          loss = w.loss;
+          repeat = w.repeat;
+          budget = w.budget;
+        }) };
 }
 
 /// The workload that a table says, or the table's first fault.
@@ -85,7 +105,8 @@ impl<A: Allocator + Copy> Workload<A> {
     /// script that has no operation; or `OutOfMemory`.
     pub fn from_table(alloc: A, table: &Table) -> Result<Workload<A>, WorkloadFault>
         ensures read { IfOk result (λ w. Says (table_view table.now) w × IsLoad w) }
-        ensures whole { (l : Load) → Says (table_view table.now) l → IsLoad l → MatchResult result (λ w. w ≡ l) (λ e. e ≡ OutOfMemory) }
+        ensures whole { (l : Load) → Says (table_view table.now) l → IsLoad l
+            → MatchResult result (λ w. w ≡ l) (λ e. e ≡ OutOfMemory) }
         ensures refused { IfErr result (λ e. (e ≡ OutOfMemory) ⊎ IsFault (table_view table.now) e) }
     {
         let work = workload_of(alloc, table)?;
@@ -125,8 +146,11 @@ impl Workload {
     /// `OutOfMemory`.
     pub fn from_toml(alloc: Global, text: &str) -> Result<Workload, WorkloadFault>
         ensures read { IfOk result (λ w. (ms : Members) × (parse_document text.now ≡ Some ms) × Says ms w × IsLoad w) }
-        ensures whole { (ms : Members) (l : Load) → parse_document text.now ≡ Some ms → Says ms l → IsLoad l → MatchResult result (λ w. w ≡ l) (λ e. e ≡ OutOfMemory) }
-        ensures refused { IfErr result (λ e. (e ≡ OutOfMemory) ⊎ ((e ≡ Toml) × (parse_document text.now ≡ None)) ⊎ ((ms : Members) × (parse_document text.now ≡ Some ms) × IsFault ms e)) }
+        ensures whole { (ms : Members) (l : Load) → parse_document text.now ≡ Some ms → Says ms l → IsLoad l
+            → MatchResult result (λ w. w ≡ l) (λ e. e ≡ OutOfMemory) }
+        ensures refused { IfErr result
+            (λ e. (e ≡ OutOfMemory) ⊎ ((e ≡ Toml) × (parse_document text.now ≡ None))
+            ⊎ ((ms : Members) × (parse_document text.now ≡ Some ms) × IsFault ms e)) }
     {
         let table = read_table(alloc, text)?;
         Workload::from_table(alloc, &table)

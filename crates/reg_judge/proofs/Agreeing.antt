@@ -1,5 +1,7 @@
 -- What stands in the history of a key's rows is alike to the key's part of the whole history.
-use Rattle.std.proofs.Common.{◌≡◌, ◌≢◌, ◌↔◌, inl, inr, ℕ, zero, suc, Bool, true, false, cond, ◌==◌, List, [], ◌∷◌, ◌++◌, length, get_or, set, slice_set, replicate, Option, Some, None, refl, ap, sym, ◌∙◌, subst, arith, append-nil}
+use Rattle.std.proofs.Common.{◌≡◌, ◌≢◌, ◌↔◌, inl, inr, ℕ, zero, suc, Bool, true, false, cond, ◌==◌, List, [], ◌∷◌, ◌++◌}
+use Rattle.std.proofs.Common.{length, get_or, set, slice_set, replicate, Option, Some, None, refl, ap, sym, ◌∙◌, subst}
+use Rattle.std.proofs.Common.{arith, append-nil}
 use Rattle.std.proofs.lemmas.Bool.{cases_eq, eq-eqb, eqb-true, false_from_ne_true}
 use Rattle.std.proofs.lemmas.Grind.{flat_map-append}
 use Rattle.std.proofs.lemmas.List.{get_or-set_same, get_or-set_other}
@@ -27,7 +29,8 @@ use Rattle.reg_judge.specs.declared.rulings.seats.Naming.{Naming}
 use Rattle.reg_judge.specs.Keys.{of_key, rows_of_key}
 use Rattle.reg_judge.specs.Standing.{OneMore, OneMore-by, Stands, Nothing, More, act_op, no_calls}
 use Rattle.reg_judge.proofs.Keying.{key_here, key_off}
-use Rattle.reg_judge.proofs.Linking.{AfterSet, after_set, alike_more, front_history, name_called, not_pushed, part_answer, part_call, same_pushed, zip_length}
+use Rattle.reg_judge.proofs.Linking.{AfterSet, after_set, alike_more, front_history, name_called, not_pushed}
+use Rattle.reg_judge.proofs.Linking.{part_answer, part_call, same_pushed, zip_length}
 use Rattle.reg_judge.proofs.Seating.{as_many, length_replicate}
 
 -- Operations of rows
@@ -38,7 +41,8 @@ act_register Write key expected value = refl
 act_register Swap key expected value = refl
 act_register CompareAndSwap key expected value = refl
 
-act_moved : (act : Act) (key expected value : ℕ) → act_op act 0 expected value ≡ at_register 0 (act_op act key expected value)
+act_moved : (act : Act) (key expected value : ℕ)
+    → act_op act 0 expected value ≡ at_register 0 (act_op act key expected value)
 act_moved Read key expected value = refl
 act_moved Write key expected value = refl
 act_moved Swap key expected value = refl
@@ -61,14 +65,19 @@ none_at zero k x e = cc
 none_at (suc n) zero x e = cc
 none_at (suc n) (suc k) x e = none_at n k x e
 
-still_called : (es : List Entry) (e : Entry) (id : OpId) (key : ℕ) → (at : ℕ) × (op : Op) × IsCalled es id at op × (register_of op ≡ key) → (at : ℕ) × (op : Op) × IsCalled (es ++ e ∷ []) id at op × (register_of op ≡ key)
+still_called : (es : List Entry) (e : Entry) (id : OpId) (key : ℕ)
+    → (at : ℕ) × (op : Op) × IsCalled es id at op × (register_of op ≡ key)
+    → (at : ℕ) × (op : Op) × IsCalled (es ++ e ∷ []) id at op × (register_of op ≡ key)
 still_called es e id key (at, op, called, on) = (at, op, (pushed es e).old (Called at id op) called, on)
 
 calls_push : (es : List Entry) (e : Entry) (held : Seats) → AreCalls es held → AreCalls (es ++ e ∷ []) held
 calls_push es e held are process id key is = still_called es e id key (are process id key is)
 
-calls_call : (es : List Entry) (at p : ℕ) (id : OpId) (op : Op) (key : ℕ) (held : Seats) → AreCalls es held → register_of op ≡ key → AreCalls (es ++ Called at id op ∷ []) (slice_set held p (Some (record { id = id; key = key })))
-calls_call es at p id op key held are on process name k is = go (after_set held p process (Some (record { id = id; key = key })) None (Some (record { id = name; key = k })) is)
+calls_call : (es : List Entry) (at p : ℕ) (id : OpId) (op : Op) (key : ℕ) (held : Seats) → AreCalls es held
+    → register_of op ≡ key
+    → AreCalls (es ++ Called at id op ∷ []) (slice_set held p (Some (record { id = id; key = key })))
+calls_call es at p id op key held are on process name k is =
+    go (after_set held p process (Some (record { id = id; key = key })) None (Some (record { id = name; key = k })) is)
   where
     go : AfterSet held p process (Some (record { id = id; key = key })) None (Some (record { id = name; key = k })) → (s : ℕ) × (o : Op) × IsCalled (es ++ Called at id op ∷ []) name s o × (register_of o ≡ k)
     go (inl (here, lt, same)) =
@@ -77,8 +86,10 @@ calls_call es at p id op key held are on process name k is = go (after_set held 
     go (inr (inl (apart, old))) = still_called es (Called at id op) name k (are process name k old)
     go (inr (inr none)) = absurd cc
 
-pub stood_calls : (naming : Naming) (processes : ℕ) (rows : List Row) (held : Seats) (entries : List Entry) → Stands naming processes rows held entries → AreCalls entries held
-stood_calls naming processes rows held entries Nothing = λ process id key is. absurd (none_at processes process (record { id = id; key = key }) is)
+pub stood_calls : (naming : Naming) (processes : ℕ) (rows : List Row) (held : Seats) (entries : List Entry)
+    → Stands naming processes rows held entries → AreCalls entries held
+stood_calls naming processes rows held entries Nothing =
+    λ process id key is. absurd (none_at processes process (record { id = id; key = key }) is)
 stood_calls naming processes rows held entries (More {held = before} {after = after} {entries = front} {more = more} row stands one) = go row.step one (stood_calls naming processes _ before front stands)
   where
     go : (s : Step) → OneMore-by s naming row before front after more → AreCalls front before → AreCalls more after
@@ -88,7 +99,8 @@ stood_calls naming processes rows held entries (More {held = before} {after = af
     go (Answer answer) (id, had, grown, is) are =
         subst (λ (es : List Entry). AreCalls es after) (sym grown) (subst (λ (l : Seats). AreCalls (front ++ Answered row.at id answer ∷ []) l) (sym is) (calls_push front (Answered row.at id answer) before are))
 
-pub stood_many : (naming : Naming) (processes : ℕ) (rows : List Row) (held : Seats) (entries : List Entry) → Stands naming processes rows held entries → length held ≡ processes
+pub stood_many : (naming : Naming) (processes : ℕ) (rows : List Row) (held : Seats) (entries : List Entry)
+    → Stands naming processes rows held entries → length held ≡ processes
 stood_many naming processes rows held entries Nothing = length_replicate processes None
 stood_many naming processes rows held entries (More {held = before} {after = after} {entries = front} {more = more} row stands one) = as_many naming row before after front more one ∙ stood_many naming processes _ before front stands
 
@@ -100,7 +112,9 @@ record Before (naming : Naming) (processes : ℕ) (rows : List Row) (row : Row) 
   stands : Stands naming processes rows seats front
   one : OneMore naming row seats front held entries
 
-stood_before : (naming : Naming) (processes : ℕ) (all : List Row) (held : Seats) (entries : List Entry) (rows : List Row) (row : Row) → Stands naming processes all held entries → all ≡ rows ++ row ∷ [] → Before naming processes rows row held entries
+stood_before : (naming : Naming) (processes : ℕ) (all : List Row) (held : Seats) (entries : List Entry)
+    (rows : List Row) (row : Row)
+    → Stands naming processes all held entries → all ≡ rows ++ row ∷ [] → Before naming processes rows row held entries
 stood_before naming processes all held entries rows row Nothing e = absurd (not_pushed rows row e)
 stood_before naming processes all held entries rows row (More {rows = old} {held = before} {after = after} {entries = front} {more = more} new stands one) e =
     let same = same_pushed old rows new row e in
@@ -111,7 +125,8 @@ stood_before naming processes all held entries rows row (More {rows = old} {held
       one = subst (λ (x : Row). OneMore naming x before front after more) same.1 one;
     }
 
-stood_none : (naming : Naming) (processes : ℕ) (all : List Row) (held : Seats) (entries : List Entry) → Stands naming processes all held entries → all ≡ [] → entries ≡ []
+stood_none : (naming : Naming) (processes : ℕ) (all : List Row) (held : Seats) (entries : List Entry)
+    → Stands naming processes all held entries → all ≡ [] → entries ≡ []
 stood_none naming processes all held entries Nothing e = refl
 stood_none naming processes all held entries (More {rows = old} new stands one) e = absurd (not_pushed old new (sym e))
 
@@ -128,23 +143,28 @@ pub record Link (one other : List Entry) (id name : OpId) : Type 0 where
   pub named_there : name_of there ≡ name
 
 abbrev pub HasLink : ℕ → List Entry → List Entry → Seats → ℕ → OpId → Type 0
-HasLink k one other seats process id = (name : OpId) × (get_or seats process None ≡ Some (record { id = name; key = 0 })) × Link one other id name
+HasLink k one other seats process id =
+    (name : OpId) × (get_or seats process None ≡ Some (record { id = name; key = 0 })) × Link one other id name
 
 -- The two are alike, and what a process called last, if at this key, stands there under the name of its last call.
 pub record Agree (k : ℕ) (held : Seats) (part : List Entry) (seats : Seats) (alone : List Entry) : Type 0 where
   pub alike : AreAlike k 0 part alone
-  pub linked : (process : ℕ) (id : OpId) → get_or held process None ≡ Some (record { id = id; key = k }) → HasLink k part alone seats process id
+  pub linked : (process : ℕ) (id : OpId) → get_or held process None ≡ Some (record { id = id; key = k })
+      → HasLink k part alone seats process id
 
 at_left : {X : Type 0} (xs : List X) (k : ℕ) (v x : X) → IsAt xs k x → IsAt (xs ++ v ∷ []) k x
 at_left [] k v x h = absurd cc
 at_left (y ∷ xs) zero v x h = h
 at_left (y ∷ xs) (suc k) v x h = at_left xs k v x h
 
-still_linked : (one other : List Entry) (a b : Entry) (id name : OpId) → Link one other id name → Link (one ++ a ∷ []) (other ++ b ∷ []) id name
+still_linked : (one other : List Entry) (a b : Entry) (id name : OpId) → Link one other id name
+    → Link (one ++ a ∷ []) (other ++ b ∷ []) id name
 still_linked one other a b id name l = record { place = l.place; here = l.here; there = l.there; at_here = at_left one l.place a l.here l.at_here; at_there = at_left other l.place b l.there l.at_there; named_here = l.named_here; named_there = l.named_there }
 
 -- a call at another key
-off_call : (k : ℕ) (held : Seats) (part : List Entry) (seats : Seats) (alone : List Entry) (p key : ℕ) (id : OpId) → key ≢ k → Agree k held part seats alone → Agree k (slice_set held p (Some (record { id = id; key = key }))) part seats alone
+off_call : (k : ℕ) (held : Seats) (part : List Entry) (seats : Seats) (alone : List Entry) (p key : ℕ) (id : OpId)
+    → key ≢ k → Agree k held part seats alone
+    → Agree k (slice_set held p (Some (record { id = id; key = key }))) part seats alone
 off_call k held part seats alone p key id apart agree = record {
   alike = agree.alike;
   linked = λ process name is. go process name (after_set held p process (Some (record { id = id; key = key })) None (Some (record { id = name; key = k })) is);
@@ -156,7 +176,10 @@ off_call k held part seats alone p key id apart agree = record {
     go process name (inr (inr none)) = absurd cc
 
 -- a call at this key
-on_call : (k : ℕ) (held : Seats) (part : List Entry) (seats : Seats) (alone : List Entry) (at p : ℕ) (id name : OpId) (op : Op) → length held ≡ length seats → register_of op ≡ k → ((i : ℕ) (e : Entry) → IsAt part i e → name_of e ≢ id) → ((i : ℕ) (e : Entry) → IsAt alone i e → name_of e ≢ name)
+on_call : (k : ℕ) (held : Seats) (part : List Entry) (seats : Seats) (alone : List Entry) (at p : ℕ) (id name : OpId)
+    (op : Op)
+    → length held ≡ length seats → register_of op ≡ k → ((i : ℕ) (e : Entry) → IsAt part i e → name_of e ≢ id)
+    → ((i : ℕ) (e : Entry) → IsAt alone i e → name_of e ≢ name)
     → Agree k held part seats alone → Agree k (slice_set held p (Some (record { id = id; key = k }))) (part ++ Called at id op ∷ []) (slice_set seats p (Some (record { id = name; key = 0 }))) (alone ++ Called at name (at_register 0 op) ∷ [])
 on_call k held part seats alone at p id name op many on new_here new_there agree = record {
   alike = alike_more k 0 part alone a b agree.alike (refl, on, refl) (λ i c d at_c at_d. ((λ e. absurd (new_here i c at_c e)), (λ e. absurd (new_there i d at_d e))));
@@ -189,7 +212,10 @@ on_call k held part seats alone at p id name op many on new_here new_there agree
     go process other (inr (inr none)) = absurd cc
 
 -- an answer at this key
-on_answer : (k : ℕ) (held : Seats) (part : List Entry) (seats : Seats) (alone : List Entry) (at p : ℕ) (id name : OpId) (answer : Reply) → get_or held p None ≡ Some (record { id = id; key = k }) → get_or seats p None ≡ Some (record { id = name; key = 0 })
+on_answer : (k : ℕ) (held : Seats) (part : List Entry) (seats : Seats) (alone : List Entry) (at p : ℕ) (id name : OpId)
+    (answer : Reply)
+    → get_or held p None ≡ Some (record { id = id; key = k })
+    → get_or seats p None ≡ Some (record { id = name; key = 0 })
     → Agree k held part seats alone → Agree k held (part ++ Answered at id answer ∷ []) seats (alone ++ Answered at name answer ∷ [])
 on_answer k held part seats alone at p id name answer had has agree = record {
   alike = alike_more k 0 part alone (Answered at id answer) (Answered at name answer) agree.alike (refl, refl) (λ i c d at_c at_d. both i c d at_c at_d);
@@ -314,7 +340,8 @@ module _ (named : Naming) (processes k : ℕ) (rows : List Row) (held : Seats) (
           ] in
           subst (λ (l : List Entry). Agrees named processes k (rows ++ row ∷ []) after l) (sym grown) (subst (λ (s : Seats). Agrees named processes k (rows ++ row ∷ []) s (entries ++ Answered row.at id answer ∷ [])) (sym is) found)
 
-entries_before : (naming : Naming) (row : Row) (held after : Seats) (entries more : List Entry) (places registers : ℕ) → OneMore naming row held entries after more → IsHistory places registers more → IsHistory places registers entries
+entries_before : (naming : Naming) (row : Row) (held after : Seats) (entries more : List Entry) (places registers : ℕ)
+    → OneMore naming row held entries after more → IsHistory places registers more → IsHistory places registers entries
 entries_before naming row held after entries more places registers one good = go row.step one
   where
     go : (s : Step) → OneMore-by s naming row held entries after more → IsHistory places registers entries
@@ -324,17 +351,23 @@ entries_before naming row held after entries more places registers one good = go
 nothing_stands : {X : Type 0} (k : ℕ) (x : X) → IsAt [] k x → ⊥
 nothing_stands k x at = cc
 
-none_agree : (k processes : ℕ) (seats : Seats) (alone : List Entry) → alone ≡ [] → Agree k (no_calls processes) [] seats alone
-none_agree k processes seats alone none = subst (λ (l : List Entry). Agree k (no_calls processes) [] seats l) (sym none) (record {
-  alike = record { entries = tt; names = λ i j a b c d at. absurd (nothing_stands i a at) };
-  linked = λ process id is. absurd (none_at processes process (record { id = id; key = k }) is);
-})
+none_agree : (k processes : ℕ) (seats : Seats) (alone : List Entry) → alone ≡ []
+    → Agree k (no_calls processes) [] seats alone
+none_agree k processes seats alone none =
+    subst (λ (l : List Entry). Agree k (no_calls processes) [] seats l) (sym none) (record {
+      alike = record { entries = tt; names = λ i j a b c d at. absurd (nothing_stands i a at) };
+      linked = λ process id is. absurd (none_at processes process (record { id = id; key = k }) is);
+    })
 
-pub stood_agrees : (naming named : Naming) (processes k : ℕ) (rows : List Row) (held : Seats) (entries : List Entry) (places registers : ℕ) → Stands naming processes rows held entries → IsHistory places registers entries → Agrees named processes k rows held entries
+pub stood_agrees : (naming named : Naming) (processes k : ℕ) (rows : List Row) (held : Seats) (entries : List Entry)
+    (places registers : ℕ)
+    → Stands naming processes rows held entries → IsHistory places registers entries
+    → Agrees named processes k rows held entries
 stood_agrees naming named processes k rows held entries places registers Nothing good = λ part seats alone stands is p r alone_good. none_agree k processes seats alone (stood_none named processes part seats alone stands is)
 stood_agrees naming named processes k rows held entries places registers (More {rows = old} {held = before} {after = after} {entries = front} {more = more} row stands one) good =
     let front_good = entries_before naming row before after front more places registers one good in
     row_more named processes k old before front places registers front_good (stood_calls naming processes old before front stands) (stood_many naming processes old before front stands) (stood_agrees naming named processes k old before front places registers stands front_good) naming row after more one
 
-pub agree_alike : (k : ℕ) (held : Seats) (part : List Entry) (seats : Seats) (alone : List Entry) → Agree k held part seats alone → AreAlike k 0 part alone
+pub agree_alike : (k : ℕ) (held : Seats) (part : List Entry) (seats : Seats) (alone : List Entry)
+    → Agree k held part seats alone → AreAlike k 0 part alone
 agree_alike k held part seats alone agree = agree.alike

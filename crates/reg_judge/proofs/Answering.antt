@@ -4,7 +4,8 @@ use Rattle.std.specs.Io.KnownBytes.{Appends}
 use Rattle.reg_text.specs.Writing.{AppendsPart}
 use Rattle.reg_judge.specs.Reported.{JudgesReport}
 
-pub judged_as : (as_report found : Bool) (P Q : List ℕ → Type 0) (text : List ℕ) → JudgesReport as_report found P text → ((answer : List ℕ) → P answer → Q answer) → JudgesReport as_report found Q text
+pub judged_as : (as_report found : Bool) (P Q : List ℕ → Type 0) (text : List ℕ) → JudgesReport as_report found P text
+    → ((answer : List ℕ) → P answer → Q answer) → JudgesReport as_report found Q text
 judged_as as_report found P Q text j to = record {
   report = j.report;
   read = j.read;

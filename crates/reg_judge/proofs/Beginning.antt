@@ -1,5 +1,6 @@
 -- A search at the first entry.
-use Rattle.std.proofs.Common.{◌≡◌, ℕ, zero, suc, ◌<◌, List, Option, Some, None, Vec, replicate, length, refl, ap, sym, ◌∙◌, subst, inl, arith}
+use Rattle.std.proofs.Common.{◌≡◌, ℕ, zero, suc, ◌<◌, List, Option, Some, None, Vec, replicate, length, refl, ap, sym}
+use Rattle.std.proofs.Common.{◌∙◌, subst, inl, arith}
 use Rattle.std.specs.Int.{bit_at}
 use Rattle.std.proofs.lemmas.Nat.Bits.{bit_at-zero}
 use Rattle.std.specs.Prelude.{option_and_then}
@@ -28,12 +29,18 @@ runs_none (suc n) zero = refl
 runs_none (suc n) (suc p) = runs_none n p
 
 pub known_acts : {A : Type 0} (h : List Entry) (rows : Rows A) → IsTable h rows → AreKnown h (act_in rows)
-known_acts h rows table id was = let f = table.all id was in (f.0, table.facts id f.0 f.1, ap (option_and_then act_of) f.1)
+known_acts h rows table id was =
+    let f = table.all id was in (f.0, table.facts id f.0 f.1, ap (option_and_then act_of) f.1)
 
-pub waiting_first : {A : Type 0} (n : ℕ) (h : List Entry) (rows : Rows A) (running : List (Option Call)) → running ≡ replicate n None → AreWaiting h (act_in rows) 0 running
+pub waiting_first : {A : Type 0} (n : ℕ) (h : List Entry) (rows : Rows A) (running : List (Option Call))
+    → running ≡ replicate n None → AreWaiting h (act_in rows) 0 running
 waiting_first n h rows running idle p c at = absurd (let none : Some c ≡ None = idle_at n p (Some c) (subst (λ (l : List (Option Call)). IsAt l p (Some c)) idle at) in cc)
 
-pub alive_first : {A B : Type 0} (n registers : ℕ) (h : List Entry) (rows : Rows A) (running : List (Option Call)) (layers : List (Vec Stage B)) → IsHistory n registers h → IsTable h rows → running ≡ replicate n None → length layers ≡ registers → AreFirst layers → (ps : List Point) → IsPointOrder registers h ps → AreAlive (act_in rows) (run_of running) h layers
+pub alive_first : {A B : Type 0} (n registers : ℕ) (h : List Entry) (rows : Rows A) (running : List (Option Call))
+    (layers : List (Vec Stage B))
+    → IsHistory n registers h → IsTable h rows → running ≡ replicate n None → length layers ≡ registers
+    → AreFirst layers → (ps : List Point) → IsPointOrder registers h ps
+    → AreAlive (act_in rows) (run_of running) h layers
 alive_first n registers h rows running layers good table idle count first ps order r layer at =
     let s = first r layer at in
     let fits : r < registers = (let lt = within layers r layer at in omega (arith, lt, count)) in

@@ -1,4 +1,5 @@
--- Operations that do no harm: where the entries that follow can be gone through, they can be with such operations placed
+-- Operations that do no harm: where the entries that follow can be gone through, they can be with such operations
+-- placed
 -- besides.
 use Rattle.std.proofs.Common.{◌≡◌, ◌⊎◌, inl, inr, ℕ, suc, List, ◌∷◌, Option, Some, None, refl, ap, sym, ◌∙◌, subst}
 use Rattle.std.specs.Option.{unwrap_or}
@@ -13,7 +14,8 @@ use Rattle.reg_judge.specs.declared.acts.Act.{Act}
 use Rattle.reg_judge.specs.declared.acts.Ask.{Ask}
 use Rattle.reg_judge.specs.declared.acts.Ask.TheVariants.{Anything, Just, AllBut}
 use Rattle.reg_judge.specs.Acts.{Heeds, Suits, value_after}
-use Rattle.reg_judge.specs.Completing.{Answers, Calls, Completes, Covers, Elsewhere, Ends, IsFree, IsOn, IsUnneeded, Places, Running, put}
+use Rattle.reg_judge.specs.Completing.{Answers, Calls, Completes, Covers, Elsewhere, Ends, IsFree, IsOn, IsUnneeded}
+use Rattle.reg_judge.specs.Completing.{Places, Running, put}
 use Rattle.reg_judge.proofs.Puts.{none_some, put_here, put_there}
 
 -- what may come at a value that it doesn't heed, may come at any
@@ -24,7 +26,8 @@ suits_any (AllBut u) v suits not w = absurd (not (inr refl))
 
 module _ (r : ℕ) (act : OpId → Option Act) where
   -- more operations may be placed
-  pub longer : {n : ℕ} {run : Running} {placed : ℕ → ℕ} {v : ℕ} {es : List Entry} → Completes r act n run placed v es → Completes r act (suc n) run placed v es
+  pub longer : {n : ℕ} {run : Running} {placed : ℕ → ℕ} {v : ℕ} {es : List Entry} → Completes r act n run placed v es
+      → Completes r act (suc n) run placed v es
   longer Ends = Ends
   longer (Places p a here on free fits rest) = Places p a here on free fits (longer rest)
   longer (Calls at id op idle rest) = Calls at id op idle (longer rest)
@@ -51,7 +54,8 @@ module _ (r : ℕ) (act : OpId → Option Act) where
   }
 
   -- a value that none needs may be another
-  pub any_value : {n : ℕ} {run : Running} {placed : ℕ → ℕ} {v : ℕ} {es : List Entry} → Completes r act n run placed v es → IsUnneeded r act run es v → (w : ℕ) → Completes r act n run placed w es
+  pub any_value : {n : ℕ} {run : Running} {placed : ℕ → ℕ} {v : ℕ} {es : List Entry} → Completes r act n run placed v es
+      → IsUnneeded r act run es v → (w : ℕ) → Completes r act n run placed w es
   any_value Ends none w = Ends
   any_value {v = v} (Places {n = n} {run = run} {placed = placed} {es = es} p a here on free fits rest) none w = go a.makes refl (λ unneeded. any_value rest unneeded w)
     where
@@ -142,7 +146,9 @@ module _ (r : ℕ) (act : OpId → Option Act) where
           let at : Completes r act n other placed u es = subst (λ (x : ℕ). Completes r act n other placed x es) (ap (λ (o : Option ℕ). unwrap_or o v) made) rest in
           longer (any_value at (unneeded_same run other es u same (unneeded u made)) v)
 
-  pub covering : {n : ℕ} {run : Running} {placed : ℕ → ℕ} {v : ℕ} {es : List Entry} → Completes r act n run placed v es → (other : Running) → ((q : ℕ) → other q ≡ run q) → (more : ℕ → ℕ) → Covers r act run es placed more → Completes r act n other more v es
+  pub covering : {n : ℕ} {run : Running} {placed : ℕ → ℕ} {v : ℕ} {es : List Entry} → Completes r act n run placed v es
+      → (other : Running) → ((q : ℕ) → other q ≡ run q) → (more : ℕ → ℕ) → Covers r act run es placed more
+      → Completes r act n other more v es
   covering Ends other same more covers = Ends
   covering (Places {n = n} {run = run} {placed = placed} {v = v} {es = es} p a here on free fits rest) other same more covers = elim (covers p) [
     | inl agree ↦ Places p a (same p ∙ here) on (agree ∙ free) fits (covering rest other same (put more p 1) (covers_place run es placed more p covers))

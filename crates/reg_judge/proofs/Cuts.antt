@@ -1,5 +1,6 @@
 -- Cuts of a history and a point order: so many entries, and the points that lie before.
-use Rattle.std.proofs.Common.{◌≡◌, ◌≢◌, ◌⊎◌, inl, inr, ℕ, suc, ◌<◌, List, Option, None, take, ap, ap₂, sym, ◌∙◌, subst, arith}
+use Rattle.std.proofs.Common.{◌≡◌, ◌≢◌, ◌⊎◌, inl, inr, ℕ, suc, ◌<◌, List, Option, None, take, ap, ap₂, sym, ◌∙◌, subst}
+use Rattle.std.proofs.Common.{arith}
 use Rattle.std.proofs.lemmas.Bool.{cases_eq, cases_order}
 use Rattle.reg_base.specs.declared.memory.OpId.{OpId}
 use Rattle.reg_base.specs.declared.memory.Op.{Op}
@@ -36,8 +37,10 @@ pub record IsCut (h : List Entry) (ids : List OpId) (act : OpId → Option Act) 
   pub high : (id : OpId) → IsFinished (take k h) id → (i : ℕ) × IsAt ids i id × (i < j)
   pub runs : (id : OpId) → IsOpen h k id → run id.process ≡ act id
   pub idle : (p : ℕ) → Rests h k p → (run p ≡ None) × (placed p ≡ 0)
-  pub yes : (id : OpId) (i : ℕ) → IsOpen h k id → IsAt ids i id → i < j → IsOnRegister h r id → IsFinished h id → placed id.process ≡ 1
-  pub no : (id : OpId) → IsOpen h k id → ((i : ℕ) → IsAt ids i id → i < j → ¬ IsOnRegister h r id) → placed id.process ≡ 0
+  pub yes : (id : OpId) (i : ℕ) → IsOpen h k id → IsAt ids i id → i < j → IsOnRegister h r id → IsFinished h id
+      → placed id.process ≡ 1
+  pub no : (id : OpId) → IsOpen h k id → ((i : ℕ) → IsAt ids i id → i < j → ¬ IsOnRegister h r id)
+      → placed id.process ≡ 0
 
 module _ (n registers : ℕ) (h : List Entry) (good : IsHistory n registers h) where
   -- a process runs one operation

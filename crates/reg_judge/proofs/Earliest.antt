@@ -1,5 +1,6 @@
 -- The first answer that no point order explains is the earliest of those of the keys.
-use Rattle.std.proofs.Common.{◌≡◌, ◌⊎◌, inl, inr, ℕ, ◌+◌, ◌<◌, ◌≤◌, List, Option, Some, None, IfSome, length, take, ap, sym, ◌∙◌, subst, arith}
+use Rattle.std.proofs.Common.{◌≡◌, ◌⊎◌, inl, inr, ℕ, ◌+◌, ◌<◌, ◌≤◌, List, Option, Some, None, IfSome, length, take, ap}
+use Rattle.std.proofs.Common.{sym, ◌∙◌, subst, arith}
 use Rattle.std.proofs.lemmas.Bool.{cases_eq}
 use Rattle.std.proofs.lemmas.Option.{slice_get_within}
 use Rattle.reg_base.specs.declared.memory.Answer.{Answer}
@@ -35,14 +36,18 @@ key_cases : (key i : ℕ) → key < i + 1 → (key < i) ⊎ (key ≡ i)
 key_cases key i lt = elim (cases_eq key i) [ inl same ↦ inr same | inr apart ↦ inl (omega (arith, lt, apart)) ]
 
 -- what stands there
-ruling_there : (rulings : List Ruling) (i key t : ℕ) (ruling : Ruling) → IsAt rulings i ruling → key ≡ i → IsAt rulings key (Not t) → ruling ≡ Not t
-ruling_there rulings i key t ruling here same at = same_at rulings i ruling (Not t) here (subst (λ (k : ℕ). IsAt rulings k (Not t)) same at)
+ruling_there : (rulings : List Ruling) (i key t : ℕ) (ruling : Ruling) → IsAt rulings i ruling → key ≡ i
+    → IsAt rulings key (Not t) → ruling ≡ Not t
+ruling_there rulings i key t ruling here same at =
+    same_at rulings i ruling (Not t) here (subst (λ (k : ℕ). IsAt rulings k (Not t)) same at)
 
 not_same : (a b : ℕ) → Not a ≡ Not b → a ≡ b
 not_same a b e = cc
 
-pub first_more : (i : ℕ) (rulings : List Ruling) (ruling : Ruling) (found next : Option ℕ) → IsAt rulings i ruling → IsEarlier found ruling next → IsFirstTo i rulings found → IsFirstTo (i + 1) rulings next
-first_more i rulings Linearizable found next here is before = subst (IsFirstTo (i + 1) rulings) (sym is) (go found before)
+pub first_more : (i : ℕ) (rulings : List Ruling) (ruling : Ruling) (found next : Option ℕ) → IsAt rulings i ruling
+    → IsEarlier found ruling next → IsFirstTo i rulings found → IsFirstTo (i + 1) rulings next
+first_more i rulings Linearizable found next here is before =
+    subst (IsFirstTo (i + 1) rulings) (sym is) (go found before)
   where
     go : (o : Option ℕ) → IsFirstTo i rulings o → IsFirstTo (i + 1) rulings o
     go None none = λ key t lt at. elim (key_cases key i lt) [
@@ -63,29 +68,33 @@ first_more i rulings (Not at) None next here is none = subst (IsFirstTo (i + 1) 
     | inr same ↦ let e = not_same at t (ruling_there rulings i key t (Not at) here same there) in omega (arith, e)
   ],
 )
-first_more i rulings (Not at) (Some first) next here (inl (is, le)) (there, least) = subst (IsFirstTo (i + 1) rulings) (sym is) (
-  there,
-  λ key t lt at_key. elim (key_cases key i lt) [
-    | inl less ↦ least key t less at_key
-    | inr same ↦ let e = not_same at t (ruling_there rulings i key t (Not at) here same at_key) in omega (arith, e, le)
-  ],
-)
-first_more i rulings (Not at) (Some first) next here (inr (is, le)) (there, least) = subst (IsFirstTo (i + 1) rulings) (sym is) (
-  (i, here),
-  λ key t lt at_key. elim (key_cases key i lt) [
-    | inl less ↦ let low = least key t less at_key in omega (arith, low, le)
-    | inr same ↦ let e = not_same at t (ruling_there rulings i key t (Not at) here same at_key) in omega (arith, e)
-  ],
-)
+first_more i rulings (Not at) (Some first) next here (inl (is, le)) (there, least) =
+    subst (IsFirstTo (i + 1) rulings) (sym is) (
+      there,
+      λ key t lt at_key. elim (key_cases key i lt) [
+        | inl less ↦ least key t less at_key
+        | inr same ↦ let e = not_same at t (ruling_there rulings i key t (Not at) here same at_key) in omega (arith, e, le)
+      ],
+    )
+first_more i rulings (Not at) (Some first) next here (inr (is, le)) (there, least) =
+    subst (IsFirstTo (i + 1) rulings) (sym is) (
+      (i, here),
+      λ key t lt at_key. elim (key_cases key i lt) [
+        | inl less ↦ let low = least key t less at_key in omega (arith, low, le)
+        | inr same ↦ let e = not_same at t (ruling_there rulings i key t (Not at) here same at_key) in omega (arith, e)
+      ],
+    )
 
-first_all : (i : ℕ) (rulings : List Ruling) (at : ℕ) → length rulings ≤ i → IsFirstTo i rulings (Some at) → IsFirstNot rulings at
+first_all : (i : ℕ) (rulings : List Ruling) (at : ℕ) → length rulings ≤ i → IsFirstTo i rulings (Some at)
+    → IsFirstNot rulings at
 first_all i rulings at le ((key, is), least) = record {
   key = key;
   is = is;
   least = λ other t there. (let inside = slice_get_within rulings other (Not t) there in least other t (omega (arith, inside, le)) there);
 }
 
-pub found_all : (i : ℕ) (rulings : List Ruling) (found : Option ℕ) → length rulings ≤ i → IsFirstTo i rulings found → IfSome found (IsFirstNot rulings)
+pub found_all : (i : ℕ) (rulings : List Ruling) (found : Option ℕ) → length rulings ≤ i → IsFirstTo i rulings found
+    → IfSome found (IsFirstNot rulings)
 found_all i rulings None le none = tt
 found_all i rulings (Some at) le first = first_all i rulings at le first
 
@@ -131,5 +140,8 @@ module _ (naming : Naming) (processes registers : ℕ) (rows : List Row) (entrie
     record { answer = (at, id, answer, here); none = none_here; before = before_has },
   )
 
-pub unexplained : (processes registers : ℕ) (entries : List Entry) (rulings : List Ruling) (place : ℕ) → IsHistory processes registers entries → AreRulingsOf processes registers entries rulings → (at : ℕ) × IsFirstNot rulings at × IsAnswerAt entries at place → (¬ HasPointOrder registers entries) × IsFirstUnexplained registers entries place
+pub unexplained : (processes registers : ℕ) (entries : List Entry) (rulings : List Ruling) (place : ℕ)
+    → IsHistory processes registers entries → AreRulingsOf processes registers entries rulings
+    → (at : ℕ) × IsFirstNot rulings at × IsAnswerAt entries at place
+    → (¬ HasPointOrder registers entries) × IsFirstUnexplained registers entries place
 unexplained processes registers entries rulings place good (rows, of, are) (at, first, (id, answer, here)) = is_unexplained Own processes registers rows entries (history_stood processes registers entries good rows of) rulings are at first place id answer here

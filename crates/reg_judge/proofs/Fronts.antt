@@ -1,6 +1,8 @@
--- A history with a point order has one for each of its first parts: of the points those stay whose operation is finished
+-- A history with a point order has one for each of its first parts: of the points those stay whose operation is
+-- finished
 -- there, or is an update that was called there.
-use Rattle.std.proofs.Common.{◌≡◌, ◌⊎◌, inl, inr, ℕ, suc, ◌<◌, ◌≤◌, Bool, true, false, cond, ◌&&◌, ◌==◌, List, [], ◌∷◌, map, replicate, take, refl, ap, ap₂, sym, ◌∙◌, subst, arith}
+use Rattle.std.proofs.Common.{◌≡◌, ◌⊎◌, inl, inr, ℕ, suc, ◌<◌, ◌≤◌, Bool, true, false, cond, ◌&&◌, ◌==◌, List, [], ◌∷◌}
+use Rattle.std.proofs.Common.{map, replicate, take, refl, ap, ap₂, sym, ◌∙◌, subst, arith}
 use Rattle.std.specs.List.{filter, list_any}
 use Rattle.std.proofs.lemmas.Bool.{and_from, and_parts, cases_order, eq-eqb, eqb-true, false_from_ne_true}
 use Rattle.reg_base.specs.declared.memory.OpId.{OpId}
@@ -54,7 +56,8 @@ called_true : (es : List Entry) (id : OpId) → WasCalled es id → is_called es
 called_true es id (at, op, (k, here)) = any_from (calls id) es k (Called at id op) here (id_self id)
 
 called_entry : (es : List Entry) (id : OpId) (k : ℕ) (e : Entry) → IsAt es k e → calls id e ≡ true → WasCalled es id
-called_entry es id k (Called at other op) here is = (at, op, (k, subst (λ (x : OpId). IsAt es k (Called at x op)) (id_is other id is) here))
+called_entry es id k (Called at other op) here is =
+    (at, op, (k, subst (λ (x : OpId). IsAt es k (Called at x op)) (id_is other id is) here))
 called_entry es id k (Answered at other answer) here is = absurd cc
 
 called_is : (es : List Entry) (id : OpId) → is_called es id ≡ true → WasCalled es id
@@ -63,8 +66,10 @@ called_is es id is = let there = at_any (calls id) es is in called_entry es id t
 stays_finished : (es : List Entry) (id : OpId) → IsFinished es id → stays es id ≡ true
 stays_finished es id (at, answer, (k, here)) = any_from (keeps id) es k (Answered at id answer) here (id_self id)
 
-stays_update : (es : List Entry) (id : OpId) (at : ℕ) (op : Op) → IsCalled es id at op → updates op ≡ true → stays es id ≡ true
-stays_update es id at op (k, here) up = any_from (keeps id) es k (Called at id op) here (and_from (is_id id id) (updates op) (id_self id) up)
+stays_update : (es : List Entry) (id : OpId) (at : ℕ) (op : Op) → IsCalled es id at op → updates op ≡ true
+    → stays es id ≡ true
+stays_update es id at op (k, here) up =
+    any_from (keeps id) es k (Called at id op) here (and_from (is_id id id) (updates op) (id_self id) up)
 
 abbrev Stays : List Entry → OpId → Type 0
 Stays es id = IsFinished es id ⊎ ((at : ℕ) × (op : Op) × IsCalled es id at op × (updates op ≡ true))
@@ -73,7 +78,8 @@ stays_entry : (es : List Entry) (id : OpId) (k : ℕ) (e : Entry) → IsAt es k 
 stays_entry es id k (Called at other op) here is =
     let both = and_parts (is_id other id) (updates op) is in
     inr (at, op, (k, subst (λ (x : OpId). IsAt es k (Called at x op)) (id_is other id both.0) here), both.1)
-stays_entry es id k (Answered at other answer) here is = inl (at, answer, (k, subst (λ (x : OpId). IsAt es k (Answered at x answer)) (id_is other id is) here))
+stays_entry es id k (Answered at other answer) here is =
+    inl (at, answer, (k, subst (λ (x : OpId). IsAt es k (Answered at x answer)) (id_is other id is) here))
 
 stays_is : (es : List Entry) (id : OpId) → stays es id ≡ true → Stays es id
 stays_is es id is = let there = at_any (keeps id) es is in stays_entry es id there.0 there.1 there.2 there.3
@@ -195,5 +201,7 @@ module _ (n registers : ℕ) (h : List Entry) (good : IsHistory n registers h) (
       rising = in_order_filter (λ p q. p.at ≤ q.at) (λ p. stays (take count h) p.id) ps order.rising;
     }
 
-pub front_has : (n registers : ℕ) (h : List Entry) → IsHistory n registers h → (count : ℕ) → HasPointOrder registers h → HasPointOrder registers (take count h)
-front_has n registers h good count (ps, order) = (filter (λ p. stays (take count h) p.id) ps, front_order n registers h good count ps order)
+pub front_has : (n registers : ℕ) (h : List Entry) → IsHistory n registers h → (count : ℕ) → HasPointOrder registers h
+    → HasPointOrder registers (take count h)
+front_has n registers h good count (ps, order) =
+    (filter (λ p. stays (take count h) p.id) ps, front_order n registers h good count ps order)

@@ -1,5 +1,6 @@
 -- One entry more: from what goes on through it to what goes on after it.
-use Rattle.std.proofs.Common.{◌≡◌, ◌≢◌, ◌⊎◌, inl, inr, ℕ, suc, List, ◌∷◌, Option, Some, None, true, refl, ap, sym, ◌∙◌, subst, arith}
+use Rattle.std.proofs.Common.{◌≡◌, ◌≢◌, ◌⊎◌, inl, inr, ℕ, suc, List, ◌∷◌, Option, Some, None, true, refl, ap, sym, ◌∙◌}
+use Rattle.std.proofs.Common.{subst, arith}
 use Rattle.std.specs.Int.{bit_at}
 use Rattle.std.proofs.lemmas.Bool.{cases_eq}
 use Rattle.std.proofs.lemmas.Nat.Bits.{bit_at-lt}
@@ -27,11 +28,16 @@ bit_cases n q = elim (cases_eq (bit_at n q) 0) [
 
 module _ (r : ℕ) (act : OpId → Option Act) where
   -- what is placed may be told by another function
-  pub same_placed : {n : ℕ} {run : Running} {placed : ℕ → ℕ} {v : ℕ} {es : List Entry} → Completes r act n run placed v es → (other : ℕ → ℕ) → ((q : ℕ) → other q ≡ placed q) → Completes r act n run other v es
+  pub same_placed : {n : ℕ} {run : Running} {placed : ℕ → ℕ} {v : ℕ} {es : List Entry}
+      → Completes r act n run placed v es → (other : ℕ → ℕ) → ((q : ℕ) → other q ≡ placed q)
+      → Completes r act n run other v es
   same_placed {run = run} completes other same = covering r act completes run (λ q. refl) other (λ q. inl (same q))
 
   -- an answer to what is placed
-  pub after_answer : {n : ℕ} {run : Running} {placed : ℕ → ℕ} {v : ℕ} {es : List Entry} (t : ℕ) (x : OpId) (answer : Answer) → Completes r act n run placed v (Answered t x answer ∷ es) → IsOn r run x.process → placed x.process ≡ 1 → Completes r act n (put run x.process None) (put placed x.process 0) v es
+  pub after_answer : {n : ℕ} {run : Running} {placed : ℕ → ℕ} {v : ℕ} {es : List Entry} (t : ℕ) (x : OpId)
+      (answer : Answer)
+      → Completes r act n run placed v (Answered t x answer ∷ es) → IsOn r run x.process → placed x.process ≡ 1
+      → Completes r act n (put run x.process None) (put placed x.process 0) v es
   after_answer {placed = placed} t x answer (Places {n = n} {run = run} {v = v} {es = _} p a here on free fits rest) is one =
       let apart : p ≢ x.process = λ e. (let z : placed x.process ≡ 0 = ap placed (sym e) ∙ free in omega (arith, z, one)) in
       let again = after_answer t x answer rest is (put_there placed p 1 x.process (λ e. apart (sym e)) ∙ one) in
@@ -49,7 +55,10 @@ module _ (r : ℕ) (act : OpId → Option Act) where
   after_answer t x answer (Elsewhere at id other off rest) is one = absurd (off is)
 
   -- an answer to what runs on another register
-  pub after_other : {n : ℕ} {run : Running} {placed : ℕ → ℕ} {v : ℕ} {es : List Entry} (t : ℕ) (x : OpId) (answer : Answer) → Completes r act n run placed v (Answered t x answer ∷ es) → ¬ IsOn r run x.process → Completes r act n (put run x.process None) placed v es
+  pub after_other : {n : ℕ} {run : Running} {placed : ℕ → ℕ} {v : ℕ} {es : List Entry} (t : ℕ) (x : OpId)
+      (answer : Answer)
+      → Completes r act n run placed v (Answered t x answer ∷ es) → ¬ IsOn r run x.process
+      → Completes r act n (put run x.process None) placed v es
   after_other t x answer (Places {run = run} p a here on free fits rest) not =
       let apart : p ≢ x.process = λ e. not (a, ap run (sym e) ∙ here, on) in
       Places p a (put_there run x.process None p apart ∙ here) on free fits (after_other t x answer rest not)
@@ -57,12 +66,14 @@ module _ (r : ℕ) (act : OpId → Option Act) where
   after_other t x answer (Elsewhere at id other off rest) not = rest
 
   -- a process that calls runs nothing
-  pub idle_at_call : {n : ℕ} {run : Running} {placed : ℕ → ℕ} {v : ℕ} {es : List Entry} (t : ℕ) (x : OpId) (op : Op) → Completes r act n run placed v (Called t x op ∷ es) → run x.process ≡ None
+  pub idle_at_call : {n : ℕ} {run : Running} {placed : ℕ → ℕ} {v : ℕ} {es : List Entry} (t : ℕ) (x : OpId) (op : Op)
+      → Completes r act n run placed v (Called t x op ∷ es) → run x.process ≡ None
   idle_at_call t x op (Places p a here on free fits rest) = idle_at_call t x op rest
   idle_at_call t x op (Calls at id other idle rest) = idle
 
   -- a call
-  pub after_call : {n : ℕ} {run : Running} {placed : ℕ → ℕ} {v : ℕ} {es : List Entry} (t : ℕ) (x : OpId) (op : Op) → Completes r act n run placed v (Called t x op ∷ es) → Completes r act n (put run x.process (act x)) placed v es
+  pub after_call : {n : ℕ} {run : Running} {placed : ℕ → ℕ} {v : ℕ} {es : List Entry} (t : ℕ) (x : OpId) (op : Op)
+      → Completes r act n run placed v (Called t x op ∷ es) → Completes r act n (put run x.process (act x)) placed v es
   after_call t x op (Places {run = run} p a here on free fits rest) =
       let idle = idle_at_call t x op rest in
       let apart : p ≢ x.process = λ e. none_some (run p) a (ap run e ∙ idle) here in
@@ -129,15 +140,20 @@ module _ (r : ℕ) (act : OpId → Option Act) where
         (can.4.0, kept.0, y, kept.2, subst (λ (v : ℕ). Completes r act can.4.0 (put run x.process None) (bit_at y.placed) v rest) (sym kept.3) (same_placed after (bit_at y.placed) kept.4))
 
   -- and where it is answered on another register
-  pub alive_after_other : (run : Running) (t : ℕ) (x : OpId) (answer : Answer) (rest : List Entry) (stages : List Stage) → ¬ IsOn r run x.process → IsAlive r act run (Answered t x answer ∷ rest) stages → IsAlive r act (put run x.process None) rest stages
+  pub alive_after_other : (run : Running) (t : ℕ) (x : OpId) (answer : Answer) (rest : List Entry) (stages : List Stage)
+      → ¬ IsOn r run x.process → IsAlive r act run (Answered t x answer ∷ rest) stages
+      → IsAlive r act (put run x.process None) rest stages
   alive_after_other run t x answer rest stages not (n, j, s, here, completes) = (n, j, s, here, after_other t x answer completes not)
 
   -- a call
-  pub alive_after_call : (run : Running) (t : ℕ) (x : OpId) (op : Op) (rest : List Entry) (stages : List Stage) → IsAlive r act run (Called t x op ∷ rest) stages → IsAlive r act (put run x.process (act x)) rest stages
+  pub alive_after_call : (run : Running) (t : ℕ) (x : OpId) (op : Op) (rest : List Entry) (stages : List Stage)
+      → IsAlive r act run (Called t x op ∷ rest) stages → IsAlive r act (put run x.process (act x)) rest stages
   alive_after_call run t x op rest stages (n, j, s, here, completes) = (n, j, s, here, after_call t x op completes)
 
   -- a read on this register that is placed where it fits
-  pub alive_after_reads : (run : Running) (x : OpId) (a : Act) (rest : List Entry) (old new : List Stage) → run x.process ≡ Some a → a.register ≡ r → a.makes ≡ None → Reads x.process old new → IsAlive r act run rest old → IsAlive r act run rest new
+  pub alive_after_reads : (run : Running) (x : OpId) (a : Act) (rest : List Entry) (old new : List Stage)
+      → run x.process ≡ Some a → a.register ≡ r → a.makes ≡ None → Reads x.process old new → IsAlive r act run rest old
+      → IsAlive r act run rest new
   alive_after_reads run x a rest old new runs on reads more (n, j, s, here, completes) =
       let read = more j s here in
       let u : Stage = read.0 in

@@ -11,7 +11,9 @@ use Rattle.reg_judge.specs.declared.rulings.rows.Row.{Row}
 use Rattle.reg_judge.specs.declared.rulings.serial.Serial.{Serial}
 
 module _ (r : Contents) (shape : Extent) (entries : List Entry) (same_shape : shape ≡ r.shape) (same_entries : entries ≡ r.entries) where
-  pub judged : (found : Result (List Point) ℕ) (rows given : List Row) (processes registers : ℕ) (rulings : List Ruling) (serial : Option Serial) → processes ≡ shape.processes → registers ≡ shape.registers → given ≡ rows
+  pub judged : (found : Result (List Point) ℕ) (rows given : List Row) (processes registers : ℕ) (rulings : List Ruling)
+      (serial : Option Serial)
+      → processes ≡ shape.processes → registers ≡ shape.registers → given ≡ rows
       → IsFound shape.registers entries found → AreRowsOf entries rows → AreRuled processes registers given rulings → SerialFound shape.registers entries found serial → IsJudgedReport r found rulings serial
   judged found rows given processes registers rulings serial ps rs gs whole are each in_series = record {
     whole = subst (λ (x : Extent). IsFound x.registers r.entries found) same_shape (subst (λ (es : List Entry). IsFound shape.registers es found) same_entries whole);

@@ -1,5 +1,6 @@
 -- A history has a point order exactly where the part of each register has one.
-use Rattle.std.proofs.Common.{◌≡◌, ◌≢◌, ◌⊎◌, inl, inr, ℕ, zero, suc, ◌<◌, ◌≤◌, Bool, true, false, cond, List, [], ◌∷◌, map, replicate, refl, ap, sym, ◌∙◌, subst, arith}
+use Rattle.std.proofs.Common.{◌≡◌, ◌≢◌, ◌⊎◌, inl, inr, ℕ, zero, suc, ◌<◌, ◌≤◌, Bool, true, false, cond, List, [], ◌∷◌}
+use Rattle.std.proofs.Common.{map, replicate, refl, ap, sym, ◌∙◌, subst, arith}
 use Rattle.std.specs.List.{filter}
 use Rattle.std.proofs.lemmas.Bool.{cases_eq, cases_order}
 use Rattle.std.proofs.lemmas.List.{length-replicate}
@@ -13,7 +14,9 @@ use Rattle.reg_judge.specs.Judging.{HasPointOrder}
 use Rattle.reg_judge.specs.Parts.{part_at}
 use Rattle.reg_judge.proofs.Filters.{InOrder, in_order_cons, in_order_filter, kept, kept_names, was_kept}
 use Rattle.reg_judge.proofs.Merging.{Rises, in_merged, merged, merged_off, merged_on, rises_merged}
-use Rattle.reg_judge.proofs.PartFacts.{answered_down, answered_up, called_down, called_up, finished_called, finished_down, finished_up, is_on, off_register, on_register_is, register_is, some_register}
+use Rattle.reg_judge.proofs.PartFacts.{answered_down, answered_up, called_down, called_up, finished_called}
+use Rattle.reg_judge.proofs.PartFacts.{finished_down, finished_up, is_on, off_register, on_register_is, register_is}
+use Rattle.reg_judge.proofs.PartFacts.{some_register}
 use Rattle.reg_judge.proofs.SameMemory.{Runs, calls_of, ops_of, right_of, runs_from, runs_part, runs_whole}
 
 -- they are two
@@ -36,13 +39,16 @@ distinct_from ids differ i j id here there = elim (cases_order i j) [
 abbrev at_register : ℕ → List Entry → List Point → List Point
 at_register r h ps = filter (λ p. is_on r h p.id) ps
 
-names_at : (r : ℕ) (h : List Entry) (ps : List Point) → map (λ p. p.id) (at_register r h ps) ≡ filter (is_on r h) (map (λ p. p.id) ps)
+names_at : (r : ℕ) (h : List Entry) (ps : List Point)
+    → map (λ p. p.id) (at_register r h ps) ≡ filter (is_on r h) (map (λ p. p.id) ps)
 names_at r h ps = kept_names (λ (p : Point). p.id) (is_on r h) ps
 
-pub legal_from : (registers : ℕ) (h : List Entry) (ids : List OpId) → Runs h (replicate registers 0) ids → IsLegal registers h ids
+pub legal_from : (registers : ℕ) (h : List Entry) (ids : List OpId) → Runs h (replicate registers 0) ids
+    → IsLegal registers h ids
 legal_from registers h ids runs = record { ops = ops_of h (replicate registers 0) ids runs; called = calls_of h (replicate registers 0) ids runs; right = right_of h (replicate registers 0) ids runs }
 
-pub runs_by : (registers : ℕ) (h : List Entry) (ids : List OpId) → IsLegal registers h ids → Runs h (replicate registers 0) ids
+pub runs_by : (registers : ℕ) (h : List Entry) (ids : List OpId) → IsLegal registers h ids
+    → Runs h (replicate registers 0) ids
 runs_by registers h ids legal = runs_from h (replicate registers 0) ids legal.ops legal.called legal.right
 
 rest_differ : (x : OpId) (xs : List OpId) (b : Bool) → InOrder Differ (cond b (x ∷ xs) xs) → InOrder Differ xs

@@ -1,5 +1,6 @@
 -- Two lists of points that rise, merged into one that does.
-use Rattle.std.proofs.Common.{◌≡◌, ◌⊎◌, inl, inr, ℕ, zero, suc, ◌≤◌, Bool, true, false, cond, List, [], ◌∷◌, Some, refl, ap, sym, ◌∙◌, subst, arith}
+use Rattle.std.proofs.Common.{◌≡◌, ◌⊎◌, inl, inr, ℕ, zero, suc, ◌≤◌, Bool, true, false, cond, List, [], ◌∷◌, Some, refl}
+use Rattle.std.proofs.Common.{ap, sym, ◌∙◌, subst, arith}
 use Rattle.std.specs.Prelude.{nat_le}
 use Rattle.std.specs.List.{filter}
 use Rattle.std.proofs.lemmas.Bool.{cases_Bool, leb-true, leb-false}
@@ -25,11 +26,14 @@ merged (p ∷ ps) qs = put_in p (merged ps qs)
 IsOneOf : Point → List Point → Type 0
 IsOneOf x xs = (k : ℕ) × IsAt xs k x
 
-put_cases : (p q x : Point) (qs more : List Point) (b : Bool) → ((k : ℕ) → IsAt more k x → (p ≡ x) ⊎ ((j : ℕ) × IsAt qs j x)) → (k : ℕ) → IsAt (cond b (p ∷ q ∷ qs) (q ∷ more)) k x → (p ≡ x) ⊎ ((j : ℕ) × IsAt (q ∷ qs) j x)
+put_cases : (p q x : Point) (qs more : List Point) (b : Bool)
+    → ((k : ℕ) → IsAt more k x → (p ≡ x) ⊎ ((j : ℕ) × IsAt qs j x)) → (k : ℕ)
+    → IsAt (cond b (p ∷ q ∷ qs) (q ∷ more)) k x → (p ≡ x) ⊎ ((j : ℕ) × IsAt (q ∷ qs) j x)
 put_cases p q x qs more true rest zero at = inl (same_Some p x at)
 put_cases p q x qs more true rest (suc k) at = inr (k, at)
 put_cases p q x qs more false rest zero at = inr (0, at)
-put_cases p q x qs more false rest (suc k) at = elim (rest k at) [ inl is ↦ inl is | inr (j, there) ↦ inr (suc j, there) ]
+put_cases p q x qs more false rest (suc k) at =
+    elim (rest k at) [ inl is ↦ inl is | inr (j, there) ↦ inr (suc j, there) ]
 
 -- what stands there is the new point, or was there
 pub in_put : (p x : Point) (qs : List Point) (k : ℕ) → IsAt (put_in p qs) k x → (p ≡ x) ⊎ ((j : ℕ) × IsAt qs j x)
@@ -37,7 +41,8 @@ in_put p x [] zero at = inl (same_Some p x at)
 in_put p x [] (suc k) at = absurd cc
 in_put p x (q ∷ qs) k at = put_cases p q x qs (put_in p qs) (nat_le p.at q.at) (in_put p x qs) k at
 
-pub in_merged : (x : Point) (ps qs : List Point) (k : ℕ) → IsAt (merged ps qs) k x → ((j : ℕ) × IsAt ps j x) ⊎ ((j : ℕ) × IsAt qs j x)
+pub in_merged : (x : Point) (ps qs : List Point) (k : ℕ) → IsAt (merged ps qs) k x
+    → ((j : ℕ) × IsAt ps j x) ⊎ ((j : ℕ) × IsAt qs j x)
 in_merged x [] qs k at = inr (k, at)
 in_merged x (p ∷ ps) qs k at = elim (in_put p x (merged ps qs) k at) [
   | inl is ↦ inl (0, ap Some is)
@@ -47,7 +52,8 @@ in_merged x (p ∷ ps) qs k at = elim (in_put p x (merged ps qs) k at) [
   ]
 ]
 
-rises_step : (p q : Point) (qs more : List Point) (b : Bool) → nat_le p.at q.at ≡ b → Rises (q ∷ qs) → Rises more → ((k : ℕ) (x : Point) → IsAt more k x → (p ≡ x) ⊎ ((j : ℕ) × IsAt qs j x)) → Rises (cond b (p ∷ q ∷ qs) (q ∷ more))
+rises_step : (p q : Point) (qs more : List Point) (b : Bool) → nat_le p.at q.at ≡ b → Rises (q ∷ qs) → Rises more
+    → ((k : ℕ) (x : Point) → IsAt more k x → (p ≡ x) ⊎ ((j : ℕ) × IsAt qs j x)) → Rises (cond b (p ∷ q ∷ qs) (q ∷ more))
 rises_step p q qs more true is rises rest cases =
     let le = leb-true p.at q.at is in
     in_order_cons (λ p q. p.at ≤ q.at) p (q ∷ qs) (λ j x at. first j x at le) rises
@@ -83,7 +89,8 @@ module _ (test : Point → Bool) where
   put_off p [] off = ap (λ c. cond c (p ∷ []) []) off
   put_off p (q ∷ qs) off = off_step p q qs (put_in p qs) (nat_le p.at q.at) off (put_off p qs off)
 
-  pub merged_off : (ps qs : List Point) → ((k : ℕ) (x : Point) → IsAt ps k x → test x ≡ false) → filter test (merged ps qs) ≡ filter test qs
+  pub merged_off : (ps qs : List Point) → ((k : ℕ) (x : Point) → IsAt ps k x → test x ≡ false)
+      → filter test (merged ps qs) ≡ filter test qs
   merged_off [] qs off = refl
   merged_off (p ∷ ps) qs off = put_off p (merged ps qs) (off 0 p refl) ∙ merged_off ps qs (λ k x at. off (suc k) x at)
 
@@ -100,7 +107,8 @@ module _ (test : Point → Bool) where
   put_on p (q ∷ qs) on first = on_step p q qs (put_in p qs) (nat_le p.at q.at) refl on (first 0 q refl) (put_on p qs on (λ k x at. first (suc k) x at))
 
   -- of a merged list the points of one are told by a test that they pass and the others don't
-  pub merged_on : (ps qs : List Point) → Rises ps → ((k : ℕ) (x : Point) → IsAt ps k x → test x ≡ true) → ((k : ℕ) (x : Point) → IsAt qs k x → test x ≡ false) → filter test (merged ps qs) ≡ ps
+  pub merged_on : (ps qs : List Point) → Rises ps → ((k : ℕ) (x : Point) → IsAt ps k x → test x ≡ true)
+      → ((k : ℕ) (x : Point) → IsAt qs k x → test x ≡ false) → filter test (merged ps qs) ≡ ps
   merged_on [] qs rises on off = none qs off
     where
       none : (qs : List Point) → ((k : ℕ) (x : Point) → IsAt qs k x → test x ≡ false) → filter test qs ≡ []

@@ -37,7 +37,8 @@ empty_order registers = (
   },
 )
 
-zip_more : {X Y : Type 0} (P Q : X → Y → Type 0) (xs : List X) (ys : List Y) → ((x : X) (y : Y) → P x y → Q x y) → AllZip P xs ys → AllZip Q xs ys
+zip_more : {X Y : Type 0} (P Q : X → Y → Type 0) (xs : List X) (ys : List Y) → ((x : X) (y : Y) → P x y → Q x y)
+    → AllZip P xs ys → AllZip Q xs ys
 zip_more P Q [] [] f all = tt
 zip_more P Q [] (y ∷ ys) f all = absurd all
 zip_more P Q (x ∷ xs) [] f all = absurd all
@@ -83,7 +84,9 @@ module _ (n registers : ℕ) (h : List Entry) (good : IsHistory n registers h) (
     rising = order.rising;
   }
 
-pub first_unexplained : (n registers : ℕ) (h : List Entry) → IsHistory n registers h → (good bad : ℕ) → bad ≤ good + 1 → bad ≤ length h → HasPointOrder registers (take good h) → ¬ HasPointOrder registers (take bad h) → good < bad → IsFirstUnexplained registers h good
+pub first_unexplained : (n registers : ℕ) (h : List Entry) → IsHistory n registers h → (good bad : ℕ) → bad ≤ good + 1
+    → bad ≤ length h → HasPointOrder registers (take good h) → ¬ HasPointOrder registers (take bad h) → good < bad
+    → IsFirstUnexplained registers h good
 first_unexplained n registers h history good bad next le order none lt =
     let e : bad ≡ suc good = omega (arith, next, lt) in
     let f : bad ≡ good + 1 = omega (arith, next, lt) in
@@ -101,7 +104,8 @@ pub none_explained : (registers : ℕ) (h : List Entry) (place : ℕ) → place 
 none_explained registers h place lt = (omega (arith, lt), empty_order registers)
 
 -- at first those that have a point order, and all
-pub first_bounds : (registers : ℕ) (h : List Entry) (b : Bounds) → IsExplained registers h b.good → b.bad ≡ length h → ¬ HasPointOrder registers h → AreBounds registers h b
+pub first_bounds : (registers : ℕ) (h : List Entry) (b : Bounds) → IsExplained registers h b.good → b.bad ≡ length h
+    → ¬ HasPointOrder registers h → AreBounds registers h b
 first_bounds registers h b good bad none = record {
   order = good.1;
   none = all;
@@ -112,5 +116,7 @@ first_bounds registers h b good bad none = record {
     all : ¬ HasPointOrder registers (take b.bad h)
     all order = none (subst (HasPointOrder registers) (take_all b.bad h (omega (arith, bad))) order)
 
-pub found_bounds : (n registers : ℕ) (h : List Entry) → IsHistory n registers h → (b : Bounds) → b.bad ≤ b.good + 1 → AreBounds registers h b → IsFirstUnexplained registers h b.good
-found_bounds n registers h history b next are = first_unexplained n registers h history b.good b.bad next are.inside are.order are.none are.apart
+pub found_bounds : (n registers : ℕ) (h : List Entry) → IsHistory n registers h → (b : Bounds) → b.bad ≤ b.good + 1
+    → AreBounds registers h b → IsFirstUnexplained registers h b.good
+found_bounds n registers h history b next are =
+    first_unexplained n registers h history b.good b.bad next are.inside are.order are.none are.apart

@@ -1,5 +1,6 @@
 -- Up to where values are needed.
-use Rattle.std.proofs.Common.{◌≡◌, inl, inr, ℕ, ◌+◌, ◌<◌, ◌≤◌, cond, true, List, [], Option, Some, None, MatchOption, length, refl, ap, sym, ◌∙◌, subst, arith}
+use Rattle.std.proofs.Common.{◌≡◌, inl, inr, ℕ, ◌+◌, ◌<◌, ◌≤◌, cond, true, List, [], Option, Some, None, MatchOption}
+use Rattle.std.proofs.Common.{length, refl, ap, sym, ◌∙◌, subst, arith}
 use Rattle.std.specs.BTreeMap.{Updates, get, is_at}
 use Rattle.std.specs.Option.{option_cmp, unwrap_or}
 use Rattle.std.specs.declared.cmp.Ordering.{Ordering}
@@ -22,7 +23,8 @@ use Rattle.reg_judge.specs.declared.acts.Act.{Act}
 use Rattle.reg_judge.specs.declared.calls.Call.{Call}
 use Rattle.reg_judge.specs.declared.stages.Mover.{Mover}
 use Rattle.reg_judge.specs.Acts.{act_in, act_of, acting, alone, alone_in, goes_by}
-use Rattle.reg_judge.specs.Searching.{AreMoversOf, AreMoversTo, AreNeeds, AreNeedsTo, IsAtLeast, IsMoverAdded, IsNeededUntil, IsNoted, NeedsMap, need_cmp, until_by}
+use Rattle.reg_judge.specs.Searching.{AreMoversOf, AreMoversTo, AreNeeds, AreNeedsTo, IsAtLeast, IsMoverAdded}
+use Rattle.reg_judge.specs.Searching.{IsNeededUntil, IsNoted, NeedsMap, need_cmp, until_by}
 
 -- keys that compare as equal are equal
 exact_option : CmpEqualImpliesEq (option_cmp nat_cmp)
@@ -40,10 +42,12 @@ is_key a b h = exact_pairs nat_cmp (option_cmp nat_cmp) exact_unsigned exact_opt
     tied Greater h = absurd cc
 
 -- a number put in that is not smaller
-pub put_at_least : (old new : NeedsMap) (key : ℕ × Option ℕ) (count later : ℕ) → Updates need_cmp old new key (Some later) → count ≤ later → IsAtLeast new key count
+pub put_at_least : (old new : NeedsMap) (key : ℕ × Option ℕ) (count later : ℕ)
+    → Updates need_cmp old new key (Some later) → count ≤ later → IsAtLeast new key count
 put_at_least old new key count later updates le = (later, updates.1, le)
 
-pub kept_at_least : (old new : NeedsMap) (key : ℕ × Option ℕ) (later : ℕ) → Updates need_cmp old new key (Some later) → until_by old key ≤ later → (q : ℕ × Option ℕ) (v : ℕ) → IsAtLeast old q v → IsAtLeast new q v
+pub kept_at_least : (old new : NeedsMap) (key : ℕ × Option ℕ) (later : ℕ) → Updates need_cmp old new key (Some later)
+    → until_by old key ≤ later → (q : ℕ × Option ℕ) (v : ℕ) → IsAtLeast old q v → IsAtLeast new q v
 kept_at_least old new key later updates le q v (until, had, less) = elim (cases_Bool (is_at (need_cmp key) q)) [
   | inl at ↦ (
     later,
@@ -60,11 +64,15 @@ kept_at_least old new key later updates le q v (until, had, less) = elim (cases_
 abbrev pub AreKept : NeedsMap → NeedsMap → Type 0
 AreKept old new = (q : ℕ × Option ℕ) (v : ℕ) → IsAtLeast old q v → IsAtLeast new q v
 
-noted_kept : {A : Type 0} (rows : Rows A) (size j : ℕ) (e : Entry) (old new : NeedsMap) → AreKept old new → IsNoted rows size j e old → IsNoted rows size j e new
-noted_kept rows size j (Called at id op) old new kept noted = λ a key is by. kept (a.register, key) size (noted a key is by)
-noted_kept rows size j (Answered at id answer) old new kept noted = λ a key is by. kept (a.register, key) (j + 1) (noted a key is by)
+noted_kept : {A : Type 0} (rows : Rows A) (size j : ℕ) (e : Entry) (old new : NeedsMap) → AreKept old new
+    → IsNoted rows size j e old → IsNoted rows size j e new
+noted_kept rows size j (Called at id op) old new kept noted =
+    λ a key is by. kept (a.register, key) size (noted a key is by)
+noted_kept rows size j (Answered at id answer) old new kept noted =
+    λ a key is by. kept (a.register, key) (j + 1) (noted a key is by)
 
-pub needs_more : {A : Type 0} (h : List Entry) (rows : Rows A) (k : ℕ) (e : Entry) (old new : NeedsMap) → IsAt h k e → IsNoted rows (length h) k e new → AreKept old new → AreNeedsTo k h rows old → AreNeedsTo (k + 1) h rows new
+pub needs_more : {A : Type 0} (h : List Entry) (rows : Rows A) (k : ℕ) (e : Entry) (old new : NeedsMap) → IsAt h k e
+    → IsNoted rows (length h) k e new → AreKept old new → AreNeedsTo k h rows old → AreNeedsTo (k + 1) h rows new
 needs_more h rows k e old new here noted kept before j x lt there = elim (cases_eq j k) [
   | inl is ↦
       let same : e ≡ x = same_at h k e x here (subst (λ (i : ℕ). IsAt h i x) is there) in
@@ -73,7 +81,8 @@ needs_more h rows k e old new here noted kept before j x lt there = elim (cases_
 ]
 
 -- what an operation without an answer asks and leaves
-alone_is : {A : Type 0} (h : List Entry) (rows : Rows A) → IsTable h rows → (id : OpId) (a : Act) → ¬ IsFinished h id → act_in rows id ≡ Some a → alone_in rows id ≡ Some a
+alone_is : {A : Type 0} (h : List Entry) (rows : Rows A) → IsTable h rows → (id : OpId) (a : Act) → ¬ IsFinished h id
+    → act_in rows id ≡ Some a → alone_in rows id ≡ Some a
 alone_is {A} h rows table id a open_ is = go (cell rows id) refl is
   where
     by_answer : (f : Fact) (o : Option Given) → f.answered ≡ o → MatchOption o (¬ IsFinished h id) (λ r. IsAnswered h id r.at r.answer) → acting f.op o ≡ Some a → alone f.op o ≡ Some a
@@ -84,7 +93,8 @@ alone_is {A} h rows table id a open_ is = go (cell rows id) refl is
     go None e is = absurd cc
     go (Some f) e is = by_answer f f.answered refl (table.facts id f e).answered is
 
-pub needs_all : {A : Type 0} (h : List Entry) (rows : Rows A) (k : ℕ) (needs : NeedsMap) → IsTable h rows → length h ≤ k → AreNeedsTo k h rows needs → AreNeeds h (act_in rows) needs
+pub needs_all : {A : Type 0} (h : List Entry) (rows : Rows A) (k : ℕ) (needs : NeedsMap) → IsTable h rows → length h ≤ k
+    → AreNeedsTo k h rows needs → AreNeeds h (act_in rows) needs
 needs_all h rows k needs table le known j id a key (inl (at, answer, there)) acts by =
     let had = known j (Answered at id answer) (let lt = within h j (Answered at id answer) there in omega (arith, lt, le)) there a key acts by in
     let later = had.2 in
@@ -94,7 +104,10 @@ needs_all h rows k needs table le known j id a key (inr (((at, op, (i, there)), 
     let later = had.2 in
     (had.0, had.1, omega (arith, later, inside))
 
-pub needed_is : (h : List Entry) (act : OpId → Option Act) (needs : NeedsMap) (a : Act) (until : ℕ) → ((u : ℕ) → a.makes ≡ Some u → until_by needs (a.register, Some u) ≤ until) → ((u : ℕ) → a.makes ≡ Some u → until_by needs (a.register, None) ≤ until) → AreNeeds h act needs → IsNeededUntil h act a until
+pub needed_is : (h : List Entry) (act : OpId → Option Act) (needs : NeedsMap) (a : Act) (until : ℕ)
+    → ((u : ℕ) → a.makes ≡ Some u → until_by needs (a.register, Some u) ≤ until)
+    → ((u : ℕ) → a.makes ≡ Some u → until_by needs (a.register, None) ≤ until) → AreNeeds h act needs
+    → IsNeededUntil h act a until
 needed_is h act needs a until one any known j id b u runs acts same heeds makes = elim heeds [
   | inl just ↦ at_key (Some u) just (one u makes)
   | inr but ↦ at_key None but (any u makes)
@@ -109,7 +122,8 @@ needed_is h act needs a until one any known j id b u runs acts same heeds makes 
         omega (arith, is, lt, le)
 
 -- one process more
-pub movers_more : (n r k : ℕ) (running : List (Option Call)) (old new : List Mover) (o : Option Call) → IsAt running n o → IsMoverAdded o r k old new → AreMoversTo n running r k old → AreMoversTo (n + 1) running r k new
+pub movers_more : (n r k : ℕ) (running : List (Option Call)) (old new : List Mover) (o : Option Call) → IsAt running n o
+    → IsMoverAdded o r k old new → AreMoversTo n running r k old → AreMoversTo (n + 1) running r k new
 movers_more n r k running old new None here added before = record {
   all = λ p c lt at on. elim (cases_eq p n) [
     | inl is ↦ absurd (let e : None ≡ Some c = same_at running n None (Some c) here (subst (λ (i : ℕ). IsAt running i (Some c)) is at) in cc)
@@ -142,11 +156,14 @@ movers_more n r k running old new (Some d) here (inr (on_it, m, added, id, act, 
 nothing : {X : Type 0} (i : ℕ) (x : X) → IsAt [] i x → ⊥
 nothing i x at = cc
 
-pub movers_none : (n r k : ℕ) (running : List (Option Call)) (movers : List Mover) → n ≡ 0 → movers ≡ [] → AreMoversTo n running r k movers
+pub movers_none : (n r k : ℕ) (running : List (Option Call)) (movers : List Mover) → n ≡ 0 → movers ≡ []
+    → AreMoversTo n running r k movers
 movers_none n r k running movers zero none = record {
   all = λ p c lt at on. absurd (omega (arith, lt, zero));
   each = λ i m at. absurd (nothing i m (subst (λ (l : List Mover). IsAt l i m) none at));
 }
 
-pub movers_all : (n r k : ℕ) (running : List (Option Call)) (movers : List Mover) → length running ≤ n → AreMoversTo n running r k movers → AreMoversOf running r k movers
-movers_all n r k running movers le known = record { all = λ p c lt at on. known.all p c (omega (arith, lt, le)) at on; each = known.each }
+pub movers_all : (n r k : ℕ) (running : List (Option Call)) (movers : List Mover) → length running ≤ n
+    → AreMoversTo n running r k movers → AreMoversOf running r k movers
+movers_all n r k running movers le known =
+    record { all = λ p c lt at on. known.all p c (omega (arith, lt, le)) at on; each = known.each }

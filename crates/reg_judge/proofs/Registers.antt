@@ -1,5 +1,6 @@
 -- One register of a memory, and what operations make of it.
-use Rattle.std.proofs.Common.{◌≡◌, ◌≢◌, ◌⊎◌, inl, inr, ℕ, zero, suc, ◌<◌, Bool, true, false, cond, ◌==◌, List, [], ◌∷◌, Option, Some, None, take, drop, length, refl, ap, sym, ◌∙◌, subst}
+use Rattle.std.proofs.Common.{◌≡◌, ◌≢◌, ◌⊎◌, inl, inr, ℕ, zero, suc, ◌<◌, Bool, true, false, cond, ◌==◌, List, [], ◌∷◌}
+use Rattle.std.proofs.Common.{Option, Some, None, take, drop, length, refl, ap, sym, ◌∙◌, subst}
 use Rattle.std.specs.Prelude.{slice_index, slice_set}
 use Rattle.std.specs.Option.{unwrap_or}
 use Rattle.std.proofs.lemmas.Bool.{cases_Bool, eq-eqb, eqb-true}
@@ -18,7 +19,8 @@ use Rattle.reg_judge.specs.declared.acts.Ask.{Ask}
 use Rattle.reg_judge.specs.declared.acts.Ask.TheVariants.{Anything, Just, AllBut}
 use Rattle.reg_judge.specs.Acts.{Suits, acting, asked, made, made_of}
 
-pub memory_next : (m : Memory) (ops : List Op) (k : ℕ) (op : Op) → IsAt ops k op → memory_after (take (suc k) ops) m ≡ after op (memory_after (take k ops) m)
+pub memory_next : (m : Memory) (ops : List Op) (k : ℕ) (op : Op) → IsAt ops k op
+    → memory_after (take (suc k) ops) m ≡ after op (memory_after (take k ops) m)
 memory_next m [] k op h = absurd cc
 memory_next m (x ∷ xs) zero op h = ap (λ (y : Op). after y m) (same_Some x op h)
 memory_next m (x ∷ xs) (suc k) op h = memory_next (after x m) xs k op h
@@ -34,13 +36,16 @@ drop_at (y ∷ xs) (suc k) x h = drop_at xs k x h
 
 -- the value that a register has where one is put
 put_value : (m : Memory) (q r v : ℕ) → q ≡ r → r < length m → v ≡ slice_index (slice_set m q v) r
-put_value m q r v is fits = subst (λ (x : ℕ). v ≡ slice_index (slice_set m x v) r) (sym is) (sym (get_or-set_same m r v 0 fits))
+put_value m q r v is fits =
+    subst (λ (x : ℕ). v ≡ slice_index (slice_set m x v) r) (sym is) (sym (get_or-set_same m r v 0 fits))
 
 -- what a compare-and-swap leaves, by what its comparison says
-compared : (q e v : ℕ) (m : Memory) (b : Bool) → (slice_index m q == e) ≡ b → after (CompareAndSwap q e v) m ≡ cond b (slice_set m q v) m
+compared : (q e v : ℕ) (m : Memory) (b : Bool) → (slice_index m q == e) ≡ b
+    → after (CompareAndSwap q e v) m ≡ cond b (slice_set m q v) m
 compared q e v m b is = ap (λ (x : Bool). cond x (slice_set m q v) m) is
 
-compared_answer : (q e v : ℕ) (m : Memory) (b : Bool) → (slice_index m q == e) ≡ b → answer_of (CompareAndSwap q e v) m ≡ cond b Done Unequal
+compared_answer : (q e v : ℕ) (m : Memory) (b : Bool) → (slice_index m q == e) ≡ b
+    → answer_of (CompareAndSwap q e v) m ≡ cond b Done Unequal
 compared_answer q e v m b is = ap (λ (x : Bool). cond x Done Unequal) is
 
 -- An operation may come at a value of its register, and leaves another.
@@ -49,20 +54,23 @@ pub record Goes (ask : Ask) (makes : Option ℕ) (was is : ℕ) : Type 0 where
   pub leaves : unwrap_or makes was ≡ is
 
 -- a compare-and-swap on this register
-compare_equal : (q e v : ℕ) (m : Memory) (r : ℕ) → q ≡ r → r < length m → (slice_index m q == e) ≡ true → Goes (Just e) (Some v) (slice_index m r) (slice_index (after (CompareAndSwap q e v) m) r)
+compare_equal : (q e v : ℕ) (m : Memory) (r : ℕ) → q ≡ r → r < length m → (slice_index m q == e) ≡ true
+    → Goes (Just e) (Some v) (slice_index m r) (slice_index (after (CompareAndSwap q e v) m) r)
 compare_equal q e v m r is fits eq = record {
   suits = sym (eqb-true (slice_index m q) e eq) ∙ ap (slice_index m) is;
   leaves = put_value m q r v is fits ∙ ap (λ (l : Memory). slice_index l r) (sym (compared q e v m true eq));
 }
 
-compare_unequal : (q e v : ℕ) (m : Memory) (r : ℕ) → q ≡ r → (slice_index m q == e) ≡ false → Goes (AllBut e) None (slice_index m r) (slice_index (after (CompareAndSwap q e v) m) r)
+compare_unequal : (q e v : ℕ) (m : Memory) (r : ℕ) → q ≡ r → (slice_index m q == e) ≡ false
+    → Goes (AllBut e) None (slice_index m r) (slice_index (after (CompareAndSwap q e v) m) r)
 compare_unequal q e v m r is ne = record {
   suits = λ same. (let eq : (slice_index m q == e) ≡ true = eq-eqb (slice_index m q) e (ap (slice_index m) is ∙ sym same) in let bad : ⊥ = cc in bad);
   leaves = ap (λ (l : Memory). slice_index l r) (sym (compared q e v m false ne));
 }
 
 -- an operation that is answered
-pub goes_on : (op : Op) (m : Memory) (r : ℕ) (answer : Answer) → register_of op ≡ r → r < length m → answer ≡ answer_of op m → Goes (asked op answer) (made op answer) (slice_index m r) (slice_index (after op m) r)
+pub goes_on : (op : Op) (m : Memory) (r : ℕ) (answer : Answer) → register_of op ≡ r → r < length m
+    → answer ≡ answer_of op m → Goes (asked op answer) (made op answer) (slice_index m r) (slice_index (after op m) r)
 goes_on (Read q) m r answer is fits given = subst (λ (a : Answer). Goes (asked (Read q) a) (made (Read q) a) (slice_index m r) (slice_index m r)) (sym given) (record { suits = ap (slice_index m) is; leaves = refl })
 goes_on (Write q v) m r answer is fits given = subst (λ (a : Answer). Goes (asked (Write q v) a) (made (Write q v) a) (slice_index m r) (slice_index (slice_set m q v) r)) (sym given) (record { suits = tt; leaves = put_value m q r v is fits })
 goes_on (Swap q v) m r answer is fits given = subst (λ (a : Answer). Goes (asked (Swap q v) a) (made (Swap q v) a) (slice_index m r) (slice_index (slice_set m q v) r)) (sym given) (record { suits = ap (slice_index m) is; leaves = put_value m q r v is fits })
@@ -72,7 +80,9 @@ goes_on (CompareAndSwap q e v) m r answer is fits given = elim (cases_Bool (slic
 ]
 
 -- one that has no answer may leave all as it is
-pub goes_alone : (op : Op) (m : Memory) (r : ℕ) → register_of op ≡ r → r < length m → updates op ≡ true → Goes (asked op Done) (made_of op) (slice_index m r) (slice_index (after op m) r) ⊎ (slice_index m r ≡ slice_index (after op m) r)
+pub goes_alone : (op : Op) (m : Memory) (r : ℕ) → register_of op ≡ r → r < length m → updates op ≡ true
+    → Goes (asked op Done) (made_of op) (slice_index m r) (slice_index (after op m) r)
+    ⊎ (slice_index m r ≡ slice_index (after op m) r)
 goes_alone (Read q) m r is fits up = inr refl
 goes_alone (Write q v) m r is fits up = inl (record { suits = tt; leaves = put_value m q r v is fits })
 goes_alone (Swap q v) m r is fits up = inl (record { suits = tt; leaves = put_value m q r v is fits })
@@ -112,7 +122,10 @@ acts_update (Swap r v) up = (record { register = r; asks = Anything; makes = Som
 acts_update (CompareAndSwap r e v) up = (record { register = r; asks = Just e; makes = Some v }, record { is = refl; register = refl; given = λ g e. absurd cc; alone = λ e. (refl, refl, refl) })
 
 -- so it goes on from the value of its register, unless it has no answer and leaves all as it is
-pub act_goes : (op : Op) (answered : Option Given) (a : Act) → IsActing op answered a → (m : Memory) (r : ℕ) → register_of op ≡ r → r < length m → ((g : Given) → answered ≡ Some g → g.answer ≡ answer_of op m) → Goes a.asks a.makes (slice_index m r) (slice_index (after op m) r) ⊎ ((answered ≡ None) × (slice_index m r ≡ slice_index (after op m) r))
+pub act_goes : (op : Op) (answered : Option Given) (a : Act) → IsActing op answered a → (m : Memory) (r : ℕ)
+    → register_of op ≡ r → r < length m → ((g : Given) → answered ≡ Some g → g.answer ≡ answer_of op m)
+    → Goes a.asks a.makes (slice_index m r) (slice_index (after op m) r)
+    ⊎ ((answered ≡ None) × (slice_index m r ≡ slice_index (after op m) r))
 act_goes op (Some g) a acts m r on fits right =
     let is = acts.given g refl in
     let goes = goes_on op m r g.answer on fits (right g refl) in

@@ -1,5 +1,6 @@
 -- Histories of one register that are alike have point orders alike.
-use Rattle.std.proofs.Common.{◌≡◌, ◌≢◌, ◌⊎◌, inl, inr, ℕ, zero, suc, ◌<◌, ◌≤◌, cond, ◌==◌, List, [], ◌∷◌, map, replicate, length, refl, ap, ap₂, sym, ◌∙◌, subst, arith}
+use Rattle.std.proofs.Common.{◌≡◌, ◌≢◌, ◌⊎◌, inl, inr, ℕ, zero, suc, ◌<◌, ◌≤◌, cond, ◌==◌, List, [], ◌∷◌, map}
+use Rattle.std.proofs.Common.{replicate, length, refl, ap, ap₂, sym, ◌∙◌, subst, arith}
 use Rattle.std.specs.Prelude.{slice_index}
 use Rattle.std.specs.Option.{unwrap_or}
 use Rattle.std.specs.List.{AllZip}
@@ -54,13 +55,17 @@ moved_made q (CompareAndSwap s e v) Done = refl
 moved_made q (CompareAndSwap s e v) (Value u) = refl
 moved_made q (CompareAndSwap s e v) Unequal = refl
 
-moved_answer : (r q : ℕ) (op : Op) (m other : Memory) → register_of op ≡ r → slice_index m r ≡ slice_index other q → answer_of op m ≡ answer_of (at_register q op) other
+moved_answer : (r q : ℕ) (op : Op) (m other : Memory) → register_of op ≡ r → slice_index m r ≡ slice_index other q
+    → answer_of op m ≡ answer_of (at_register q op) other
 moved_answer r q (Read s) m other is same = ap Value (ap (slice_index m) is ∙ same)
 moved_answer r q (Write s v) m other is same = refl
 moved_answer r q (Swap s v) m other is same = ap Value (ap (slice_index m) is ∙ same)
-moved_answer r q (CompareAndSwap s e v) m other is same = ap (λ (x : ℕ). cond (x == e) Done Unequal) (ap (slice_index m) is ∙ same)
+moved_answer r q (CompareAndSwap s e v) m other is same =
+    ap (λ (x : ℕ). cond (x == e) Done Unequal) (ap (slice_index m) is ∙ same)
 
-moved_after : (r q : ℕ) (op : Op) (m other : Memory) → register_of op ≡ r → r < length m → q < length other → slice_index m r ≡ slice_index other q → slice_index (after op m) r ≡ slice_index (after (at_register q op) other) q
+moved_after : (r q : ℕ) (op : Op) (m other : Memory) → register_of op ≡ r → r < length m → q < length other
+    → slice_index m r ≡ slice_index other q
+    → slice_index (after op m) r ≡ slice_index (after (at_register q op) other) q
 moved_after r q op m other is fits also same =
     let one = goes_on op m r (answer_of op m) is fits refl in
     let two = goes_on (at_register q op) other q (answer_of (at_register q op) other) (moved_to q op) also refl in
@@ -72,7 +77,8 @@ moved_after r q op m other is fits also same =
 -- Alike the other way round
 
 turned_like : (r q : ℕ) (a b : Entry) → IsLike r q a b → IsLike q r b a
-turned_like r q (Called at id op) (Called event name called) (when, is, same) = (sym when, ap register_of same ∙ moved_to q op, moved r q op is ∙ ap (at_register r) (sym same))
+turned_like r q (Called at id op) (Called event name called) (when, is, same) =
+    (sym when, ap register_of same ∙ moved_to q op, moved r q op is ∙ ap (at_register r) (sym same))
 turned_like r q (Answered at id answer) (Answered event name answered) (when, same) = (sym when, sym same)
 turned_like r q (Called at id op) (Answered event name answered) like = absurd like
 turned_like r q (Answered at id answer) (Called event name called) like = absurd like
@@ -154,14 +160,17 @@ renamed (a ∷ one) (b ∷ other) id = either (name_of a) id (name_of b) (rename
 nothing : {X : Type 0} (k : ℕ) (x : X) → IsAt [] k x → ⊥
 nothing k x at = cc
 
-more_match : (a b : Entry) (one other : List Entry) (id name : OpId) → Match one other id name → Match (a ∷ one) (b ∷ other) id name
+more_match : (a b : Entry) (one other : List Entry) (id name : OpId) → Match one other id name
+    → Match (a ∷ one) (b ∷ other) id name
 more_match a b one other id name m = record { place = suc m.place; here = m.here; there = m.there; at_here = m.at_here; at_there = m.at_there; named_here = m.named_here; named_there = m.named_there }
 
-renamed_match : (r q : ℕ) (one other : List Entry) (id : OpId) (k : ℕ) (e : Entry) → AllZip (IsLike r q) one other → IsAt one k e → name_of e ≡ id → Match one other id (renamed one other id)
+renamed_match : (r q : ℕ) (one other : List Entry) (id : OpId) (k : ℕ) (e : Entry) → AllZip (IsLike r q) one other
+    → IsAt one k e → name_of e ≡ id → Match one other id (renamed one other id)
 unfolding either renamed
 renamed_match r q [] other id k e all at named = absurd (nothing k e at)
 renamed_match r q (a ∷ one) [] id k e all at named = absurd all
-renamed_match r q (a ∷ one) (b ∷ other) id k e all at named = go (same_id (name_of a) id) (λ j here. renamed_match r q one other id j e all.1 here named)
+renamed_match r q (a ∷ one) (b ∷ other) id k e all at named =
+    go (same_id (name_of a) id) (λ j here. renamed_match r q one other id j e all.1 here named)
   where
     later : (j : ℕ) → IsAt (a ∷ one) j e → (name_of a ≢ id) → ((i : ℕ) → IsAt one i e → Match one other id (renamed one other id)) → Match one other id (renamed one other id)
     later zero here apart rest = absurd (apart (ap name_of (same_Some a e here) ∙ named))
@@ -174,7 +183,8 @@ renamed_match r q (a ∷ one) (b ∷ other) id k e all at named = go (same_id (n
 renamed_point : List Entry → List Entry → Point → Point
 renamed_point one other p = record { id = renamed one other p.id; at = p.at }
 
-renamed_ids : (one other : List Entry) (ps : List Point) → map (λ p. p.id) (map (renamed_point one other) ps) ≡ map (renamed one other) (map (λ p. p.id) ps)
+renamed_ids : (one other : List Entry) (ps : List Point)
+    → map (λ p. p.id) (map (renamed_point one other) ps) ≡ map (renamed one other) (map (λ p. p.id) ps)
 unfolding renamed_point
 renamed_ids one other [] = refl
 renamed_ids one other (p ∷ ps) = ap (λ l. renamed one other p.id ∷ l) (renamed_ids one other ps)
@@ -255,5 +265,7 @@ module _ (r q : ℕ) (one other : List Entry) (are : AreAlike r q one other) whe
             let same : renamed one other id ≡ name = one_name r q one other are id (renamed one other id) name (match_called id (was_called found.0 id found.1)) match in
             (found.0, subst (λ (l : List OpId). IsAt l found.0 name) (sym (renamed_ids one other ps)) (subst (λ (x : OpId). IsAt (map (renamed one other) (map (λ p. p.id) ps)) found.0 x) same (IsAt-map (renamed one other) (map (λ p. p.id) ps) found.0 id found.1)))
 
-pub order_there : (n m r q : ℕ) (one other : List Entry) → r < n → q < m → AreAlike r q one other → HasPointOrder n one → HasPointOrder m other
-order_there n m r q one other fits fit are (ps, order) = (map (renamed_point one other) ps, order_renamed r q one other are n m fits fit ps order)
+pub order_there : (n m r q : ℕ) (one other : List Entry) → r < n → q < m → AreAlike r q one other → HasPointOrder n one
+    → HasPointOrder m other
+order_there n m r q one other fits fit are (ps, order) =
+    (map (renamed_point one other) ps, order_renamed r q one other are n m fits fit ps order)

@@ -1,5 +1,6 @@
 -- What an operation might have answered instead: a value that the last change before its call left, or a later one.
-use Rattle.std.proofs.Common.{◌≡◌, ◌⊎◌, inl, inr, ℕ, zero, suc, ◌<◌, ◌≤◌, List, [], ◌∷◌, ◌++◌, Option, Some, None, MatchOption, length, map, replicate, take, refl, ap, sym, ◌∙◌, subst, arith}
+use Rattle.std.proofs.Common.{◌≡◌, ◌⊎◌, inl, inr, ℕ, zero, suc, ◌<◌, ◌≤◌, List, [], ◌∷◌, ◌++◌, Option, Some, None}
+use Rattle.std.proofs.Common.{MatchOption, length, map, replicate, take, refl, ap, sym, ◌∙◌, subst, arith}
 use Rattle.std.specs.Prelude.{slice_index}
 use Rattle.std.specs.Option.{unwrap_or}
 use Rattle.std.proofs.lemmas.Bool.{cases_order}
@@ -43,12 +44,15 @@ made_is (CompareAndSwap r e v) (Value u) x is = is
 made_is (CompareAndSwap r e v) Unequal x is = absurd cc
 
 -- an answer that stands in an order is that of some memory
-fitting : (g : List Entry) (ids : List OpId) (m : Memory) → Runs g m ids → (k : ℕ) (id : OpId) → IsAt ids k id → (at : ℕ) (answer : Answer) → IsAnswered g id at answer → (op : Op) × ((s : ℕ) × IsCalled g id s op) × ((n : Memory) × (answer ≡ answer_of op n))
+fitting : (g : List Entry) (ids : List OpId) (m : Memory) → Runs g m ids → (k : ℕ) (id : OpId) → IsAt ids k id
+    → (at : ℕ) (answer : Answer) → IsAnswered g id at answer
+    → (op : Op) × ((s : ℕ) × IsCalled g id s op) × ((n : Memory) × (answer ≡ answer_of op n))
 fitting g [] m runs k id here at answer given = absurd cc
 fitting g (x ∷ ids) m (op, called, gives, rest) zero id here at answer given =
     let same = same_Some x id here in
     (op, subst (λ (y : OpId). (s : ℕ) × IsCalled g y s op) same called, (m, gives at answer (subst (λ (y : OpId). IsAnswered g y at answer) (sym same) given)))
-fitting g (x ∷ ids) m (op, called, gives, rest) (suc k) id here at answer given = fitting g ids (after op m) rest k id here at answer given
+fitting g (x ∷ ids) m (op, called, gives, rest) (suc k) id here at answer given =
+    fitting g ids (after op m) rest k id here at answer given
 
 -- One register.
 module _ (n : ℕ) (g : List Entry) (good : IsHistory n 1 g) where
@@ -268,16 +272,24 @@ module _ (n : ℕ) (h : List Entry) (good : IsHistory n 1 h) (place at : ℕ) (i
       let name : x ≡ id = cc in
       subst (λ (y : OpId). HasPointOrder 1 (take place h ++ Answered at y answer ∷ [])) name (subst (λ (s : ℕ). HasPointOrder 1 (take place h ++ Answered s x answer ∷ [])) event order)
 
-  pub is_possible : (answer : Answer) (registers : ℕ) (entries : List Entry) → registers ≡ 1 → entries ≡ take place h ++ Answered at id answer ∷ [] → HasPointOrder registers entries → IsPossible 1 h place answer
+  pub is_possible : (answer : Answer) (registers : ℕ) (entries : List Entry) → registers ≡ 1
+      → entries ≡ take place h ++ Answered at id answer ∷ [] → HasPointOrder registers entries
+      → IsPossible 1 h place answer
   is_possible answer registers entries one are order = (at, id, given, here, subst (HasPointOrder 1) are (subst (λ (r : ℕ). HasPointOrder r entries) one order))
 
-  pub not_possible : (answer : Answer) (registers : ℕ) (entries : List Entry) → registers ≡ 1 → entries ≡ take place h ++ Answered at id answer ∷ [] → ¬ HasPointOrder registers entries → ¬ IsPossible 1 h place answer
+  pub not_possible : (answer : Answer) (registers : ℕ) (entries : List Entry) → registers ≡ 1
+      → entries ≡ take place h ++ Answered at id answer ∷ [] → ¬ HasPointOrder registers entries
+      → ¬ IsPossible 1 h place answer
   not_possible answer registers entries one are none possible = none (subst (λ (r : ℕ). HasPointOrder r entries) (sym one) (subst (HasPointOrder 1) (sym are) (order_of answer possible)))
 
-  pub not_in_place : (answer : Answer) (part : List Entry) → part ≡ take place h → ¬ MayAnswer part at id answer → ¬ IsPossible 1 h place answer
+  pub not_in_place : (answer : Answer) (part : List Entry) → part ≡ take place h → ¬ MayAnswer part at id answer
+      → ¬ IsPossible 1 h place answer
   not_in_place answer part are not possible = not (subst (λ (l : List Entry). MayAnswer l at id answer) (sym are) (answer_fits n h good place at id given here answer (order_of answer possible)))
 
-  pub complete : {A : Type 0} (part : List Entry) → part ≡ take place h → (rows : Rows A) → IsTable part rows → (f : Fact) → cell rows id ≡ Some f → (since : Option ℕ) → IsSince part f.called since → (values : List ℕ) → AreLeft rows part since values → (answers : List Answer) → AreAnswersOf values answers → AreCandidates 1 h place answers
+  pub complete : {A : Type 0} (part : List Entry) → part ≡ take place h → (rows : Rows A) → IsTable part rows
+      → (f : Fact) → cell rows id ≡ Some f → (since : Option ℕ) → IsSince part f.called since → (values : List ℕ)
+      → AreLeft rows part since values → (answers : List Answer) → AreAnswersOf values answers
+      → AreCandidates 1 h place answers
   complete part are rows table f is since changed values left answers those answer possible =
       let front : IsTable (take place h) rows = subst (λ (l : List Entry). IsTable l rows) are table in
       answer_left n h good place at id given here answer (order_of answer possible) rows front f.called f.op (front.facts id f is).called since

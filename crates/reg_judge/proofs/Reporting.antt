@@ -1,5 +1,6 @@
 -- A history stands as the rows of its entries, each under the number of its own process.
-use Rattle.std.proofs.Common.{◌≡◌, ◌≢◌, ◌⊎◌, inl, inr, ℕ, zero, suc, ◌<◌, ◌≤◌, List, [], ◌∷◌, ◌++◌, length, take, get_or, set, Some, None, refl, ap, sym, ◌∙◌, subst, arith}
+use Rattle.std.proofs.Common.{◌≡◌, ◌≢◌, ◌⊎◌, inl, inr, ℕ, zero, suc, ◌<◌, ◌≤◌, List, [], ◌∷◌, ◌++◌, length, take}
+use Rattle.std.proofs.Common.{get_or, set, Some, None, refl, ap, sym, ◌∙◌, subst, arith}
 use Rattle.std.specs.Prelude.{slice_set}
 use Rattle.std.proofs.lemmas.List.{get_or-set_same, get_or-set_other}
 use Rattle.std.proofs.lemmas.Option.{same_Some}
@@ -34,7 +35,8 @@ nothing k x at = cc
 
 -- what is under way was called last by its process
 abbrev IsLast : List Entry → Seats → OpId → Type 0
-IsLast es held id = (key : ℕ) × (get_or held id.process None ≡ Some (record { id = id; key = key })) × IsRegisterOf es id key
+IsLast es held id =
+    (key : ℕ) × (get_or held id.process None ≡ Some (record { id = id; key = key })) × IsRegisterOf es id key
 
 abbrev AreLast : List Entry → Seats → Type 0
 AreLast es held = (id : OpId) → WasCalled es id → ¬ IsFinished es id → IsLast es held id
@@ -42,12 +44,16 @@ AreLast es held = (id : OpId) → WasCalled es id → ¬ IsFinished es id → Is
 still_finished : (es : List Entry) (e : Entry) (id : OpId) → IsFinished es id → IsFinished (es ++ e ∷ []) id
 still_finished es e id (at, answer, was) = (at, answer, (pushed es e).old (Answered at id answer) was)
 
-still_last : (es : List Entry) (e : Entry) (held after : Seats) (id : OpId) → get_or after id.process None ≡ get_or held id.process None → IsLast es held id → IsLast (es ++ e ∷ []) after id
-still_last es e held after id same (key, has, (at, op, called, on)) = (key, same ∙ has, (at, op, (pushed es e).old (Called at id op) called, on))
+still_last : (es : List Entry) (e : Entry) (held after : Seats) (id : OpId)
+    → get_or after id.process None ≡ get_or held id.process None → IsLast es held id → IsLast (es ++ e ∷ []) after id
+still_last es e held after id same (key, has, (at, op, called, on)) =
+    (key, same ∙ has, (at, op, (pushed es e).old (Called at id op) called, on))
 
-last_call : (n registers : ℕ) (es : List Entry) (held : Seats) (at p key : ℕ) (id : OpId) (op : Op) → MayCall n registers es at id op → length held ≡ n → p ≡ id.process → key ≡ register_of op → AreLast es held
+last_call : (n registers : ℕ) (es : List Entry) (held : Seats) (at p key : ℕ) (id : OpId) (op : Op)
+    → MayCall n registers es at id op → length held ≡ n → p ≡ id.process → key ≡ register_of op → AreLast es held
     → AreLast (es ++ Called at id op ∷ []) (slice_set held p (Some (record { id = id; key = key })))
-last_call n registers es held at p key id op may many here on are other (s, o, called) running = go ((pushed es (Called at id op)).cases (Called s other o) called)
+last_call n registers es held at p key id op may many here on are other (s, o, called) running =
+    go ((pushed es (Called at id op)).cases (Called s other o) called)
   where
     still : ¬ IsFinished es other
     still was = running (still_finished es (Called at id op) other was)
@@ -66,8 +72,10 @@ last_call n registers es held at p key id op may many here on are other (s, o, c
           (at, op, (pushed es (Called at id op)).new, on),
         )
 
-last_answer : (es : List Entry) (held : Seats) (at : ℕ) (id : OpId) (answer : Reply) → AreLast es held → AreLast (es ++ Answered at id answer ∷ []) held
-last_answer es held at id answer are other (s, o, called) running = go ((pushed es (Answered at id answer)).cases (Called s other o) called)
+last_answer : (es : List Entry) (held : Seats) (at : ℕ) (id : OpId) (answer : Reply) → AreLast es held
+    → AreLast (es ++ Answered at id answer ∷ []) held
+last_answer es held at id answer are other (s, o, called) running =
+    go ((pushed es (Answered at id answer)).cases (Called s other o) called)
   where
     go : ((k : ℕ) × IsAt es k (Called s other o)) ⊎ (Called s other o ≡ Answered at id answer) → IsLast (es ++ Answered at id answer ∷ []) held other
     go (inl old) = still_last es (Answered at id answer) held held other refl (are other (s, o, old) (λ was. running (still_finished es (Answered at id answer) other was)))

@@ -1,5 +1,6 @@
 -- What operations answer, from a memory on, and that one on a register looks at that register alone.
-use Rattle.std.proofs.Common.{◌≡◌, ◌≢◌, ◌⊎◌, inl, inr, ℕ, zero, suc, ◌<◌, Bool, true, false, cond, ◌==◌, List, [], ◌∷◌, take, length, refl, ap, ap₂, sym, ◌∙◌, subst}
+use Rattle.std.proofs.Common.{◌≡◌, ◌≢◌, ◌⊎◌, inl, inr, ℕ, zero, suc, ◌<◌, Bool, true, false, cond, ◌==◌, List, [], ◌∷◌}
+use Rattle.std.proofs.Common.{take, length, refl, ap, ap₂, sym, ◌∙◌, subst}
 use Rattle.std.specs.Prelude.{slice_index}
 use Rattle.std.specs.Option.{unwrap_or}
 use Rattle.std.specs.List.{AllZip, filter}
@@ -16,7 +17,8 @@ use Rattle.reg_checkers.specs.declared.entries.Entry.{Entry}
 use Rattle.reg_checkers.specs.History.{IsAt, IsAnswered, IsCalled, IsHistory, WasCalled}
 use Rattle.reg_judge.specs.Acts.{made}
 use Rattle.reg_judge.specs.Parts.{part_at}
-use Rattle.reg_judge.proofs.PartFacts.{answered_down, answered_up, called_down, called_up, is_on, off_register, on_register_is, register_is, some_register}
+use Rattle.reg_judge.proofs.PartFacts.{answered_down, answered_up, called_down, called_up, is_on, off_register}
+use Rattle.reg_judge.proofs.PartFacts.{on_register_is, register_is, some_register}
 use Rattle.reg_judge.proofs.Registers.{goes_on, value_off}
 
 -- the register has one value in both memories
@@ -25,13 +27,16 @@ pub record Agrees (r : ℕ) (m other : Memory) : Type 0 where
   pub fits : r < length m
   pub also : r < length other
 
-pub answer_same : (op : Op) (m other : Memory) (r : ℕ) → register_of op ≡ r → slice_index m r ≡ slice_index other r → answer_of op m ≡ answer_of op other
+pub answer_same : (op : Op) (m other : Memory) (r : ℕ) → register_of op ≡ r → slice_index m r ≡ slice_index other r
+    → answer_of op m ≡ answer_of op other
 answer_same (Read q) m other r is same = ap Value (ap (slice_index m) is ∙ same ∙ ap (slice_index other) (sym is))
 answer_same (Write q v) m other r is same = refl
 answer_same (Swap q v) m other r is same = ap Value (ap (slice_index m) is ∙ same ∙ ap (slice_index other) (sym is))
-answer_same (CompareAndSwap q e v) m other r is same = ap (λ (x : ℕ). cond (x == e) Done Unequal) (ap (slice_index m) is ∙ same ∙ ap (slice_index other) (sym is))
+answer_same (CompareAndSwap q e v) m other r is same =
+    ap (λ (x : ℕ). cond (x == e) Done Unequal) (ap (slice_index m) is ∙ same ∙ ap (slice_index other) (sym is))
 
-pub after_same : (op : Op) (m other : Memory) (r : ℕ) → register_of op ≡ r → Agrees r m other → Agrees r (after op m) (after op other)
+pub after_same : (op : Op) (m other : Memory) (r : ℕ) → register_of op ≡ r → Agrees r m other
+    → Agrees r (after op m) (after op other)
 after_same op m other r is agrees = record {
   same =
       let one = goes_on op m r (answer_of op m) is agrees.fits refl in
@@ -43,7 +48,8 @@ after_same op m other r is agrees = record {
 
 -- an operation on another register
 pub after_off : (op : Op) (m : Memory) (r : ℕ) → register_of op ≢ r → r < length m → Agrees r (after op m) m
-after_off op m r off fits = record { same = value_off op m r off; fits = subst (λ (l : ℕ). r < l) (sym (length-after op m)) fits; also = fits }
+after_off op m r off fits =
+    record { same = value_off op m r off; fits = subst (λ (l : ℕ). r < l) (sym (length-after op m)) fits; also = fits }
 
 turned : (r : ℕ) (m other : Memory) → Agrees r m other → Agrees r other m
 turned r m other agrees = record { same = sym agrees.same; fits = agrees.also; also = agrees.fits }
@@ -63,7 +69,8 @@ AreCalls h ids ops = AllZip (λ id op. (at : ℕ) × IsCalled h id at op) ids op
 abbrev pub AreRight : List Entry → Memory → List OpId → List Op → Type 0
 AreRight h m ids ops = (k : ℕ) (id : OpId) (op : Op) (at : ℕ) (answer : Answer) → IsAt ids k id → IsAt ops k op → IsAnswered h id at answer → answer ≡ answer_of op (memory_after (take k ops) m)
 
-pub runs_from : (h : List Entry) (m : Memory) (ids : List OpId) (ops : List Op) → AreCalls h ids ops → AreRight h m ids ops → Runs h m ids
+pub runs_from : (h : List Entry) (m : Memory) (ids : List OpId) (ops : List Op) → AreCalls h ids ops
+    → AreRight h m ids ops → Runs h m ids
 runs_from h m [] ops calls right = tt
 runs_from h m (id ∷ ids) [] calls right = absurd calls
 runs_from h m (id ∷ ids) (op ∷ ops) calls right = (op, calls.0, λ at answer is. right 0 id op at answer refl refl is, runs_from h (after op m) ids ops calls.1 (λ k x o at answer a b is. right (suc k) x o at answer a b is))
@@ -72,20 +79,24 @@ pub ops_of : (h : List Entry) (m : Memory) (ids : List OpId) → Runs h m ids �
 ops_of h m [] runs = []
 ops_of h m (id ∷ ids) (op, called, gives, rest) = op ∷ ops_of h (after op m) ids rest
 
-pub calls_of : (h : List Entry) (m : Memory) (ids : List OpId) (runs : Runs h m ids) → AreCalls h ids (ops_of h m ids runs)
+pub calls_of : (h : List Entry) (m : Memory) (ids : List OpId) (runs : Runs h m ids)
+    → AreCalls h ids (ops_of h m ids runs)
 unfolding ops_of
 calls_of h m [] runs = tt
 calls_of h m (id ∷ ids) (op, called, gives, rest) = (called, calls_of h (after op m) ids rest)
 
-pub right_of : (h : List Entry) (m : Memory) (ids : List OpId) (runs : Runs h m ids) → AreRight h m ids (ops_of h m ids runs)
+pub right_of : (h : List Entry) (m : Memory) (ids : List OpId) (runs : Runs h m ids)
+    → AreRight h m ids (ops_of h m ids runs)
 unfolding ops_of
 right_of h m [] runs k x o at answer here there is = absurd cc
 right_of h m (id ∷ ids) (op, called, gives, rest) zero x o at answer here there is =
     gives at answer (subst (λ (y : OpId). IsAnswered h y at answer) (sym (same_Some id x here)) is) ∙ ap (λ (y : Op). answer_of y m) (same_Some op o there)
-right_of h m (id ∷ ids) (op, called, gives, rest) (suc k) x o at answer here there is = right_of h (after op m) ids rest k x o at answer here there is
+right_of h m (id ∷ ids) (op, called, gives, rest) (suc k) x o at answer here there is =
+    right_of h (after op m) ids rest k x o at answer here there is
 
 -- operations on one register, from another memory in which it has the same value
-pub runs_same : (h : List Entry) (r : ℕ) → ((id : OpId) (at : ℕ) (op : Op) → IsCalled h id at op → register_of op ≡ r) → (ids : List OpId) (m other : Memory) → Agrees r m other → Runs h m ids → Runs h other ids
+pub runs_same : (h : List Entry) (r : ℕ) → ((id : OpId) (at : ℕ) (op : Op) → IsCalled h id at op → register_of op ≡ r)
+    → (ids : List OpId) (m other : Memory) → Agrees r m other → Runs h m ids → Runs h other ids
 runs_same h r on [] m other agrees runs = tt
 runs_same h r on (id ∷ ids) m other agrees (op, (at, called), gives, rest) =
     let is = on id at op called in
@@ -96,7 +107,8 @@ module _ (n registers : ℕ) (h : List Entry) (good : IsHistory n registers h) w
   part_on r id at op was = (called_up r h id at op was).1
 
   -- the operations of one register among others
-  pub runs_part : (r : ℕ) (ids : List OpId) (m : Memory) → r < length m → Runs h m ids → Runs (part_at r h) m (filter (is_on r h) ids)
+  pub runs_part : (r : ℕ) (ids : List OpId) (m : Memory) → r < length m → Runs h m ids
+      → Runs (part_at r h) m (filter (is_on r h) ids)
   runs_part r [] m fits runs = tt
   runs_part r (id ∷ ids) m fits (op, (at, called), gives, rest) =
       go (is_on r h id) refl (runs_part r ids (after op m) (subst (λ (l : ℕ). r < l) (sym (length-after op m)) fits) rest)
@@ -108,7 +120,9 @@ module _ (n registers : ℕ) (h : List Entry) (good : IsHistory n registers h) w
           runs_same (part_at r h) r (part_on r) (filter (is_on r h) ids) (after op m) m (after_off op m r off fits) later
 
   -- all operations, by those of each register
-  pub runs_whole : (ids : List OpId) (m : Memory) → length m ≡ registers → ((k : ℕ) (id : OpId) → IsAt ids k id → WasCalled h id) → ((r : ℕ) → r < registers → Runs (part_at r h) m (filter (is_on r h) ids)) → Runs h m ids
+  pub runs_whole : (ids : List OpId) (m : Memory) → length m ≡ registers
+      → ((k : ℕ) (id : OpId) → IsAt ids k id → WasCalled h id)
+      → ((r : ℕ) → r < registers → Runs (part_at r h) m (filter (is_on r h) ids)) → Runs h m ids
   runs_whole [] m size known parts = tt
   runs_whole (id ∷ ids) m size known parts =
       let on = some_register n registers h good id (known 0 id refl) in

@@ -1,5 +1,7 @@
 -- Rows that stand in a history, one after another.
-use Rattle.std.proofs.Common.{ℕ, ◌≡◌, ◌+◌, ◌<◌, ◌≤◌, List, [], ◌∷◌, ◌++◌, length, take, get_or, replicate, slice_set, Option, Some, None, Result, OnOk, refl, ap, sym, ◌∙◌, subst, arith, add-one, length-set, zero, suc}
+use Rattle.std.proofs.Common.{ℕ, ◌≡◌, ◌+◌, ◌<◌, ◌≤◌, List, [], ◌∷◌, ◌++◌, length, take, get_or, replicate, slice_set}
+use Rattle.std.proofs.Common.{Option, Some, None, Result, OnOk, refl, ap, sym, ◌∙◌, subst, arith, add-one, length-set}
+use Rattle.std.proofs.Common.{zero, suc}
 use Rattle.reg_base.specs.declared.memory.OpId.{OpId}
 use Rattle.reg_base.specs.declared.memory.Op.{Op}
 use Rattle.reg_base.specs.Shape.{Extent}
@@ -16,7 +18,8 @@ use Rattle.reg_judge.specs.declared.rulings.seats.LastCall.{LastCall}
 use Rattle.reg_judge.specs.declared.rulings.seats.Naming.{Naming}
 use Rattle.reg_judge.specs.Standing.{MayName, OneMore, OneMore-by, Stands, Nothing, More, act_op}
 
-pub take_more : {X : Type 0} (xs : List X) (i : ℕ) (d : X) → i < length xs → take (i + 1) xs ≡ take i xs ++ get_or xs i d ∷ []
+pub take_more : {X : Type 0} (xs : List X) (i : ℕ) (d : X) → i < length xs
+    → take (i + 1) xs ≡ take i xs ++ get_or xs i d ∷ []
 take_more {X} xs i d lt = rw add-one (go xs i lt)
   where
     go : (xs : List X) (i : ℕ) → i < length xs → take (suc i) xs ≡ take i xs ++ get_or xs i d ∷ []
@@ -31,7 +34,8 @@ take_all (x ∷ xs) zero le = absurd (omega arith)
 take_all (x ∷ xs) (suc i) le = ap (λ l. x ∷ l) (take_all xs i (omega arith))
 
 -- of each process its last call is kept
-pub as_many : (naming : Naming) (row : Row) (held after : List (Option LastCall)) (entries more : List Entry) → OneMore naming row held entries after more → length after ≡ length held
+pub as_many : (naming : Naming) (row : Row) (held after : List (Option LastCall)) (entries more : List Entry)
+    → OneMore naming row held entries after more → length after ≡ length held
 as_many naming row held after entries more = go row.step
   where
     go : (s : Step) → OneMore-by s naming row held entries after more → length after ≡ length held
@@ -39,20 +43,26 @@ as_many naming row held after entries more = go row.step
     go (Answer answer) (id, had, grown, is) = ap length is
 
 -- a call that was added, as the definition has it
-pub call_stands : {T E : Type 0} (result : Result T E) (naming : Naming) (row : Row) (held after : List (Option LastCall)) (entries more : List Entry) (act : Act) (expected value : ℕ) (op : Op) → row.step ≡ Call act expected value → op ≡ act_op act row.key expected value
+pub call_stands : {T E : Type 0} (result : Result T E) (naming : Naming) (row : Row)
+    (held after : List (Option LastCall)) (entries more : List Entry) (act : Act) (expected value : ℕ) (op : Op)
+    → row.step ≡ Call act expected value → op ≡ act_op act row.key expected value
     → OnOk result ((id : OpId) × MayName naming row.process id.process × (¬ WasCalled entries id) × (more ≡ entries ++ Called row.at id op ∷ []) × (after ≡ slice_set held row.process (Some (record { id = id; key = row.key })))) → OnOk result (OneMore naming row held entries after more)
 call_stands result naming row held after entries more act expected value op step same stands =
     let P : Op → Type 0 = λ o. OnOk result ((id : OpId) × MayName naming row.process id.process × (¬ WasCalled entries id) × (more ≡ entries ++ Called row.at id o ∷ []) × (after ≡ slice_set held row.process (Some (record { id = id; key = row.key })))) in
     let Q : Step → Type 0 = λ s. OnOk result (OneMore-by s naming row held entries after more) in
     subst Q (sym step) (subst P same stands)
 
-pub stands_more : (naming : Naming) (processes : ℕ) (rows : List Row) (i : ℕ) (d : Row) (held after : List (Option LastCall)) (entries more : List Entry) → i < length rows
+pub stands_more : (naming : Naming) (processes : ℕ) (rows : List Row) (i : ℕ) (d : Row)
+    (held after : List (Option LastCall)) (entries more : List Entry)
+    → i < length rows
     → Stands naming processes (take i rows) held entries → OneMore naming (get_or rows i d) held entries after more → Stands naming processes (take (i + 1) rows) after more
 stands_more naming processes rows i d held after entries more lt before one =
     let P : List Row → Type 0 = λ l. Stands naming processes l after more in
     subst P (sym (take_more rows i d lt)) (More (get_or rows i d) before one)
 
-pub stands_first : (naming : Naming) (processes : ℕ) (rows : List Row) (held : List (Option LastCall)) (entries : List Entry) → held ≡ replicate processes None → entries ≡ [] → Stands naming processes (take 0 rows) held entries
+pub stands_first : (naming : Naming) (processes : ℕ) (rows : List Row) (held : List (Option LastCall))
+    (entries : List Entry)
+    → held ≡ replicate processes None → entries ≡ [] → Stands naming processes (take 0 rows) held entries
 stands_first naming processes rows held entries h e =
     let P : List (Option LastCall) → Type 0 = λ x. Stands naming processes [] x entries in
     let Q : List Entry → Type 0 = λ x. Stands naming processes [] (replicate processes None) x in
@@ -63,7 +73,8 @@ length_replicate zero x = refl
 length_replicate (suc n) x = ap suc (length_replicate n x)
 
 -- a call that may come next has a new name
-pub is_new : (places registers : ℕ) (entries : List Entry) (at : ℕ) (id : OpId) (op : Op) → IsInPlace places registers entries (Called at id op) → ¬ WasCalled entries id
+pub is_new : (places registers : ℕ) (entries : List Entry) (at : ℕ) (id : OpId) (op : Op)
+    → IsInPlace places registers entries (Called at id op) → ¬ WasCalled entries id
 is_new places registers entries at id op place was =
     let may : MayCall places registers entries at id op = place in
     let lt : id.number < id.number = (may.next id.number).1 was in

@@ -1,5 +1,7 @@
 -- A history that has a point order can be gone through, for each register.
-use Rattle.std.proofs.Common.{◌≡◌, ◌≢◌, ◌⊎◌, inl, inr, ℕ, zero, suc, ◌+◌, ◌-◌, ◌<◌, ◌≤◌, true, List, [], ◌∷◌, map, Option, Some, None, MatchOption, take, drop, length, replicate, refl, ap, sym, ◌∙◌, subst, arith}
+use Rattle.std.proofs.Common.{◌≡◌, ◌≢◌, ◌⊎◌, inl, inr, ℕ, zero, suc, ◌+◌, ◌-◌, ◌<◌, ◌≤◌, true, List, [], ◌∷◌, map}
+use Rattle.std.proofs.Common.{Option, Some, None, MatchOption, take, drop, length, replicate, refl, ap, sym, ◌∙◌, subst}
+use Rattle.std.proofs.Common.{arith}
 use Rattle.std.specs.Prelude.{slice_index}
 use Rattle.std.proofs.Math.Seq.{drop-length}
 use Rattle.std.proofs.lemmas.Bool.{cases_eq, cases_lt, cases_order}
@@ -26,7 +28,8 @@ use Rattle.reg_judge.specs.Completing.{Answers, Calls, Completes, Elsewhere, End
 use Rattle.reg_judge.proofs.Covering.{longer}
 use Rattle.reg_judge.proofs.Cuts.{IsCut, IsOnRegister, IsOpen, cut_answer, cut_call, cut_place}
 use Rattle.reg_judge.proofs.Puts.{put_here, put_there}
-use Rattle.reg_judge.proofs.Registers.{Goes, IsActing, act_goes, acts_answered, acts_update, drop_at, memory_length, memory_next, value_off}
+use Rattle.reg_judge.proofs.Registers.{Goes, IsActing, act_goes, acts_answered, acts_update, drop_at, memory_length}
+use Rattle.reg_judge.proofs.Registers.{memory_next, value_off}
 
 -- each operation that was called asks and leaves what its fact says
 abbrev pub AreKnown : List Entry → (OpId → Option Act) → Type 0
@@ -41,7 +44,8 @@ pub record IsMoving (h : List Entry) (act : OpId → Option Act) (id : OpId) : T
   pub is : act id ≡ Some moves
 
 module _ (n registers : ℕ) (h : List Entry) (good : IsHistory n registers h) (act : OpId → Option Act) (known : AreKnown h act) where
-  pub moving : (id : OpId) → WasCalled h id → IsFinished h id ⊎ ((at : ℕ) × (op : Op) × IsCalled h id at op × (updates op ≡ true)) → IsMoving h act id
+  pub moving : (id : OpId) → WasCalled h id
+      → IsFinished h id ⊎ ((at : ℕ) × (op : Op) × IsCalled h id at op × (updates op ≡ true)) → IsMoving h act id
   moving id was may = (let k = known id was in go k.0 k.1 k.2 k.0.answered refl may)
     where
       go : (f : Fact) → IsFactOf h id f → act id ≡ act_of f → (answered : Option Given) → f.answered ≡ answered → IsFinished h id ⊎ ((at : ℕ) × (op : Op) × IsCalled h id at op × (updates op ≡ true)) → IsMoving h act id

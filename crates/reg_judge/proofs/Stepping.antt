@@ -1,5 +1,7 @@
 -- Steps of a search: what goes on before an entry goes on after it.
-use Rattle.std.proofs.Common.{◌≡◌, ◌≢◌, ◌⊎◌, inl, inr, ℕ, zero, suc, ◌+◌, ◌<◌, ◌≤◌, true, List, [], ◌∷◌, Option, Some, None, MatchOption, Vec, take, drop, length, set, slice_get, refl, ap, sym, ◌∙◌, subst, arith}
+use Rattle.std.proofs.Common.{◌≡◌, ◌≢◌, ◌⊎◌, inl, inr, ℕ, zero, suc, ◌+◌, ◌<◌, ◌≤◌, true, List, [], ◌∷◌, Option, Some}
+use Rattle.std.proofs.Common.{None, MatchOption, Vec, take, drop, length, set, slice_get, refl, ap, sym, ◌∙◌, subst}
+use Rattle.std.proofs.Common.{arith}
 use Rattle.std.specs.Prelude.{IfSome, false, is_some, option_and_then, option_map, vec_len, ◌==◌}
 use Rattle.std.specs.Int.{bit_at}
 use Rattle.std.proofs.lemmas.Bool.{cases_eq, eqb-true}
@@ -23,20 +25,23 @@ use Rattle.reg_judge.specs.declared.stages.Mover.{Mover}
 use Rattle.reg_judge.specs.declared.stages.Stage.{Stage}
 use Rattle.reg_judge.specs.Acts.{Heeds, act_in, act_of, acting, asked, made, made_of, unanswered}
 use Rattle.reg_judge.specs.Completing.{Completes, IsFree, IsOn, IsUnneeded, Running, put}
-use Rattle.reg_judge.specs.Searching.{AreAlive, AreMoversOf, AreRead, AreWaiting, IsAnswering, IsCallOf, IsKnown, IsLayerAfter, IsStep, IsUnanswered, IsWaiting, NeedsMap, RunsTo, run_of}
+use Rattle.reg_judge.specs.Searching.{AreAlive, AreMoversOf, AreRead, AreWaiting, IsAnswering, IsCallOf, IsKnown}
+use Rattle.reg_judge.specs.Searching.{IsLayerAfter, IsStep, IsUnanswered, IsWaiting, NeedsMap, RunsTo, run_of}
 use Rattle.reg_judge.specs.declared.search.Stepped.{Stepped}
 use Rattle.reg_judge.specs.declared.search.Stepped.TheVariants.{On, Stuck, TooMany}
 use Rattle.reg_base.specs.Memory.{register_of}
 use Rattle.reg_judge.specs.Stages.{AreMovers, IsAlive, Reads}
 use Rattle.reg_judge.proofs.Covering.{covering}
-use Rattle.reg_judge.proofs.Going.{after_answer, alive_after_answer, alive_after_call, alive_after_other, alive_after_reads, same_placed}
+use Rattle.reg_judge.proofs.Going.{after_answer, alive_after_answer, alive_after_call, alive_after_other}
+use Rattle.reg_judge.proofs.Going.{alive_after_reads, same_placed}
 use Rattle.reg_judge.proofs.Puts.{none_some, put_here, put_there}
 use Rattle.reg_judge.proofs.Registers.{drop_at}
 
 at_drop : {X : Type 0} (xs : List X) (k i : ℕ) (x : X) → IsAt (drop k xs) i x → IsAt xs (k + i) x
 at_drop xs zero i x at = let e : i ≡ zero + i = omega arith in subst (λ (j : ℕ). IsAt xs j x) e at
 at_drop [] (suc k) i x at = absurd cc
-at_drop (y ∷ xs) (suc k) i x at = let e : suc (k + i) ≡ suc k + i = omega arith in subst (λ (j : ℕ). IsAt (y ∷ xs) j x) e (at_drop xs k i x at)
+at_drop (y ∷ xs) (suc k) i x at =
+    let e : suc (k + i) ≡ suc k + i = omega arith in subst (λ (j : ℕ). IsAt (y ∷ xs) j x) e (at_drop xs k i x at)
 
 nothing : {X : Type 0} (i : ℕ) (x : X) → IsAt [] i x → ⊥
 nothing i x at = cc
@@ -48,7 +53,8 @@ run_at running p c at = ap (λ (o : Option (Option Call)). option_and_then (λ o
 run_none : (running : List (Option Call)) (p : ℕ) → IsAt running p None → run_of running p ≡ None
 run_none running p at = ap (λ (o : Option (Option Call)). option_and_then (λ o. option_map (λ c. c.act) o) o) at
 
-call_at : (running : List (Option Call)) (p : ℕ) (a : Act) → run_of running p ≡ Some a → (c : Call) × IsAt running p (Some c) × (c.act ≡ a)
+call_at : (running : List (Option Call)) (p : ℕ) (a : Act) → run_of running p ≡ Some a
+    → (c : Call) × IsAt running p (Some c) × (c.act ≡ a)
 call_at running p a is = go (slice_get running p) refl is
   where
     go : (o : Option (Option Call)) → slice_get running p ≡ o → option_and_then (λ o. option_map (λ c. c.act) o) o ≡ Some a → (c : Call) × IsAt running p (Some c) × (c.act ≡ a)
@@ -56,15 +62,18 @@ call_at running p a is = go (slice_get running p) refl is
     go (Some None) e h = absurd cc
     go (Some (Some c)) e h = (c, e, same_Some c.act a h)
 
-run_set : (running : List (Option Call)) (p : ℕ) (o : Option Call) → p < length running → (q : ℕ) → run_of (set running p o) q ≡ put (run_of running) p (option_map (λ c. c.act) o) q
+run_set : (running : List (Option Call)) (p : ℕ) (o : Option Call) → p < length running → (q : ℕ)
+    → run_of (set running p o) q ≡ put (run_of running) p (option_map (λ c. c.act) o) q
 run_set running p o lt q = elim (cases_eq q p) [
   | inl is ↦ ap (λ (x : Option (Option Call)). option_and_then (λ o. option_map (λ c. c.act) o) x) (ap (slice_get (set running p o)) is ∙ get_set_same running p o lt) ∙ sym (put_here (run_of running) p (option_map (λ c. c.act) o) q is)
   | inr apart ↦ ap (λ (x : Option (Option Call)). option_and_then (λ o. option_map (λ c. c.act) o) x) (get_set_other running p q o apart) ∙ sym (put_there (run_of running) p (option_map (λ c. c.act) o) q apart)
 ]
 
 -- what runs may be told by another function
-same_run : (r : ℕ) (act : OpId → Option Act) (run other : Running) (es : List Entry) (stages : List Stage) → ((q : ℕ) → other q ≡ run q) → IsAlive r act run es stages → IsAlive r act other es stages
-same_run r act run other es stages same (n, j, s, here, completes) = (n, j, s, here, covering r act completes other same (bit_at s.placed) (λ q. inl refl))
+same_run : (r : ℕ) (act : OpId → Option Act) (run other : Running) (es : List Entry) (stages : List Stage)
+    → ((q : ℕ) → other q ≡ run q) → IsAlive r act run es stages → IsAlive r act other es stages
+same_run r act run other es stages same (n, j, s, here, completes) =
+    (n, j, s, here, covering r act completes other same (bit_at s.placed) (λ q. inl refl))
 
 module _ {A : Type 0} (n registers : ℕ) (h : List Entry) (rows : Rows A) (needs : NeedsMap) (known : IsKnown n registers h rows needs) where
   act : OpId → Option Act
@@ -284,10 +293,14 @@ module _ {A : Type 0} (n registers : ℕ) (h : List Entry) (rows : Rows A) (need
                 alive_after_other r (act_in rows) (run_of running) t x answer (drop (suc k) h) new.items off (subst (λ (es : List Entry). IsAlive r (act_in rows) (run_of running) es new.items) entries_are was)
 
 -- the stages stay, but those of one register
-pub read_none : {B : Type 0} (act : OpId → Option Act) (x : OpId) (layers : List (Vec Stage B)) → AreRead act x layers layers
+pub read_none : {B : Type 0} (act : OpId → Option Act) (x : OpId) (layers : List (Vec Stage B))
+    → AreRead act x layers layers
 read_none act x layers r layer at = (layer, at, inl refl)
 
-pub read_one : {B : Type 0} (act : OpId → Option Act) (x : OpId) (layers : List (Vec Stage B)) (i : ℕ) (old new : Vec Stage B) (a : Act) → IsAt layers i old → act x ≡ Some a → a.register ≡ i → a.makes ≡ None → Reads x.process old.items new.items → AreRead act x layers (set layers i new)
+pub read_one : {B : Type 0} (act : OpId → Option Act) (x : OpId) (layers : List (Vec Stage B)) (i : ℕ)
+    (old new : Vec Stage B) (a : Act)
+    → IsAt layers i old → act x ≡ Some a → a.register ≡ i → a.makes ≡ None → Reads x.process old.items new.items
+    → AreRead act x layers (set layers i new)
 read_one {B} act x layers i old new a here is on makes reads r layer at = elim (cases_eq r i) [
   | inl e ↦
       let same : old ≡ layer = same_at layers i old layer here (subst (λ (j : ℕ). IsAt layers j layer) e at) in
@@ -295,7 +308,8 @@ read_one {B} act x layers i old new a here is on makes reads r layer at = elim (
   | inr apart ↦ (layer, get_set_other layers i r new apart ∙ at, inl refl)
 ]
 
-acting_register : (op : Op) (answered : Option Given) (a : Act) → acting op answered ≡ Some a → a.register ≡ register_of op
+acting_register : (op : Op) (answered : Option Given) (a : Act) → acting op answered ≡ Some a
+    → a.register ≡ register_of op
 acting_register op (Some g) a is = ap (λ (b : Act). b.register) (sym (same_Some (record { register = register_of op; asks = asked op g.answer; makes = made op g.answer }) a is))
 acting_register op None a is = go (made_of op) is
   where
@@ -356,7 +370,10 @@ nothing_in v e = go v.items (let zero = eqb-true (vec_len v) 0 (sym e) in let is
     go [] e = refl
     go (x ∷ xs) e = absurd (omega (arith, e))
 
-pub layer_is : {B : Type 0} (running told : List (Option Call)) (r k p : ℕ) (layer : Vec Stage B) (stages : List Stage) (o : Option (Vec Stage B)) (next : Vec Stage B) → told ≡ running → stages ≡ layer.items → IfSome o (λ v. IsLayerAfter told r k p stages v.items) → o ≡ Some next → IsLayerAfter running r k p layer.items next.items
+pub layer_is : {B : Type 0} (running told : List (Option Call)) (r k p : ℕ) (layer : Vec Stage B) (stages : List Stage)
+    (o : Option (Vec Stage B)) (next : Vec Stage B)
+    → told ≡ running → stages ≡ layer.items → IfSome o (λ v. IsLayerAfter told r k p stages v.items) → o ≡ Some next
+    → IsLayerAfter running r k p layer.items next.items
 layer_is {B} running told r k p layer stages o next same items after is =
     let a : IsLayerAfter told r k p stages next.items = subst (λ (x : Option (Vec Stage B)). IfSome x (λ v. IsLayerAfter told r k p stages v.items)) is after in
     subst (λ (l : List Stage). IsLayerAfter running r k p l next.items) items (subst (λ (l : List (Option Call)). IsLayerAfter l r k p stages next.items) same a)

@@ -1,5 +1,6 @@
 -- Candidates gathered, and those that are possible.
-use Rattle.std.proofs.Common.{◌≡◌, ◌⊎◌, inl, inr, ℕ, ◌+◌, ◌<◌, ◌≤◌, ◌↔◌, Bool, true, false, cond, List, [], ◌∷◌, ◌++◌, Option, Some, MatchOption, length, refl, sym, ◌∙◌, subst, arith}
+use Rattle.std.proofs.Common.{◌≡◌, ◌⊎◌, inl, inr, ℕ, ◌+◌, ◌<◌, ◌≤◌, ◌↔◌, Bool, true, false, cond, List, [], ◌∷◌, ◌++◌}
+use Rattle.std.proofs.Common.{Option, Some, MatchOption, length, refl, sym, ◌∙◌, subst, arith}
 use Rattle.std.specs.Bool.{IsTrue}
 use Rattle.std.specs.Option.{unwrap_or}
 use Rattle.std.proofs.lemmas.Bool.{cases_eq}
@@ -14,7 +15,8 @@ use Rattle.reg_checkers.specs.History.{IsAnswered, IsAt, IsCalled, IsFinished}
 use Rattle.reg_checkers.specs.Table.{IsTable, Rows}
 use Rattle.reg_checkers.proofs.Places.{get_push_other, get_push_same, same_at, within}
 use Rattle.reg_checkers.proofs.Pushing.{at_push}
-use Rattle.reg_judge.specs.Candidates.{AreAnswersTo, AreCandidates, AreLeftTo, ArePossibleOf, ArePossibleTo, HasMore, IsChange, IsSince, Leaves}
+use Rattle.reg_judge.specs.Candidates.{AreAnswersTo, AreCandidates, AreLeftTo, ArePossibleOf, ArePossibleTo, HasMore}
+use Rattle.reg_judge.specs.Candidates.{IsChange, IsSince, Leaves}
 use Rattle.reg_judge.specs.Possible.{ArePossible, Has, IsPossible}
 
 -- it stands in the list
@@ -32,7 +34,10 @@ in_more xs x y (k, at) = elim (at_push xs k x y at) [ inl old ↦ inl (k, old) |
 
 -- Values
 
-pub left_more : {A : Type 0} (rows : Rows A) (h : List Entry) (since : Option ℕ) (old new : List ℕ) (i : ℕ) (e : Entry) (event : ℕ) (told : Option ℕ) → IsAt h i e → event ≡ unwrap_or since 0 → Leaves rows event e told → HasMore old told new → AreLeftTo i rows h since old → AreLeftTo (i + 1) rows h since new
+pub left_more : {A : Type 0} (rows : Rows A) (h : List Entry) (since : Option ℕ) (old new : List ℕ) (i : ℕ) (e : Entry)
+    (event : ℕ) (told : Option ℕ)
+    → IsAt h i e → event ≡ unwrap_or since 0 → Leaves rows event e told → HasMore old told new
+    → AreLeftTo i rows h since old → AreLeftTo (i + 1) rows h since new
 left_more rows h since old new i e event told here from leaves more before = record {
   first = λ none. more.kept 0 (before.first none);
   left = λ k at id op v lt there makes over. elim (cases_eq k i) [
@@ -46,7 +51,8 @@ left_more rows h since old new i e event told here from leaves more before = rec
 
 -- Answers
 
-pub answers_more : (values : List ℕ) (old new : List Answer) (i v : ℕ) → IsAt values i v → new ≡ old ++ Value v ∷ [] → AreAnswersTo i values old → AreAnswersTo (i + 1) values new
+pub answers_more : (values : List ℕ) (old new : List Answer) (i v : ℕ) → IsAt values i v → new ≡ old ++ Value v ∷ []
+    → AreAnswersTo i values old → AreAnswersTo (i + 1) values new
 answers_more values old new i v here grown are = subst (AreAnswersTo (i + 1) values) (sym grown) (record {
   done = in_old old (Value v) Done are.done;
   unequal = in_old old (Value v) Unequal are.unequal;
@@ -57,7 +63,8 @@ answers_more values old new i v here grown are = subst (AreAnswersTo (i + 1) val
 })
 
 -- a change of the table is one of the history
-pub change_since : {A : Type 0} (rows : Rows A) (h : List Entry) (id : OpId) (event called : ℕ) → IsTable h rows → IsChange rows id event called → IsSince h event (Some called)
+pub change_since : {A : Type 0} (rows : Rows A) (h : List Entry) (id : OpId) (event called : ℕ) → IsTable h rows
+    → IsChange rows id event called → IsSince h event (Some called)
 change_since rows h id event called table (f, g, v, is, answered, lt, makes, same) =
     let fact : IsFactOf h id f = table.facts id f is in
     let given = subst (λ (o : Option Given). MatchOption o (¬ IsFinished h id) (λ r. IsAnswered h id r.at r.answer)) answered fact.answered in
@@ -101,15 +108,19 @@ module _ (registers : ℕ) (h : List Entry) (place : ℕ) (candidates : List Ans
     )
 
   -- one candidate more, by whether it is possible
-  pub possible_by : (i : ℕ) (candidate : Answer) → IsAt candidates i candidate → (old new : List Answer) (b : Bool) → IsTrue b ↔ IsPossible registers h place candidate → new ≡ cond b (old ++ candidate ∷ []) old → ArePossibleTo i registers h place candidates old → ArePossibleTo (i + 1) registers h place candidates new
+  pub possible_by : (i : ℕ) (candidate : Answer) → IsAt candidates i candidate → (old new : List Answer) (b : Bool)
+      → IsTrue b ↔ IsPossible registers h place candidate → new ≡ cond b (old ++ candidate ∷ []) old
+      → ArePossibleTo i registers h place candidates old → ArePossibleTo (i + 1) registers h place candidates new
   possible_by i candidate here old new true tells is before = subst (ArePossibleTo (i + 1) registers h place candidates) (sym is) (possible_more i candidate here old before (tells.0 cc))
   possible_by i candidate here old new false tells is before = subst (ArePossibleTo (i + 1) registers h place candidates) (sym is) (possible_same i candidate here old before (λ possible. (let bad : IsTrue false = tells.1 possible in let no : ⊥ = cc in no)))
 
-  pub possible_all : (answers : List Answer) (i : ℕ) → length candidates ≤ i → ArePossibleTo i registers h place candidates answers → ArePossibleOf registers h place candidates answers
+  pub possible_all : (answers : List Answer) (i : ℕ) → length candidates ≤ i
+      → ArePossibleTo i registers h place candidates answers → ArePossibleOf registers h place candidates answers
   possible_all answers i end are answer = (
     λ has. (let was = (are answer).0 has in ((was.0.0, was.0.2), was.1)),
     λ ((k, at), possible). (are answer).1 ((k, (let lt = within candidates k answer at in omega (arith, lt, end)), at), possible),
   )
 
-  pub possible_of_candidates : (answers : List Answer) → AreCandidates registers h place candidates → ArePossibleOf registers h place candidates answers → ArePossible registers h place answers
+  pub possible_of_candidates : (answers : List Answer) → AreCandidates registers h place candidates
+      → ArePossibleOf registers h place candidates answers → ArePossible registers h place answers
   possible_of_candidates answers complete are answer = ((λ has. ((are answer).0 has).1), λ possible. (are answer).1 (complete answer possible, possible))

@@ -1,5 +1,6 @@
 -- The first answer that none explains, from those of the registers: of all it is the one of the earliest event.
-use Rattle.std.proofs.Common.{◌≡◌, ◌⊎◌, inl, inr, ℕ, zero, suc, ◌+◌, ◌<◌, ◌≤◌, Bool, List, [], ◌∷◌, ◌++◌, length, take, drop, refl, ap, ap₂, sym, ◌∙◌, subst, cond, arith}
+use Rattle.std.proofs.Common.{◌≡◌, ◌⊎◌, inl, inr, ℕ, zero, suc, ◌+◌, ◌<◌, ◌≤◌, Bool, List, [], ◌∷◌, ◌++◌, length, take}
+use Rattle.std.proofs.Common.{drop, refl, ap, ap₂, sym, ◌∙◌, subst, cond, arith}
 use Rattle.std.specs.List.{AllZip, filter}
 use Rattle.std.proofs.lemmas.Bool.{cases_eq, cases_order}
 use Rattle.std.proofs.lemmas.List.{take-append-drop, take-take, take_at}
@@ -29,7 +30,8 @@ IsLater registers t h = (spot : ℕ) × (s : ℕ) × (x : OpId) × (y : Answer) 
 
 -- First parts
 
-zip_take : {X Y : Type 0} (R : X → Y → Type 0) (xs : List X) (ys : List Y) (m : ℕ) → AllZip R xs ys → AllZip R (take m xs) (take m ys)
+zip_take : {X Y : Type 0} (R : X → Y → Type 0) (xs : List X) (ys : List Y) (m : ℕ) → AllZip R xs ys
+    → AllZip R (take m xs) (take m ys)
 zip_take R xs ys zero all = tt
 zip_take R [] [] (suc m) all = tt
 zip_take R [] (y ∷ ys) (suc m) all = absurd all
@@ -37,40 +39,50 @@ zip_take R (x ∷ xs) [] (suc m) all = absurd all
 zip_take R (x ∷ xs) (y ∷ ys) (suc m) all = (all.0, zip_take R xs ys m all.1)
 
 -- what stands at the same place of the other
-across : {X Y : Type 0} (R : X → Y → Type 0) (xs : List X) (ys : List Y) (k : ℕ) (x : X) → AllZip R xs ys → IsAt xs k x → (y : Y) × IsAt ys k y × R x y
+across : {X Y : Type 0} (R : X → Y → Type 0) (xs : List X) (ys : List Y) (k : ℕ) (x : X) → AllZip R xs ys → IsAt xs k x
+    → (y : Y) × IsAt ys k y × R x y
 across R [] ys k x all at = absurd cc
 across R (a ∷ xs) [] k x all at = absurd all
-across {X} R (a ∷ xs) (b ∷ ys) zero x all at = (b, refl, subst (λ (z : X). R z b) (same_at (a ∷ xs) 0 a x refl at) all.0)
+across {X} R (a ∷ xs) (b ∷ ys) zero x all at =
+    (b, refl, subst (λ (z : X). R z b) (same_at (a ∷ xs) 0 a x refl at) all.0)
 across R (a ∷ xs) (b ∷ ys) (suc k) x all at = across R xs ys k x all.1 at
 
-back : {X Y : Type 0} (R : X → Y → Type 0) (xs : List X) (ys : List Y) (k : ℕ) (y : Y) → AllZip R xs ys → IsAt ys k y → (x : X) × IsAt xs k x × R x y
+back : {X Y : Type 0} (R : X → Y → Type 0) (xs : List X) (ys : List Y) (k : ℕ) (y : Y) → AllZip R xs ys → IsAt ys k y
+    → (x : X) × IsAt xs k x × R x y
 back R [] [] k y all at = absurd cc
 back R [] (b ∷ ys) k y all at = absurd all
 back R (a ∷ xs) [] k y all at = absurd all
-back {X} {Y} R (a ∷ xs) (b ∷ ys) zero y all at = (a, refl, subst (λ (z : Y). R a z) (same_at (b ∷ ys) 0 b y refl at) all.0)
+back {X} {Y} R (a ∷ xs) (b ∷ ys) zero y all at =
+    (a, refl, subst (λ (z : Y). R a z) (same_at (b ∷ ys) 0 b y refl at) all.0)
 back R (a ∷ xs) (b ∷ ys) (suc k) y all at = back R xs ys k y all.1 at
 
-take_alike : (r q : ℕ) (one other : List Entry) (m : ℕ) → AreAlike r q one other → AreAlike r q (take m one) (take m other)
+take_alike : (r q : ℕ) (one other : List Entry) (m : ℕ) → AreAlike r q one other
+    → AreAlike r q (take m one) (take m other)
 take_alike r q one other m are = record {
   entries = zip_take (IsLike r q) one other m are.entries;
   names = λ i j a b c d at_a at_b at_c at_d. are.names i j a b c d (in_take one m i a at_a).1 (in_take other m i b at_b).1 (in_take one m j c at_c).1 (in_take other m j d at_d).1;
 }
 
-filter_same : {X : Type 0} (f g : X → Bool) (xs : List X) → ((k : ℕ) (x : X) → IsAt xs k x → f x ≡ g x) → filter f xs ≡ filter g xs
+filter_same : {X : Type 0} (f g : X → Bool) (xs : List X) → ((k : ℕ) (x : X) → IsAt xs k x → f x ≡ g x)
+    → filter f xs ≡ filter g xs
 filter_same f g [] same = refl
-filter_same f g (x ∷ xs) same = ap₂ (λ (b : Bool) (l : List _). cond b (x ∷ l) l) (same 0 x refl) (filter_same f g xs (λ k y at. same (suc k) y at))
+filter_same f g (x ∷ xs) same =
+    ap₂ (λ (b : Bool) (l : List _). cond b (x ∷ l) l) (same 0 x refl) (filter_same f g xs (λ k y at. same (suc k) y at))
 
 -- an answer like this one
-answer_like : (r q t : ℕ) (x : OpId) (y : Answer) (e : Entry) → IsLike r q e (Answered t x y) → (id : OpId) × (answer : Answer) × (e ≡ Answered t id answer)
+answer_like : (r q t : ℕ) (x : OpId) (y : Answer) (e : Entry) → IsLike r q e (Answered t x y)
+    → (id : OpId) × (answer : Answer) × (e ≡ Answered t id answer)
 answer_like r q t x y (Called at id op) like = absurd like
 answer_like r q t x y (Answered at id answer) like = (id, answer, ap (λ (s : ℕ). Answered s id answer) (sym like.0))
 
-like_answer : (r q t : ℕ) (x : OpId) (y : Answer) (e : Entry) → IsLike r q (Answered t x y) e → (id : OpId) × (answer : Answer) × (e ≡ Answered t id answer)
+like_answer : (r q t : ℕ) (x : OpId) (y : Answer) (e : Entry) → IsLike r q (Answered t x y) e
+    → (id : OpId) × (answer : Answer) × (e ≡ Answered t id answer)
 like_answer r q t x y (Called at id op) like = absurd like
 like_answer r q t x y (Answered at id answer) like = (id, answer, ap (λ (s : ℕ). Answered s id answer) like.0)
 
 -- an answer before another is of an earlier event
-earlier : (n registers : ℕ) (h : List Entry) → IsHistory n registers h → (i j : ℕ) (s t : ℕ) (a b : OpId) (x y : Answer) → IsAt h i (Answered s a x) → IsAt h j (Answered t b y) → i < j → s < t
+earlier : (n registers : ℕ) (h : List Entry) → IsHistory n registers h → (i j : ℕ) (s t : ℕ) (a b : OpId) (x y : Answer)
+    → IsAt h i (Answered s a x) → IsAt h j (Answered t b y) → i < j → s < t
 earlier n registers h good i j s t a b x y at_i at_j lt =
     let may : MayAnswer (take j h) t b y = good j (Answered t b y) at_j in
     elim (may.later i (Answered s a x) (at_take h j i lt ∙ at_i)) [
@@ -79,7 +91,8 @@ earlier n registers h good i j s t a b x y at_i at_j lt =
     ]
 
 -- of one event there is one answer
-one_answer : (n registers : ℕ) (h : List Entry) → IsHistory n registers h → (i j : ℕ) (t : ℕ) (a b : OpId) (x y : Answer) → IsAt h i (Answered t a x) → IsAt h j (Answered t b y) → i ≡ j
+one_answer : (n registers : ℕ) (h : List Entry) → IsHistory n registers h
+    → (i j : ℕ) (t : ℕ) (a b : OpId) (x y : Answer) → IsAt h i (Answered t a x) → IsAt h j (Answered t b y) → i ≡ j
 one_answer n registers h good i j t a b x y at_i at_j = elim (cases_order i j) [
   | inl same ↦ same
   | inr (inl lt) ↦ absurd (let bad = earlier n registers h good i j t t a b x y at_i at_j lt in omega (arith, bad))

@@ -21,7 +21,8 @@ use Rattle.reg_judge.specs.Standing.{IsStood}
 use Rattle.reg_judge.proofs.Agreeing.{agree_alike, stood_agrees}
 
 module _ (naming : Naming) (processes keys : ℕ) (rows : List Row) (entries : List Entry) (stood : IsStood naming processes keys rows entries) where
-  pub part_alike : (key : ℕ) (alone : List Entry) → IsStood Any processes 1 (rows_of_key key rows) alone → AreAlike key 0 (part_at key entries) alone
+  pub part_alike : (key : ℕ) (alone : List Entry) → IsStood Any processes 1 (rows_of_key key rows) alone
+      → AreAlike key 0 (part_at key entries) alone
   part_alike key alone s =
       agree_alike key stood.held (part_at key entries) s.held alone
       (stood_agrees naming Any processes key rows stood.held entries stood.places keys stood.stands stood.history (rows_of_key key rows) s.held alone s.stands refl s.places 1 s.history)
@@ -53,7 +54,11 @@ module _ (naming : Naming) (processes keys : ℕ) (rows : List Row) (entries : L
             order_there 1 keys 0 key ruled.0 (part_at key entries) (omega arith) lt (turned_alike key 0 (part_at key entries) ruled.0 (part_alike key ruled.0 ruled.1)) order
 
 -- A point order is found exactly where each ruling says so.
-pub found_agrees : (naming : Naming) (processes keys : ℕ) (rows : List Row) (entries : List Entry) (rulings : List Ruling) (found : Result (List Point) ℕ) → IsStood naming processes keys rows entries → AreRuled processes keys rows rulings → IsFound keys entries found
+pub found_agrees : (naming : Naming) (processes keys : ℕ) (rows : List Row) (entries : List Entry)
+    (rulings : List Ruling) (found : Result (List Point) ℕ)
+    → IsStood naming processes keys rows entries → AreRuled processes keys rows rulings → IsFound keys entries found
     → (is_ok found ≡ true) ↔ ((key : ℕ) (ruling : Ruling) → slice_get rulings key ≡ Some ruling → ruling ≡ Linearizable)
-found_agrees naming processes keys rows entries rulings (Ok points) stood are order = ((λ _. each_is naming processes keys rows entries stood rulings are (points, order)), (λ _. refl))
-found_agrees naming processes keys rows entries rulings (Err place) stood are none = ((λ is. absurd cc), (λ each. absurd (none.0 (whole_is naming processes keys rows entries stood rulings are each))))
+found_agrees naming processes keys rows entries rulings (Ok points) stood are order =
+    ((λ _. each_is naming processes keys rows entries stood rulings are (points, order)), (λ _. refl))
+found_agrees naming processes keys rows entries rulings (Err place) stood are none =
+    ((λ is. absurd cc), (λ each. absurd (none.0 (whole_is naming processes keys rows entries stood rulings are each))))

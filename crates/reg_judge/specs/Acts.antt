@@ -42,7 +42,8 @@ unanswered op (Some v) = Some (record { register = register_of op; asks = asked 
 -- what an operation asks and leaves, by the answer that it has in the end
 abbrev pub acting : Op → Option Given → Option Act
 acting op None = unanswered op (made_of op)
-acting op (Some given) = Some (record { register = register_of op; asks = asked op given.answer; makes = made op given.answer })
+acting op (Some given) =
+    Some (record { register = register_of op; asks = asked op given.answer; makes = made op given.answer })
 
 abbrev pub act_of : Fact → Option Act
 act_of f = acting f.op f.answered

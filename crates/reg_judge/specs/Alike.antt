@@ -24,7 +24,8 @@ name_of (Answered at id answer) = id
 
 -- both call the same operation, one on this register and the other on that, or both answer the same, at one event
 abbrev pub IsLike : ℕ → ℕ → Entry → Entry → Type 0
-IsLike this that (Called at id op) (Called event name called) = (event ≡ at) × (register_of op ≡ this) × (called ≡ at_register that op)
+IsLike this that (Called at id op) (Called event name called) =
+    (event ≡ at) × (register_of op ≡ this) × (called ≡ at_register that op)
 IsLike this that (Answered at id answer) (Answered event name answered) = (event ≡ at) × (answered ≡ answer)
 IsLike this that (Called at id op) (Answered event name answered) = ⊥
 IsLike this that (Answered at id answer) (Called event name called) = ⊥
@@ -32,4 +33,5 @@ IsLike this that (Answered at id answer) (Called event name called) = ⊥
 -- Entry by entry they are alike, and two entries of one have one name exactly where those of the other have one.
 pub record AreAlike (this that : ℕ) (one other : List Entry) : Type 0 where
   pub entries : AllZip (IsLike this that) one other
-  pub names : (i j : ℕ) (a b c d : Entry) → IsAt one i a → IsAt other i b → IsAt one j c → IsAt other j d → (name_of a ≡ name_of c) ↔ (name_of b ≡ name_of d)
+  pub names : (i j : ℕ) (a b c d : Entry) → IsAt one i a → IsAt other i b → IsAt one j c → IsAt other j d
+      → (name_of a ≡ name_of c) ↔ (name_of b ≡ name_of d)

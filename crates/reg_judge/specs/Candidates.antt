@@ -20,11 +20,14 @@ AreCandidates registers h place answers = (answer : Answer) → IsPossible regis
 
 -- those of the candidates that are possible at the place
 abbrev pub ArePossibleOf : ℕ → List Entry → ℕ → List Answer → List Answer → Type 0
-ArePossibleOf registers h place candidates answers = (answer : Answer) → Has answers answer ↔ (Has candidates answer × IsPossible registers h place answer)
+ArePossibleOf registers h place candidates answers =
+    (answer : Answer) → Has answers answer ↔ (Has candidates answer × IsPossible registers h place answer)
 
 -- those of the first n candidates
 abbrev pub ArePossibleTo : ℕ → ℕ → List Entry → ℕ → List Answer → List Answer → Type 0
-ArePossibleTo n registers h place candidates answers = (answer : Answer) → Has answers answer ↔ (((k : ℕ) × (k < n) × IsAt candidates k answer) × IsPossible registers h place answer)
+ArePossibleTo n registers h place candidates answers =
+    (answer : Answer)
+    → Has answers answer ↔ (((k : ℕ) × (k < n) × IsAt candidates k answer) × IsPossible registers h place answer)
 
 -- by the table, the operation was answered before the event
 abbrev pub IsOver : {A : Type 0} → Rows A → OpId → ℕ → Type 0
@@ -32,12 +35,16 @@ IsOver rows id event = (f : Fact) × (g : Given) × (cell rows id ≡ Some f) ×
 
 -- by the table, the operation left a value, was answered before the event, and was called then
 abbrev pub IsChange : {A : Type 0} → Rows A → OpId → ℕ → ℕ → Type 0
-IsChange rows id event called = (f : Fact) × (g : Given) × (v : ℕ) × (cell rows id ≡ Some f) × (f.answered ≡ Some g) × (g.at < event) × (made f.op g.answer ≡ Some v) × (called ≡ f.called)
+IsChange rows id event called =
+    (f : Fact) × (g : Given) × (v : ℕ) × (cell rows id ≡ Some f) × (f.answered ≡ Some g) × (g.at < event)
+    × (made f.op g.answer ≡ Some v) × (called ≡ f.called)
 
 -- an operation that was called then left a value, and was answered before the event
 abbrev pub IsSince : List Entry → ℕ → Option ℕ → Type 0
 IsSince h event None = Unit {0}
-IsSince h event (Some called) = (u : OpId) × (op : Op) × (at : ℕ) × (answer : Answer) × (v : ℕ) × IsCalled h u called op × IsAnswered h u at answer × (at < event) × (made op answer ≡ Some v)
+IsSince h event (Some called) =
+    (u : OpId) × (op : Op) × (at : ℕ) × (answer : Answer) × (v : ℕ) × IsCalled h u called op × IsAnswered h u at answer
+    × (at < event) × (made op answer ≡ Some v)
 
 -- the value that the operation leaves is told, unless by the table it was over before the event
 abbrev pub Leaves : {A : Type 0} → Rows A → ℕ → Entry → Option ℕ → Type 0
@@ -55,9 +62,11 @@ pub record HasMore (old : List ℕ) (value : Option ℕ) (new : List ℕ) : Type
 
 -- The values that operations of the first n entries left, but for those that were over before a change was called; and
 -- the first value, if there is no change.
-pub record AreLeftTo {A : Type 0} (n : ℕ) (rows : Rows A) (h : List Entry) (since : Option ℕ) (values : List ℕ) : Type 0 where
+pub record AreLeftTo {A : Type 0} (n : ℕ) (rows : Rows A) (h : List Entry) (since : Option ℕ)
+    (values : List ℕ) : Type 0 where
   pub first : since ≡ None → HasValue values 0
-  pub left : (k at : ℕ) (id : OpId) (op : Op) (v : ℕ) → k < n → IsAt h k (Called at id op) → made_of op ≡ Some v → ¬ IsOver rows id (unwrap_or since 0) → HasValue values v
+  pub left : (k at : ℕ) (id : OpId) (op : Op) (v : ℕ) → k < n → IsAt h k (Called at id op) → made_of op ≡ Some v
+      → ¬ IsOver rows id (unwrap_or since 0) → HasValue values v
 
 -- those of all entries
 abbrev pub AreLeft : {A : Type 0} → Rows A → List Entry → Option ℕ → List ℕ → Type 0

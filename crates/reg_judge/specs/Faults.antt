@@ -3,7 +3,8 @@ use Rattle.std.specs.Prelude.{ℕ, List, [], ◌∷◌, ◌++◌, codes}
 use Rattle.std.specs.Fmt.{decimal}
 use Rattle.reg_commands.specs.FaultLines.{fault_line}
 use Rattle.reg_judge.specs.declared.rulings.faults.RuleFault.{RuleFault}
-use Rattle.reg_judge.specs.declared.rulings.faults.RuleFault.TheVariants.{Full, OutOfPlace, TooWide, Unchecked, NoReport, OutOfMemory}
+use Rattle.reg_judge.specs.declared.rulings.faults.RuleFault.TheVariants.{Full, OutOfPlace, TooWide, Unchecked}
+use Rattle.reg_judge.specs.declared.rulings.faults.RuleFault.TheVariants.{NoReport, OutOfMemory}
 use Rattle.reg_judge.specs.declared.rulings.faults.RulingFault.{RulingFault}
 use Rattle.reg_judge.specs.declared.rulings.faults.RulingFault.TheVariants.{Command, Rule}
 

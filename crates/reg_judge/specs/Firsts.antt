@@ -14,7 +14,8 @@ use Rattle.reg_judge.specs.Rulings.{AreRuled}
 
 -- what is found out of each register of a history of so many processes and registers
 abbrev pub AreRulingsOf : ℕ → ℕ → List Entry → List Ruling → Type 0
-AreRulingsOf processes registers entries rulings = (rows : List Row) × AreRowsOf entries rows × AreRuled processes registers rows rulings
+AreRulingsOf processes registers entries rulings =
+    (rows : List Row) × AreRowsOf entries rows × AreRuled processes registers rows rulings
 
 -- the earliest event of an answer that is found to be the first that none explains
 pub record IsFirstNot (rulings : List Ruling) (at : ℕ) : Type 0 where
@@ -35,4 +36,5 @@ IsEarlier (Some first) (Not at) next = ((next ≡ Some first) × (first ≤ at))
 -- of the first i keys
 abbrev pub IsFirstTo : ℕ → List Ruling → Option ℕ → Type 0
 IsFirstTo i rulings None = (key t : ℕ) → key < i → ¬ IsAt rulings key (Not t)
-IsFirstTo i rulings (Some at) = ((key : ℕ) × IsAt rulings key (Not at)) × ((key t : ℕ) → key < i → IsAt rulings key (Not t) → at ≤ t)
+IsFirstTo i rulings (Some at) =
+    ((key : ℕ) × IsAt rulings key (Not at)) × ((key t : ℕ) → key < i → IsAt rulings key (Not t) → at ≤ t)

@@ -14,7 +14,9 @@ use Rattle.reg_judge.specs.Standing.{IsStood}
 
 -- in a history of the rows of one key, under any names, these are the answers that are possible at this event
 abbrev pub ArePossibleAt : ℕ → List Row → ℕ → List Answer → Type 0
-ArePossibleAt processes rows at answers = (entries : List Entry) × IsStood Any processes 1 rows entries × ((place : ℕ) × IsAnswerAt entries at place × ArePossible 1 entries place answers)
+ArePossibleAt processes rows at answers =
+    (entries : List Entry) × IsStood Any processes 1 rows entries
+    × ((place : ℕ) × IsAnswerAt entries at place × ArePossible 1 entries place answers)
 
 -- what is told, if something is, of the rows of one key: the answers that are possible at the one that none explains
 abbrev pub IsToldOf : {A : Type 0} → ℕ → List Row → Ruling → Option (Vec Answer A) → Type 0
@@ -23,6 +25,8 @@ IsToldOf processes rows (Not at) None = ⊤
 IsToldOf processes rows (Not at) (Some answers) = ArePossibleAt processes rows at answers.items
 
 -- of each key, by number
-pub record AreToldOf {A : Type 0} (processes : ℕ) (rows : List Row) (rulings : List Ruling) (told : List (Option (Vec Answer A))) : Type 0 where
+pub record AreToldOf {A : Type 0} (processes : ℕ) (rows : List Row) (rulings : List Ruling)
+    (told : List (Option (Vec Answer A))) : Type 0 where
   pub all : length told ≡ length rulings
-  pub each : (key : ℕ) (ruling : Ruling) (answers : Option (Vec Answer A)) → IsAt rulings key ruling → IsAt told key answers → IsToldOf processes (rows_of_key key rows) ruling answers
+  pub each : (key : ℕ) (ruling : Ruling) (answers : Option (Vec Answer A)) → IsAt rulings key ruling
+      → IsAt told key answers → IsToldOf processes (rows_of_key key rows) ruling answers

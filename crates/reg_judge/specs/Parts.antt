@@ -8,7 +8,8 @@ use Rattle.reg_checkers.specs.declared.entries.Entry.TheVariants.{Called, Answer
 
 -- whether the entry calls the operation of this id, on the register
 abbrev pub calls_on : ℕ → OpId → Entry → Bool
-calls_on register id (Called at other op) = other.process == id.process && other.number == id.number && register_of op == register
+calls_on register id (Called at other op) =
+    other.process == id.process && other.number == id.number && register_of op == register
 calls_on register id (Answered at other answer) = false
 
 -- whether the entry is of the register: a call on it, or the answer to an operation that was called on it

@@ -9,7 +9,9 @@ use Rattle.reg_judge.specs.Judging.{HasPointOrder}
 
 -- the entry at this place is an answer, and with the other answer there the entries up to it have a point order
 abbrev pub IsPossible : ℕ → List Entry → ℕ → Answer → Type 0
-IsPossible registers h place answer = (at : ℕ) × (id : OpId) × (given : Answer) × IsAt h place (Answered at id given) × HasPointOrder registers (take place h ++ Answered at id answer ∷ [])
+IsPossible registers h place answer =
+    (at : ℕ) × (id : OpId) × (given : Answer) × IsAt h place (Answered at id given)
+    × HasPointOrder registers (take place h ++ Answered at id answer ∷ [])
 
 -- the answer stands in the list
 abbrev pub Has : List Answer → Answer → Type 0

@@ -1,5 +1,6 @@
 -- What is found out of a report's history, and what is answered. To be believed: promises speak of it.
-use Rattle.std.specs.Prelude.{ℕ, ◌≡◌, ◌++◌, ⊤, Bool, true, false, List, map, codes, Option, Some, None, Result, Ok, Err, if◌then◌else◌}
+use Rattle.std.specs.Prelude.{ℕ, ◌≡◌, ◌++◌, ⊤, Bool, true, false, List, map, codes, Option, Some, None, Result, Ok, Err}
+use Rattle.std.specs.Prelude.{if◌then◌else◌}
 use Rattle.std.specs.List.{AllZip}
 use Rattle.std.specs.Result.{is_ok}
 use Rattle.reg_base.specs.Memory.{register_of}
@@ -25,7 +26,9 @@ use Rattle.reg_judge.specs.declared.rulings.serial.Serial.{Serial}
 
 -- the call of this operation, at the register that it names
 abbrev pub IsCallOf : Op → Step → Type 0
-IsCallOf op step = (act : Act) × (expected : ℕ) × (value : ℕ) × (step ≡ Call act expected value) × (act_op act (register_of op) expected value ≡ op)
+IsCallOf op step =
+    (act : Act) × (expected : ℕ) × (value : ℕ) × (step ≡ Call act expected value)
+    × (act_op act (register_of op) expected value ≡ op)
 
 -- the register of the operation that was called under this id
 abbrev pub IsRegisterOf : List Entry → OpId → ℕ → Type 0
@@ -33,8 +36,10 @@ IsRegisterOf h id register = (at : ℕ) × (op : Op) × IsCalled h id at op × (
 
 -- a call, or an answer at the register of its call, as a row
 abbrev pub IsRowOf : List Entry → Entry → Row → Type 0
-IsRowOf h (Called at id op) row = (row.at ≡ at) × (row.process ≡ id.process) × (row.key ≡ register_of op) × IsCallOf op row.step
-IsRowOf h (Answered at id answer) row = (row.at ≡ at) × (row.process ≡ id.process) × IsRegisterOf h id row.key × (row.step ≡ Answer answer)
+IsRowOf h (Called at id op) row =
+    (row.at ≡ at) × (row.process ≡ id.process) × (row.key ≡ register_of op) × IsCallOf op row.step
+IsRowOf h (Answered at id answer) row =
+    (row.at ≡ at) × (row.process ≡ id.process) × IsRegisterOf h id row.key × (row.step ≡ Answer answer)
 
 -- the rows of a history: one for each entry
 abbrev pub AreRowsOf : List Entry → List Row → Type 0
@@ -49,7 +54,8 @@ SerialFound registers entries (Err place) (Some serial) = RulesSerial registers 
 
 -- What is found out of a report: of its history, of each register by itself, and whether there is a serial order. Its
 -- own order and points are not looked at.
-pub record IsJudgedReport (r : Contents) (found : Result (List Point) ℕ) (rulings : List Ruling) (serial : Option Serial) : Type 0 where
+pub record IsJudgedReport (r : Contents) (found : Result (List Point) ℕ) (rulings : List Ruling)
+    (serial : Option Serial) : Type 0 where
   pub whole : IsFound r.shape.registers r.entries found
   pub rows : List Row
   pub are : AreRowsOf r.entries rows

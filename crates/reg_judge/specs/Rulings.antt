@@ -33,7 +33,8 @@ IsSought registers entries found = IsFound registers entries (found_in found)
 
 -- the answer of this event is the first up to which the entries have no point order
 abbrev pub IsUnexplainedAt : ℕ → List Entry → ℕ → Type 0
-IsUnexplainedAt registers entries at = (place : ℕ) × IsFirstUnexplained registers entries place × ((e : Entry) × IsAt entries place e × (at ≡ event_of e))
+IsUnexplainedAt registers entries at =
+    (place : ℕ) × IsFirstUnexplained registers entries place × ((e : Entry) × IsAt entries place e × (at ≡ event_of e))
 
 -- of entries that have a point order, and of those that have none
 abbrev pub RulesEntries : List Entry → Ruling → Type 0
@@ -42,12 +43,14 @@ RulesEntries entries (Not at) = (¬ HasPointOrder 1 entries) × IsUnexplainedAt 
 
 -- what is found out of the rows of one key, in a history of them under any names
 abbrev pub IsRuled : ℕ → List Row → Ruling → Type 0
-IsRuled processes rows ruling = (entries : List Entry) × IsStood Any processes 1 rows entries × RulesEntries entries ruling
+IsRuled processes rows ruling =
+    (entries : List Entry) × IsStood Any processes 1 rows entries × RulesEntries entries ruling
 
 -- of each key, by number
 pub record AreRuled (processes keys : ℕ) (rows : List Row) (rulings : List Ruling) : Type 0 where
   pub all : length rulings ≡ keys
-  pub each : (key : ℕ) (ruling : Ruling) → slice_get rulings key ≡ Some ruling → IsRuled processes (rows_of_key key rows) ruling
+  pub each : (key : ℕ) (ruling : Ruling) → slice_get rulings key ≡ Some ruling
+      → IsRuled processes (rows_of_key key rows) ruling
 
 -- of entries that have a serial order, and of those that have none
 abbrev pub RulesSerial : ℕ → List Entry → Serial → Type 0

@@ -16,7 +16,8 @@ AreNarrow movers = (i : ℕ) (m : Mover) → IsAt movers i m → m.id.process < 
 
 -- an operation of the process does no harm
 abbrev pub HasHarmless : List Mover → ℕ → Type 0
-HasHarmless movers q = (i : ℕ) × (m : Mover) × IsAt movers i m × (m.id.process ≡ q) × ((m.act.makes ≡ None) ⊎ (m.free ≡ true))
+HasHarmless movers q =
+    (i : ℕ) × (m : Mover) × IsAt movers i m × (m.id.process ≡ q) × ((m.act.makes ≡ None) ⊎ (m.free ≡ true))
 
 -- processes are placed besides, whose operations do no harm
 abbrev pub Settles : List Mover → (ℕ → ℕ) → ℕ → Type 0
@@ -24,7 +25,8 @@ Settles movers placed more = (q : ℕ) → (bit_at more q ≡ placed q) ⊎ ((bi
 
 -- what an operation makes of a stage: it is placed, with some that do no harm, and the register has its value
 abbrev pub IsAfter : List Mover → Stage → Mover → ℕ → ℕ → Type 0
-IsAfter movers s m placed value = (value ≡ value_after m.act s.value) × Settles movers (put (bit_at s.placed) m.id.process 1) placed
+IsAfter movers s m placed value =
+    (value ≡ value_after m.act s.value) × Settles movers (put (bit_at s.placed) m.id.process 1) placed
 
 -- the operation may take effect at the stage
 abbrev pub MayMove : Stage → Mover → Type 0
@@ -44,7 +46,8 @@ HasAfter movers s m stages = MayMove s m → (j : ℕ) × (t : Stage) × IsAt st
 
 -- the process is placed at the stage, or all that operations make of it is there
 abbrev pub IsDone : List Mover → ℕ → List Stage → Stage → Type 0
-IsDone movers p stages s = (bit_at s.placed p ≡ 1) ⊎ ((i : ℕ) (m : Mover) → IsAt movers i m → HasAfter movers s m stages)
+IsDone movers p stages s =
+    (bit_at s.placed p ≡ 1) ⊎ ((i : ℕ) (m : Mover) → IsAt movers i m → HasAfter movers s m stages)
 
 -- each of the first stages is done
 abbrev pub AreDoneTo : ℕ → List Mover → ℕ → List Stage → Type 0
@@ -56,7 +59,9 @@ AreDone movers p stages = (j : ℕ) (s : Stage) → IsAt stages j s → IsDone m
 
 -- these stages have one that is the stage without the process
 abbrev pub HasWithout : ℕ → List Stage → Stage → Type 0
-HasWithout p stages s = (l : ℕ) × (t : Stage) × IsAt stages l t × (t.value ≡ s.value) × ((q : ℕ) → bit_at t.placed q ≡ put (bit_at s.placed) p 0 q)
+HasWithout p stages s =
+    (l : ℕ) × (t : Stage) × IsAt stages l t × (t.value ≡ s.value)
+    × ((q : ℕ) → bit_at t.placed q ≡ put (bit_at s.placed) p 0 q)
 
 -- each of the first stages at which the process is placed is kept, and there the process is not placed any more
 abbrev pub KeepsTo : ℕ → ℕ → List Stage → List Stage → Type 0
@@ -68,21 +73,25 @@ Keeps p old new = (j : ℕ) (s : Stage) → IsAt old j s → bit_at s.placed p �
 
 -- the stage stays, but that an operation may be placed
 abbrev pub IsRead : ℕ → Stage → Stage → Type 0
-IsRead p s t = (t.value ≡ s.value) × ((q : ℕ) → (bit_at t.placed q ≡ bit_at s.placed q) ⊎ ((q ≡ p) × (bit_at t.placed q ≡ 1)))
+IsRead p s t =
+    (t.value ≡ s.value) × ((q : ℕ) → (bit_at t.placed q ≡ bit_at s.placed q) ⊎ ((q ≡ p) × (bit_at t.placed q ≡ 1)))
 
 -- each stage stays so
 abbrev pub Reads : ℕ → List Stage → List Stage → Type 0
 Reads p old new = (j : ℕ) (s : Stage) → IsAt old j s → (t : Stage) × IsAt new j t × IsRead p s t
 
 -- all operations that run on a register, with what is known of them
-pub record AreMovers (r : ℕ) (act : OpId → Option Act) (run : Running) (es : List Entry) (movers : List Mover) : Type 0 where
-  pub all : (p : ℕ) (a : Act) → run p ≡ Some a → a.register ≡ r → (i : ℕ) × (m : Mover) × IsAt movers i m × (m.id.process ≡ p) × (m.act ≡ a)
+pub record AreMovers (r : ℕ) (act : OpId → Option Act) (run : Running) (es : List Entry)
+    (movers : List Mover) : Type 0 where
+  pub all : (p : ℕ) (a : Act) → run p ≡ Some a → a.register ≡ r
+      → (i : ℕ) × (m : Mover) × IsAt movers i m × (m.id.process ≡ p) × (m.act ≡ a)
   pub each : (i : ℕ) (m : Mover) → IsAt movers i m → (run m.id.process ≡ Some m.act) × (m.act.register ≡ r)
   pub free : (i : ℕ) (m : Mover) → IsAt movers i m → m.free ≡ true → IsFree r act run es m.act
 
 -- some stage goes on through these entries
 abbrev pub IsAlive : ℕ → (OpId → Option Act) → Running → List Entry → List Stage → Type 0
-IsAlive r act run es stages = (n : ℕ) × (j : ℕ) × (s : Stage) × IsAt stages j s × Completes r act n run (bit_at s.placed) s.value es
+IsAlive r act run es stages =
+    (n : ℕ) × (j : ℕ) × (s : Stage) × IsAt stages j s × Completes r act n run (bit_at s.placed) s.value es
 
 -- each of the first of these stages is among those
 abbrev pub HasEachTo : ℕ → List Stage → List Stage → Type 0

@@ -33,11 +33,15 @@ no_calls processes = replicate processes None
 -- The entry of a row, and the last call of each process, before and after: a call stands under a new name, under which
 -- none was called before, and an answer under that of the last call of its process, which is of the answer's key. Both
 -- are of the row's event.
-abbrev pub OneMore-by : Step → Naming → Row → List (Option LastCall) → List Entry → List (Option LastCall) → List Entry → Type 0
+abbrev pub OneMore-by : Step → Naming → Row → List (Option LastCall) → List Entry → List (Option LastCall) → List Entry
+    → Type 0
 OneMore-by (Call act expected value) naming row held entries after more =
-    (id : OpId) × MayName naming row.process id.process × (¬ WasCalled entries id) × (more ≡ entries ++ Called row.at id (act_op act row.key expected value) ∷ []) × (after ≡ slice_set held row.process (Some (record { id = id; key = row.key })))
+    (id : OpId) × MayName naming row.process id.process × (¬ WasCalled entries id)
+    × (more ≡ entries ++ Called row.at id (act_op act row.key expected value) ∷ [])
+    × (after ≡ slice_set held row.process (Some (record { id = id; key = row.key })))
 OneMore-by (Answer answer) naming row held entries after more =
-    (id : OpId) × (get_or held row.process None ≡ Some (record { id = id; key = row.key })) × (more ≡ entries ++ Answered row.at id answer ∷ []) × (after ≡ held)
+    (id : OpId) × (get_or held row.process None ≡ Some (record { id = id; key = row.key }))
+    × (more ≡ entries ++ Answered row.at id answer ∷ []) × (after ≡ held)
 
 abbrev pub OneMore : Naming → Row → List (Option LastCall) → List Entry → List (Option LastCall) → List Entry → Type 0
 OneMore naming row held entries after more = OneMore-by row.step naming row held entries after more
@@ -45,7 +49,9 @@ OneMore naming row held entries after more = OneMore-by row.step naming row held
 -- The entries are those of the rows, in order, with the last calls.
 pub data Stands (naming : Naming) (processes : ℕ) : List Row → List (Option LastCall) → List Entry → Type 0 where
   Nothing : Stands naming processes [] (no_calls processes) []
-  More : {rows : List Row} {held after : List (Option LastCall)} {entries more : List Entry} (row : Row) → Stands naming processes rows held entries → OneMore naming row held entries after more → Stands naming processes (rows ++ row ∷ []) after more
+  More : {rows : List Row} {held after : List (Option LastCall)} {entries more : List Entry} (row : Row)
+      → Stands naming processes rows held entries → OneMore naming row held entries after more
+      → Stands naming processes (rows ++ row ∷ []) after more
 
 -- The entries are those of the rows, and a history of so many registers, and of some number of processes, the places of
 -- calls: each entry is in place after those before it.

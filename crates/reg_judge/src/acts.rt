@@ -1,7 +1,8 @@
 //! What an operation asks of the value of its register, and what it leaves there.
 ghost use Rattle.std.specs.Prelude.{◌≡◌, ◌↔◌, IsTrue};
 ghost use Rattle.reg_judge.specs.declared.acts.Ask.TheVariants.{Anything as AsksAnything};
-ghost use Rattle.reg_judge.specs.Acts.{act_in as act_in_rows, alone_in, asked as asked_by, made as made_by, made_of, acting, goes_by as by_ask, Suits, Fits, value_after as after_act};
+ghost use Rattle.reg_judge.specs.Acts.{act_in as act_in_rows, alone_in, asked as asked_by, made as made_by, made_of};
+ghost use Rattle.reg_judge.specs.Acts.{acting, goes_by as by_ask, Suits, Fits, value_after as after_act};
 
 use reg_base::{Answer, Op, OpId};
 use reg_checkers::{Fact, Given, fact_of};

@@ -2,7 +2,8 @@
 ghost use Rattle.std.specs.Prelude.{◌≡◌, ◌<◌, ◌≤◌, ℕ, Option, None, Some, IfOk, OnOk};
 ghost use Rattle.reg_checkers.specs.Table.{IsTable};
 ghost use Rattle.reg_judge.specs.Acts.{act_in as act_in_rows};
-ghost use Rattle.reg_judge.specs.Searching.{AreMoversOf, AreNeeds, HasNoted, IsAtLeast, IsCallOf, IsMoverAdded, IsNoted, until_by};
+ghost use Rattle.reg_judge.specs.Searching.{AreMoversOf, AreNeeds, HasNoted, IsAtLeast, IsCallOf, IsMoverAdded};
+ghost use Rattle.reg_judge.specs.Searching.{IsNoted, until_by};
 
 use crate::acts::{Act, act_in, unanswered_act_in};
 use crate::stages::Mover;

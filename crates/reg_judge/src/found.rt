@@ -151,7 +151,8 @@ impl<A: Allocator + Copy> Found<A> {
     ) -> Result<(), AllocError>
         requires { AreNarrow movers.now }
         ensures extends { OnOk result (Extends self.old.stages.items self.new.stages.items) }
-        ensures there { OnOk result ((i : ℕ) (m : AnyMover) → IsAt movers.now i m → HasAfter movers.now stage m self.new.stages.items) }
+        ensures there { OnOk result
+            ((i : ℕ) (m : AnyMover) → IsAt movers.now i m → HasAfter movers.now stage m self.new.stages.items) }
     {
         for mover in movers {
             self.add_after(trail, movers, stage, *mover)?;

@@ -2,7 +2,8 @@
 ghost use Rattle.std.specs.Prelude.{◌≡◌, ◌+◌, ◌-◌, ◌<◌, ◌≤◌, IfErr, IfOk, MatchResult, length, take};
 ghost use Rattle.reg_checkers.specs.History.{IsHistory};
 ghost use Rattle.reg_checkers.specs.Orders.{IsPointOrder};
-ghost use Rattle.reg_judge.specs.Judging.{AreBounds, HasPointOrder, IsDecided, IsExplained, IsFirstUnexplained, IsPointsFault};
+ghost use Rattle.reg_judge.specs.Judging.{AreBounds, HasPointOrder, IsDecided, IsExplained, IsFirstUnexplained};
+ghost use Rattle.reg_judge.specs.Judging.{IsPointsFault};
 
 use crate::order::points_of;
 use crate::search::{Searched, go_through};
@@ -225,7 +226,8 @@ pub fn judge_points<A: Allocator + Copy>(
     history: &History<A>,
     limit: u32,
 ) -> Result<Vec<Point, A>, PointsFault>
-    ensures { MatchResult result (λ points. IsPointOrder history.now.shape.registers history.now.entries points.items) (IsPointsFault history.now.shape.registers history.now.entries) }
+    ensures { MatchResult result (λ points. IsPointOrder history.now.shape.registers history.now.entries points.items)
+        (IsPointsFault history.now.shape.registers history.now.entries) }
 {
     match decide(alloc, history, limit)? {
         Decided::Order(points) => Ok(points),

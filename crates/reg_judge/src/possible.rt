@@ -1,8 +1,10 @@
 //! The answers that an operation might have had in place of one that no point order explains.
-ghost use Rattle.std.specs.Prelude.{◌≡◌, ◌↔◌, ◌<◌, ◌++◌, ◌∷◌, [], if◌then◌else◌, List, IfOk, IfSome, IsTrue, OnOk, length};
+ghost use Rattle.std.specs.Prelude.{◌≡◌, ◌↔◌, ◌<◌, ◌++◌, ◌∷◌, [], if◌then◌else◌, List, IfOk, IfSome, IsTrue, OnOk};
+ghost use Rattle.std.specs.Prelude.{length};
 ghost use Rattle.reg_checkers.specs.declared.entries.Entry.{Entry as AnyEntry};
 ghost use Rattle.reg_checkers.specs.Table.{IsTable};
-ghost use Rattle.reg_judge.specs.Candidates.{AreAnswersOf, AreCandidates, AreLeft, ArePossibleOf, HasMore, IsChange, IsOver, IsSince, Leaves};
+ghost use Rattle.reg_judge.specs.Candidates.{AreAnswersOf, AreCandidates, AreLeft, ArePossibleOf, HasMore, IsChange};
+ghost use Rattle.reg_judge.specs.Candidates.{IsOver, IsSince, Leaves};
 ghost use Rattle.reg_judge.specs.Possible.{ArePossible, IsPossible};
 
 use crate::acts::{made, made_alone};

@@ -1,12 +1,14 @@
 //! The search: entries are gone through in order, and for each register the stages are kept that its operations can
 //! have led to. An operation takes effect only where the next answer asks for it (Lowe 2017).
-ghost use Rattle.std.specs.Prelude.{◌≡◌, ◌+◌, ◌<◌, ◌≤◌, ℕ, List, Option, IfOk, IfSome, OnOk, length, replicate, slice_set};
+ghost use Rattle.std.specs.Prelude.{◌≡◌, ◌+◌, ◌<◌, ◌≤◌, ℕ, List, Option, IfOk, IfSome, OnOk, length, replicate};
+ghost use Rattle.std.specs.Prelude.{slice_set};
 ghost use Rattle.reg_checkers.specs.History.{IsAt, IsHistory};
 ghost use Rattle.reg_checkers.specs.Table.{IsTable};
 ghost use Rattle.reg_judge.specs.declared.acts.Act.{Act as AnyAct};
 ghost use Rattle.reg_judge.specs.declared.calls.Call.{Call as AnyCall};
 ghost use Rattle.reg_judge.specs.Acts.{act_in as act_in_rows};
-ghost use Rattle.reg_judge.specs.Searching.{AreFirst, AreRead, AreWaiting, IsAnswering, IsCallOf, IsFirst, IsKnown, IsLayerAfter, IsSearchEnd, IsStep};
+ghost use Rattle.reg_judge.specs.Searching.{AreFirst, AreRead, AreWaiting, IsAnswering, IsCallOf, IsFirst, IsKnown};
+ghost use Rattle.reg_judge.specs.Searching.{IsLayerAfter, IsSearchEnd, IsStep};
 ghost use Rattle.reg_judge.specs.Stages.{IsRead, Reads};
 
 use crate::acts::Act;
@@ -118,7 +120,8 @@ fn layer_after<A: Allocator + Copy>(
 ) -> Result<Option<Vec<Stage, A>>, AllocError>
     requires process { at.process < 64 }
     requires narrow { (p : ℕ) (c : AnyCall) → IsAt running.now p (Some c) → c.id.process < 64 }
-    ensures { IfOk result (λ o. IfSome o (λ v. IsLayerAfter running.now at.register at.place at.process layer.now v.items)) }
+    ensures { IfOk result
+        (λ o. IfSome o (λ v. IsLayerAfter running.now at.register at.place at.process layer.now v.items)) }
 {
     if all_have(layer, at.process) {
         return Ok(Some(answered(alloc, layer, at.process)?));
@@ -150,8 +153,11 @@ impl<A: Allocator + Copy> Search<A> {
     fn call(&mut self, rows: &[Vec<Fact, A>], needs: &Needs<A>, id: OpId) -> Result<(), AllocError>
         requires process { id.process < length self.old.running.items }
         requires few { length self.old.running.items ≤ 64 }
-        requires register { (a : AnyAct) → act_in_rows rows.now id ≡ Some a → a.register < length self.old.layers.items }
-        ensures running { OnOk result ((o : Option AnyCall) × IsCallOf rows.now needs.now id o × (self.new.running.items ≡ slice_set self.old.running.items id.process o)) }
+        requires register { (a : AnyAct) → act_in_rows rows.now id ≡ Some a
+            → a.register < length self.old.layers.items }
+        ensures running { OnOk result
+            ((o : Option AnyCall) × IsCallOf rows.now needs.now id o
+            × (self.new.running.items ≡ slice_set self.old.running.items id.process o)) }
         ensures layers { OnOk result (AreRead (act_in_rows rows.now) id self.old.layers.items self.new.layers.items) }
         ensures len { OnOk result (length self.new.layers.items ≡ length self.old.layers.items) }
     {
@@ -172,8 +178,11 @@ impl<A: Allocator + Copy> Search<A> {
         requires process { process < length self.old.running.items }
         requires few { length self.old.running.items ≤ 64 }
         requires narrow { (p : ℕ) (c : AnyCall) → IsAt self.old.running.items p (Some c) → c.id.process < 64 }
-        requires registers { (p : ℕ) (c : AnyCall) → IsAt self.old.running.items p (Some c) → c.act.register < length self.old.layers.items }
-        ensures answered { IfOk result (λ s. IsAnswering process place self.old.running.items self.old.layers.items self.new.running.items self.new.layers.items s) }
+        requires registers { (p : ℕ) (c : AnyCall) → IsAt self.old.running.items p (Some c)
+            → c.act.register < length self.old.layers.items }
+        ensures answered { IfOk result
+            (λ s. IsAnswering process place self.old.running.items self.old.layers.items self.new.running.items
+            self.new.layers.items s) }
     {
         let Some(call) = self.running[usize::from(process)] else {
             return Ok(Stepped::On);
@@ -206,12 +215,18 @@ impl<A: Allocator + Copy> Search<A> {
         place: usize,
     ) -> Result<Stepped, AllocError>
         requires place { place < length entries.now }
-        requires known { IsKnown (length self.old.running.items) (length self.old.layers.items) entries.now rows.now needs.now }
+        requires known { IsKnown (length self.old.running.items) (length self.old.layers.items) entries.now rows.now
+            needs.now }
         requires waiting { AreWaiting entries.now (act_in_rows rows.now) place self.old.running.items }
-        ensures step { IfOk result (λ s. IsStep (act_in_rows rows.now) place entries.now self.old.running.items self.old.layers.items self.new.running.items self.new.layers.items s) }
-        ensures waiting { IfOk result (λ s. s ≡ Stepped.On → AreWaiting entries.now (act_in_rows rows.now) (place + 1) self.new.running.items) }
-        ensures processes { IfOk result (λ s. s ≡ Stepped.On → length self.new.running.items ≡ length self.old.running.items) }
-        ensures registers { IfOk result (λ s. s ≡ Stepped.On → length self.new.layers.items ≡ length self.old.layers.items) }
+        ensures step { IfOk result
+            (λ s. IsStep (act_in_rows rows.now) place entries.now self.old.running.items self.old.layers.items
+            self.new.running.items self.new.layers.items s) }
+        ensures waiting { IfOk result (λ s. s ≡ Stepped.On
+            → AreWaiting entries.now (act_in_rows rows.now) (place + 1) self.new.running.items) }
+        ensures processes { IfOk result (λ s. s ≡ Stepped.On
+            → length self.new.running.items ≡ length self.old.running.items) }
+        ensures registers { IfOk result (λ s. s ≡ Stepped.On
+            → length self.new.layers.items ≡ length self.old.layers.items) }
     {
         match entries[place] {
             Entry::Called { at: _, id, op: _ } => {

@@ -1,5 +1,6 @@
 -- The least of some counts.
-use Rattle.std.proofs.Common.{◌≡◌, ◌⊎◌, ℕ, zero, suc, ◌<◌, ◌≤◌, List, [], ◌∷◌, length, min, refl, ap, ◌∙◌, inl, inr, arith, length-set, get_or-set_same, get_or-set_other}
+use Rattle.std.proofs.Common.{◌≡◌, ◌⊎◌, ℕ, zero, suc, ◌<◌, ◌≤◌, List, [], ◌∷◌, length, min, refl, ap, ◌∙◌, inl, inr}
+use Rattle.std.proofs.Common.{arith, length-set, get_or-set_same, get_or-set_other}
 use Rattle.std.specs.Prelude.{slice_index, slice_set}
 use Rattle.std.proofs.lemmas.Bool.{cases_eq}
 use Rattle.reg_links.specs.Bounds.{least_from}
@@ -13,7 +14,8 @@ least_low n [] i l = absurd (omega arith)
 least_low n (c ∷ cs) zero l = omega arith
 least_low n (c ∷ cs) (suc i) l = let h = least_low n cs i (omega arith) in omega (arith, h)
 
-pub least_greatest : (n k : ℕ) (cs : List ℕ) → k ≤ n → ((i : ℕ) → i < length cs → k ≤ slice_index cs i) → k ≤ least_from n cs
+pub least_greatest : (n k : ℕ) (cs : List ℕ) → k ≤ n → ((i : ℕ) → i < length cs → k ≤ slice_index cs i)
+    → k ≤ least_from n cs
 least_greatest n k [] top low = top
 least_greatest n k (c ∷ cs) top low =
     let a : k ≤ c = low 0 (omega arith) in
@@ -21,7 +23,8 @@ least_greatest n k (c ∷ cs) top low =
     omega (arith, a, b)
 
 -- it is one of them, or the number that they were compared with
-pub least_is : (n : ℕ) (cs : List ℕ) → (least_from n cs ≡ n) ⊎ ((i : ℕ) × (i < length cs) × (slice_index cs i ≡ least_from n cs))
+pub least_is : (n : ℕ) (cs : List ℕ)
+    → (least_from n cs ≡ n) ⊎ ((i : ℕ) × (i < length cs) × (slice_index cs i ≡ least_from n cs))
 least_is n [] = inl refl
 least_is n (c ∷ cs) = elim (cases c (least_from n cs)) [
   | inl l ↦ let a : c ≡ min c (least_from n cs) = omega (arith, l) in inr (0, omega arith, a)
@@ -35,7 +38,8 @@ least_is n (c ∷ cs) = elim (cases c (least_from n cs)) [
     cases a b = grind arith
 
 -- a number above one of them does not matter
-pub least_within : (n m : ℕ) (cs : List ℕ) (i : ℕ) → i < length cs → slice_index cs i ≤ n → n ≤ m → least_from m cs ≡ least_from n cs
+pub least_within : (n m : ℕ) (cs : List ℕ) (i : ℕ) → i < length cs → slice_index cs i ≤ n → n ≤ m
+    → least_from m cs ≡ least_from n cs
 least_within n m cs i l low le =
     let top = least_top n cs in
     let up : least_from n cs ≤ least_from m cs = least_greatest m (least_from n cs) cs (omega (arith, top, le)) (λ j k. least_low n cs j k) in
@@ -62,7 +66,8 @@ module _ (n k : ℕ) (cs : List ℕ) (i : ℕ) (l : i < length cs) (more : slice
       least_greatest n (least_from n cs) (slice_set cs i k) (least_top n cs) (λ j m. let a = least_low n cs j (omega (arith, len, m)) in let b = raised_at j in omega (arith, a, b))
 
   -- where one rises that is above the least, this stays
-  pub least_stays : least_from n cs < slice_index cs i → slice_index cs i ≤ n → least_from n (slice_set cs i k) ≡ least_from n cs
+  pub least_stays : least_from n cs < slice_index cs i → slice_index cs i ≤ n
+      → least_from n (slice_set cs i k) ≡ least_from n cs
   least_stays above top =
       let len = length-set cs i k in
       let up = least_up in

@@ -1,5 +1,7 @@
 -- What a step of a link keeps.
-use Rattle.std.proofs.Common.{◌≡◌, ℕ, ◌+◌, ◌-◌, ◌≤◌, suc, zero, max, true, false, cond, nat_eq, nat_lt, List, [], ◌∷◌, ◌++◌, length, drop, take, Option, Some, None, slice_get, MatchOption, refl, ap, sym, subst, ◌∙◌, arith, length-append, length-drop}
+use Rattle.std.proofs.Common.{◌≡◌, ℕ, ◌+◌, ◌-◌, ◌≤◌, suc, zero, max, true, false, cond, nat_eq, nat_lt, List, [], ◌∷◌}
+use Rattle.std.proofs.Common.{◌++◌, length, drop, take, Option, Some, None, slice_get, MatchOption, refl, ap, sym}
+use Rattle.std.proofs.Common.{subst, ◌∙◌, arith, length-append, length-drop}
 use Rattle.std.specs.List.{AllByRecursion}
 use Rattle.std.proofs.lemmas.List.{drop-append-le, take-append-le}
 use Rattle.std.proofs.lemmas.Option.{slice_get_within}
@@ -9,7 +11,8 @@ use Rattle.std.specs.Prelude.{◌&&◌}
 use Rattle.reg_frames.specs.declared.bodies.Body.{Body}
 use Rattle.reg_links.specs.Link.{next_of, with_queued}
 use Rattle.reg_base.specs.declared.limits.TheConstants.{FRAME_NUMBERS}
-use Rattle.reg_links.specs.Laws.{queued, unused, after_all, AcceptsPrefix, Link, IsLink, LinkStep, Put, Resend, Take, Count, after, resent, taken, counted, IsNotAhead}
+use Rattle.reg_links.specs.Laws.{queued, unused, after_all, AcceptsPrefix, Link, IsLink, LinkStep, Put, Resend, Take}
+use Rattle.reg_links.specs.Laws.{Count, after, resent, taken, counted, IsNotAhead}
 
 module _ {X : Type 0} where
   all_push : (P : X → Type 0) (xs : List X) (x : X) → AllByRecursion P xs → P x → AllByRecursion P (xs ++ x ∷ [])
@@ -50,7 +53,9 @@ module _ {X : Type 0} where
   drop_on (suc n) (suc m) [] = let e : suc (n + suc m) ≡ suc n + suc m = omega arith in ap (λ k. drop k []) e
   drop_on (suc n) m (x ∷ xs) = let e : suc (n + m) ≡ suc n + m = omega arith in drop_on n m xs ∙ ap (λ k. drop k (x ∷ xs)) e
 
-put_keeps : (l : Link) (b : Body) → IsLink l → IsLink (record l { queued = l.queued ++ b ∷ []; out = with_queued l.out b; wire = l.wire ++ (next_of l.out, b) ∷ [] })
+put_keeps : (l : Link) (b : Body) → IsLink l
+    → IsLink
+    (record l { queued = l.queued ++ b ∷ []; out = with_queued l.out b; wire = l.wire ++ (next_of l.out, b) ∷ [] })
 put_keeps l b h =
     let first : l.out.first ≤ length l.queued = omega (arith, h.acknowledged, h.within) in
     record {
@@ -135,9 +140,11 @@ step_keeps l (Resend i) h = resend_keeps l i (slice_get l.out.pending i) refl h
 step_keeps l (Take k) h = take_keeps l k (slice_get l.wire k) refl h
 step_keeps l (Count k) h = count_keeps l k (slice_get l.back k) refl h
 
-not_above : (l : Link) (k : ℕ) (o : Option ℕ) → slice_get l.back k ≡ o → IsLink l → MatchOption o (Unit {0}) (λ n. n ≤ next_of l.out)
+not_above : (l : Link) (k : ℕ) (o : Option ℕ) → slice_get l.back k ≡ o → IsLink l
+    → MatchOption o (Unit {0}) (λ n. n ≤ next_of l.out)
 not_above l k None e h = tt
-not_above l k (Some n) e h = let low : n ≤ l.expected = all_at (λ n. n ≤ l.expected) l.back k n h.back e in omega (arith, low, h.within, h.next)
+not_above l k (Some n) e h =
+    let low : n ≤ l.expected = all_at (λ n. n ≤ l.expected) l.back k n h.back e in omega (arith, low, h.within, h.next)
 
 pub step_not_ahead : (l : Link) (s : LinkStep) → IsLink l → IsNotAhead l s
 step_not_ahead l (Put b) h = tt

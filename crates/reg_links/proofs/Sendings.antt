@@ -1,5 +1,7 @@
 -- The links of one process after a body was queued and after a count.
-use Rattle.std.proofs.Common.{◌≡◌, ℕ, zero, suc, ◌+◌, ◌-◌, ◌<◌, ◌≤◌, List, [], ◌∷◌, ◌++◌, length, drop, max, refl, sym, ap, subst, ◌∙◌, inl, inr, arith, length-append, length-drop, length-set, get_or-set_same, get_or-set_other, replicate}
+use Rattle.std.proofs.Common.{◌≡◌, ℕ, zero, suc, ◌+◌, ◌-◌, ◌<◌, ◌≤◌, List, [], ◌∷◌, ◌++◌, length, drop, max, refl, sym}
+use Rattle.std.proofs.Common.{ap, subst, ◌∙◌, inl, inr, arith, length-append, length-drop, length-set, get_or-set_same}
+use Rattle.std.proofs.Common.{get_or-set_other, replicate}
 use Rattle.std.specs.Prelude.{Option, Some, None, slice_index, slice_index_or, slice_set, slice_get, option_map}
 use Rattle.reg_frames.specs.declared.bodies.Frame.{Frame}
 use Rattle.reg_frames.specs.declared.bodies.Frame.TheVariants.{Numbered}
@@ -25,7 +27,8 @@ next_same s good r l =
     let d = length-drop (c - s.first) s.bodies in
     omega (arith, a, b, d)
 
-pub pending_is : (s : Sending) → InStep s → (r : ℕ) → r < length s.counts → next_all s - slice_index s.counts r ≡ length (link_to s r).pending
+pub pending_is : (s : Sending) → InStep s → (r : ℕ) → r < length s.counts
+    → next_all s - slice_index s.counts r ≡ length (link_to s r).pending
 pending_is s good r l = let a = next_same s good r l in omega (arith, a)
 
 -- the i-th body that a process has not acknowledged
@@ -33,15 +36,19 @@ abbrev pub resent : Sending → ℕ → ℕ → Option Frame
 resent s r i = option_map (λ body. Numbered ((link_to s r).first + i) body) (slice_get (link_to s r).pending i)
 
 pub none_resent : (s : Sending) (r i : ℕ) → length (link_to s r).pending ≤ i → None ≡ resent s r i
-none_resent s r i le = sym (ap (option_map (λ body. Numbered ((link_to s r).first + i) body)) (slice_get_past (link_to s r).pending i le))
+none_resent s r i le =
+    sym (ap (option_map (λ body. Numbered ((link_to s r).first + i) body)) (slice_get_past (link_to s r).pending i le))
 
-pub one_resent : (s : Sending) (r i at : ℕ) (body : Body) → at ≡ slice_index s.counts r - s.first + i → at < length s.bodies → body ≡ slice_index_or s.bodies at body → Some (Numbered (slice_index s.counts r + i) body) ≡ resent s r i
+pub one_resent : (s : Sending) (r i at : ℕ) (body : Body) → at ≡ slice_index s.counts r - s.first + i
+    → at < length s.bodies → body ≡ slice_index_or s.bodies at body
+    → Some (Numbered (slice_index s.counts r + i) body) ≡ resent s r i
 one_resent s r i at body e l b =
     let there : slice_get s.bodies at ≡ Some body = slice_get_read s.bodies (length s.bodies) at body refl l b in
     sym (ap (option_map (λ body. Numbered ((link_to s r).first + i) body)) (get_drop (slice_index s.counts r - s.first) s.bodies i ∙ ap (slice_get s.bodies) (sym e) ∙ there))
 
 -- fewer bodies kept are the same link
-kept_less : (s : Sending) (l c : ℕ) → s.first ≤ l → l ≤ c → link_at (record s { first = l; bodies = drop (l - s.first) s.bodies }) c ≡ link_at s c
+kept_less : (s : Sending) (l c : ℕ) → s.first ≤ l → l ≤ c
+    → link_at (record s { first = l; bodies = drop (l - s.first) s.bodies }) c ≡ link_at s c
 kept_less s l c a b =
     let n : (l - s.first) + (c - l) ≡ c - s.first = omega (arith, a, b) in
     ap (λ bs. record { first = c; pending = bs }) (drop_on (l - s.first) (c - l) s.bodies ∙ ap (λ k. drop k s.bodies) n)
@@ -109,10 +116,13 @@ module _ (s : Sending) (good : InStep s) (from n : ℕ) (l : from < length s.cou
       omega (arith, e, b)
 
   -- where the code found the least and the bodies that are left
-  pub moved : (first : ℕ) (bodies : List Body) → first ≡ least_from next counts → bodies ≡ drop (first - s.first) s.bodies → IsCounted s from n (record { first = first; bodies = bodies; counts = counts })
+  pub moved : (first : ℕ) (bodies : List Body) → first ≡ least_from next counts
+      → bodies ≡ drop (first - s.first) s.bodies
+      → IsCounted s from n (record { first = first; bodies = bodies; counts = counts })
   moved first bodies e b = subst (λ (bs : List Body). IsCounted s from n (record { first = first; bodies = bs; counts = counts })) (sym b) (let r = rises in counted first (omega (arith, r, e)) (omega (arith, e)))
 
-  pub moved_good : (first : ℕ) (bodies : List Body) → first ≡ least_from next counts → bodies ≡ drop (first - s.first) s.bodies → InStep (record { first = first; bodies = bodies; counts = counts })
+  pub moved_good : (first : ℕ) (bodies : List Body) → first ≡ least_from next counts
+      → bodies ≡ drop (first - s.first) s.bodies → InStep (record { first = first; bodies = bodies; counts = counts })
   moved_good first bodies e b = subst (λ (bs : List Body). InStep (record { first = first; bodies = bs; counts = counts })) (sym b) (let r = rises in counted_good first (omega (arith, r, e)) e)
 
   all_kept : drop (s.first - s.first) s.bodies ≡ s.bodies

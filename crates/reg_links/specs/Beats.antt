@@ -1,5 +1,6 @@
 -- When frames are put again: a pure function of what was seen of a link. Promises cite it.
-use Rattle.std.specs.Prelude.{ℕ, Bool, false, ◌==◌, ◌&&◌, ◌||◌, ◌+◌, not, Option, Some, None, nat_le, nat_lt, if◌then◌else◌}
+use Rattle.std.specs.Prelude.{ℕ, Bool, false, ◌==◌, ◌&&◌, ◌||◌, ◌+◌, not, Option, Some, None, nat_le, nat_lt}
+use Rattle.std.specs.Prelude.{if◌then◌else◌}
 use Rattle.reg_links.specs.declared.beats.Beat.{Beat}
 
 -- a link that was never looked at
@@ -25,7 +26,8 @@ is_same (Some n) (Some m) = n == m
 -- anew; mail that waits at one of the link's ends leaves what is known as it is.
 abbrev pub watched : Beat → Option ℕ → Bool → Beat
 watched b first mail =
-    if is_same b.first first then (if mail then b else record { first = first; silent = next_look b.silent }) else record { first = first; silent = 0 }
+    if is_same b.first first then (if mail then b else record { first = first; silent = next_look b.silent }) else
+    record { first = first; silent = 0 }
 
 -- whether the look makes a tick
 abbrev pub ticks_at : Beat → Option ℕ → Bool → Bool

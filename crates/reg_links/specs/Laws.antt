@@ -1,5 +1,6 @@
 -- A link: what was queued and accepted, and what stands on the wires, whatever happens to the frames.
-use Rattle.std.specs.Prelude.{ℕ, ◌≡◌, ◌+◌, ◌≤◌, ◌++◌, nat_eq, nat_lt, ◌&&◌, List, [], ◌∷◌, length, drop, take, Option, Some, None, if◌then◌else◌, slice_get, MatchOption, ⊤}
+use Rattle.std.specs.Prelude.{ℕ, ◌≡◌, ◌+◌, ◌≤◌, ◌++◌, nat_eq, nat_lt, ◌&&◌, List, [], ◌∷◌, length, drop, take, Option}
+use Rattle.std.specs.Prelude.{Some, None, if◌then◌else◌, slice_get, MatchOption, ⊤}
 use Rattle.std.specs.List.{AllByRecursion}
 use Rattle.reg_frames.specs.declared.bodies.Body.{Body}
 use Rattle.reg_base.specs.declared.limits.TheConstants.{FRAME_NUMBERS}
@@ -49,7 +50,11 @@ abbrev pub taken : Link → Option (ℕ × Body) → Link
 taken l None = l
 taken l (Some f) =
     if nat_eq f.0 l.expected && nat_lt l.expected FRAME_NUMBERS
-    then record l { expected = l.expected + 1; accepted = l.accepted ++ f.1 ∷ []; back = l.back ++ (l.expected + 1) ∷ [] }
+    then record l {
+      expected = l.expected + 1;
+      accepted = l.accepted ++ f.1 ∷ [];
+      back = l.back ++ (l.expected + 1) ∷ [];
+    }
     else record l { back = l.back ++ l.expected ∷ [] }
 
 abbrev pub counted : Link → Option ℕ → Link
@@ -68,7 +73,8 @@ IsNotAhead l s = ⊤
 
 -- nothing was queued yet
 abbrev pub unused : Link
-unused = record { queued = []; out = record { first = 0; pending = [] }; expected = 0; accepted = []; wire = []; back = [] }
+unused =
+    record { queued = []; out = record { first = 0; pending = [] }; expected = 0; accepted = []; wire = []; back = [] }
 
 abbrev pub after_all : Link → List LinkStep → Link
 after_all l [] = l

@@ -1,5 +1,6 @@
 -- The two ends of a numbered link over a wire that loses, repeats and reorders.
-use Rattle.std.specs.Prelude.{ℕ, ◌+◌, ◌-◌, ◌++◌, nat_eq, List, [], ◌∷◌, length, drop, max, Option, Some, None, if◌then◌else◌}
+use Rattle.std.specs.Prelude.{ℕ, ◌+◌, ◌-◌, ◌++◌, nat_eq, List, [], ◌∷◌, length, drop, max, Option, Some, None}
+use Rattle.std.specs.Prelude.{if◌then◌else◌}
 use Rattle.reg_frames.specs.declared.bodies.Body.{Body}
 use Rattle.reg_links.specs.declared.outboxes.LinkFault.{LinkFault}
 use Rattle.reg_links.specs.declared.outboxes.LinkFault.TheVariants.{NumberFull, OutOfMemory}

@@ -1,5 +1,6 @@
 -- The sending ends of all links of one process, which queue the same bodies.
-use Rattle.std.specs.Prelude.{ℕ, ◌≡◌, ◌+◌, ◌-◌, ◌<◌, nat_eq, List, [], length, drop, Option, Some, None, if◌then◌else◌, slice_index}
+use Rattle.std.specs.Prelude.{ℕ, ◌≡◌, ◌+◌, ◌-◌, ◌<◌, nat_eq, List, [], length, drop, Option, Some, None, if◌then◌else◌}
+use Rattle.std.specs.Prelude.{slice_index}
 use Rattle.reg_frames.specs.declared.bodies.Body.{Body}
 use Rattle.reg_links.specs.Link.{Unacknowledged, with_queued, acknowledged}
 use Rattle.reg_links.specs.declared.outboxes.LinkFault.{LinkFault}

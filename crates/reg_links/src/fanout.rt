@@ -1,5 +1,6 @@
 //! The sending ends of all links of one process.
-ghost use Rattle.std.specs.Prelude.{◌≡◌, ℕ, ◌+◌, ◌-◌, ◌<◌, ◌≤◌, [], length, drop, replicate, None, IfOk, OnOk, OnErr, OkIff, MatchResult, slice_get, option_map};
+ghost use Rattle.std.specs.Prelude.{◌≡◌, ℕ, ◌+◌, ◌-◌, ◌<◌, ◌≤◌, [], length, drop, replicate, None, IfOk, OnOk, OnErr};
+ghost use Rattle.std.specs.Prelude.{OkIff, MatchResult, slice_get, option_map};
 ghost use Rattle.reg_links.specs.Link.{next_of, refusal_of};
 ghost use Rattle.reg_links.specs.Sending.{next_all, link_to, full_fault, IsQueued, IsCounted};
 ghost use Rattle.reg_links.specs.Bounds.{least_from};
@@ -119,7 +120,9 @@ impl<A: Allocator + Copy> Outboxes<A> {
     /// number is left. After a refusal nothing has changed.
     pub fn queue(&mut self, me: u8, body: Body) -> Result<u64, LinkFault>
         requires { me < length self.old.counts }
-        ensures answer { MatchResult result (λ number. (full_fault self.old ≡ None) × IsQueued self.old me body number self.new) (λ fault. (full_fault self.old ≡ refusal_of fault) × (self.new ≡ self.old)) }
+        ensures answer { MatchResult result
+            (λ number. (full_fault self.old ≡ None) × IsQueued self.old me body number self.new)
+            (λ fault. (full_fault self.old ≡ refusal_of fault) × (self.new ≡ self.old)) }
         ensures links { (r : ℕ) → r < length self.old.counts → next_of (link_to self.old r) ≡ next_all self.old }
         ensures processes { length self.new.counts ≡ length self.old.counts }
     {
@@ -185,7 +188,9 @@ impl<A: Allocator + Copy> Outboxes<A> {
     /// The frame of the i-th body that a process has not acknowledged, from 0. None past the last.
     pub fn resend(&self, to: u8, i: u64) -> Option<Frame>
         requires { to < length self.now.counts }
-        ensures { result ≡ option_map (λ body. Numbered ((link_to self.now to).first + i) body) (slice_get (link_to self.now to).pending i) }
+        ensures { result
+            ≡ option_map (λ body. Numbered ((link_to self.now to).first + i) body)
+            (slice_get (link_to self.now to).pending i) }
     {
         let count = self.counts[to as usize];
         let acknowledged = count - self.first;

@@ -1,5 +1,6 @@
 //! The sending end of a link.
-ghost use Rattle.std.specs.Prelude.{◌≡◌, ◌+◌, ◌≤◌, [], length, Some, None, Ok, MatchResult, OkIff, SomeIff, slice_get, is_ok, if◌then◌else◌, option_map};
+ghost use Rattle.std.specs.Prelude.{◌≡◌, ◌+◌, ◌≤◌, [], length, Some, None, Ok, MatchResult, OkIff, SomeIff, slice_get};
+ghost use Rattle.std.specs.Prelude.{is_ok, if◌then◌else◌, option_map};
 ghost use Rattle.reg_links.specs.Link.{next_of, with_queued, acknowledged, queue_fault, refusal_of};
 ghost use Rattle.reg_frames.specs.declared.bodies.Frame.TheVariants.{Numbered};
 
@@ -72,7 +73,10 @@ impl<A: Allocator + Copy> Outbox<A> {
     /// Queues a body under the next number, and gives its frame. `NumberFull` comes exactly where no number is left.
     /// After a refusal nothing has changed.
     pub fn queue(&mut self, body: Body) -> Result<Frame, LinkFault>
-        ensures { MatchResult result (λ frame. (queue_fault self.old ≡ None) × (frame ≡ Numbered (next_of self.old) body) × (self.new ≡ with_queued self.old body)) (λ fault. (queue_fault self.old ≡ refusal_of fault) × (self.new ≡ self.old)) }
+        ensures { MatchResult result
+            (λ frame. (queue_fault self.old ≡ None) × (frame ≡ Numbered (next_of self.old) body)
+            × (self.new ≡ with_queued self.old body))
+            (λ fault. (queue_fault self.old ≡ refusal_of fault) × (self.new ≡ self.old)) }
     {
         let number = self.first + self.bodies.len() as u64;
         if number == FRAME_NUMBERS {

@@ -1,5 +1,6 @@
 -- A look at all links of a station, one after another.
-use Rattle.std.proofs.Common.{◌≡◌, ◌∙◌, ◌<◌, ◌≤◌, ◌+◌, ◌⊎◌, inl, inr, ℕ, Bool, true, false, List, length, min, Option, Some, refl, sym, ap, subst, arith}
+use Rattle.std.proofs.Common.{◌≡◌, ◌∙◌, ◌<◌, ◌≤◌, ◌+◌, ◌⊎◌, inl, inr, ℕ, Bool, true, false, List, length, min, Option}
+use Rattle.std.proofs.Common.{Some, refl, sym, ap, subst, arith}
 use Rattle.std.specs.Prelude.{slice_get, slice_set, ◌||◌}
 use Rattle.std.proofs.lemmas.Bool.{cases_order}
 use Rattle.std.proofs.lemmas.List.{length-set}
@@ -16,7 +17,8 @@ IsCause firsts old = (p : ℕ) × (before : Beat) × (mail : Bool) × (slice_get
 
 -- the links below n were looked at, and the others are as they were
 pub record LookedBelow (firsts : ℕ → Option ℕ) (old now : List Beat) (n : ℕ) (due : Bool) : Type 0 where
-  pub each : (p : ℕ) (before : Beat) → p < n → slice_get old p ≡ Some before → (after : Beat) × (slice_get now p ≡ Some after) × IsLooked (firsts p) before after due
+  pub each : (p : ℕ) (before : Beat) → p < n → slice_get old p ≡ Some before
+      → (after : Beat) × (slice_get now p ≡ Some after) × IsLooked (firsts p) before after due
   pub rest : (p : ℕ) → n ≤ p → slice_get now p ≡ slice_get old p
   pub len : length now ≡ length old
   pub cause : due ≡ true → IsCause firsts old
@@ -37,9 +39,11 @@ same_beat : (a b : Beat) → Some a ≡ Some b → a ≡ b
 same_beat a b e = cc
 
 -- one more link
-pub looked_more : (firsts : ℕ → Option ℕ) (old now : List Beat) (n : ℕ) (due ticks mail : Bool) (b c : Beat) → LookedBelow firsts old now n due → slice_get now n ≡ Some b → c ≡ watched b (firsts n) mail
+pub looked_more : (firsts : ℕ → Option ℕ) (old now : List Beat) (n : ℕ) (due ticks mail : Bool) (b c : Beat)
+    → LookedBelow firsts old now n due → slice_get now n ≡ Some b → c ≡ watched b (firsts n) mail
     → ticks ≡ ticks_at b (firsts n) mail → LookedBelow firsts old (slice_set now n c) (n + 1) (due || ticks)
-looked_more firsts old now n due ticks mail b c so at is tick = record { each = each; rest = rest; len = length-set now n c ∙ so.len; cause = cause }
+looked_more firsts old now n due ticks mail b c so at is tick =
+    record { each = each; rest = rest; len = length-set now n c ∙ so.len; cause = cause }
   where
     within : n < length now
     within = slice_get_within now n b at
@@ -79,13 +83,16 @@ looked_more firsts old now n due ticks mail b c so at is tick = record { each = 
         go (inr now_due) = (n, b, mail, sym (so.rest n (omega arith)) ∙ at, sym tick ∙ now_due)
 
 -- the same, where the first frame is told by another name
-pub looked_next : (firsts : ℕ → Option ℕ) (old now : List Beat) (n : ℕ) (due ticks mail : Bool) (first : Option ℕ) (b c : Beat) → LookedBelow firsts old now n due → first ≡ firsts n → slice_get now n ≡ Some b
+pub looked_next : (firsts : ℕ → Option ℕ) (old now : List Beat) (n : ℕ) (due ticks mail : Bool) (first : Option ℕ)
+    (b c : Beat)
+    → LookedBelow firsts old now n due → first ≡ firsts n → slice_get now n ≡ Some b
     → c ≡ watched b first mail → ticks ≡ ticks_at b first mail → LookedBelow firsts old (slice_set now n c) (n + 1) (due || ticks)
 looked_next firsts old now n due ticks mail first b c so same at is tick =
     looked_more firsts old now n due ticks mail b c so at (is ∙ ap (λ (f : Option ℕ). watched b f mail) same) (tick ∙ ap (λ (f : Option ℕ). ticks_at b f mail) same)
 
 -- all of them
-pub looked_all : (firsts : ℕ → Option ℕ) (old now : List Beat) (n : ℕ) (due : Bool) → LookedBelow firsts old now n due → min (length old) MOST_PROCESSES ≤ n → AreLooked firsts old now due
+pub looked_all : (firsts : ℕ → Option ℕ) (old now : List Beat) (n : ℕ) (due : Bool) → LookedBelow firsts old now n due
+    → min (length old) MOST_PROCESSES ≤ n → AreLooked firsts old now due
 looked_all firsts old now n due so all = record {
   each = λ p before lt at. so.each p before (let l = slice_get_within old p before at in omega arith) at;
   cause = so.cause;

@@ -15,4 +15,6 @@ pub record IsLooked (first : Option ℕ) (old new : Beat) (due : Bool) : Type 0 
 pub record AreLooked (firsts : ℕ → Option ℕ) (old new : List Beat) (due : Bool) : Type 0 where
   pub each : (p : ℕ) (before : Beat) → p < MOST_PROCESSES → slice_get old p ≡ Some before
       → (after : Beat) × (slice_get new p ≡ Some after) × IsLooked (firsts p) before after due
-  pub cause : due ≡ true → (p : ℕ) × (before : Beat) × (mail : Bool) × (slice_get old p ≡ Some before) × (ticks_at before (firsts p) mail ≡ true)
+  pub cause : due ≡ true
+      → (p : ℕ) × (before : Beat) × (mail : Bool) × (slice_get old p ≡ Some before)
+      × (ticks_at before (firsts p) mail ≡ true)

@@ -1,5 +1,6 @@
 -- Stations with the logs of their steps. They carry a proof: no promise speaks of them.
-use Rattle.std.specs.Prelude.{ℕ, ◌≡◌, ◌<◌, ◌≤◌, ◌++◌, ◌==◌, ◌||◌, ◌⊎◌, Bool, true, false, List, [], ◌∷◌, length, Option, Some, None, if◌then◌else◌}
+use Rattle.std.specs.Prelude.{ℕ, ◌≡◌, ◌<◌, ◌≤◌, ◌++◌, ◌==◌, ◌||◌, ◌⊎◌, Bool, true, false, List, [], ◌∷◌, length, Option}
+use Rattle.std.specs.Prelude.{Some, None, if◌then◌else◌}
 use Rattle.reg_base.specs.declared.limits.TheConstants.{MOST_EVENTS}
 use Rattle.reg_base.specs.declared.memory.Op.{Op}
 use Rattle.reg_base.specs.Shape.{Extent}
@@ -18,7 +19,8 @@ use Rattle.reg_records.specs.declared.entries.LogEntry.{LogEntry}
 use Rattle.reg_live.specs.declared.faults.LiveFault.{LiveFault}
 use Rattle.reg_live.specs.declared.faults.LiveFault.TheVariants.{Failed, NoRegister, Behind, OutOfMemory}
 use Rattle.reg_live.specs.declared.journals.AppendFault.{AppendFault}
-use Rattle.reg_live.specs.declared.journals.AppendFault.TheVariants.{Behind as IsBehind, Full as IsFull, OutOfMemory as NoMemory}
+use Rattle.reg_live.specs.declared.journals.AppendFault.TheVariants.{Behind as IsBehind, Full as IsFull}
+use Rattle.reg_live.specs.declared.journals.AppendFault.TheVariants.{OutOfMemory as NoMemory}
 use Rattle.reg_live.specs.declared.operations.Operation.{Operation}
 use Rattle.reg_live.specs.declared.operations.Operation.TheVariants.{Uncalled, Running, Answered}
 use Rattle.reg_live.specs.declared.phases.Phase.{Phase}
@@ -52,7 +54,8 @@ first_of shape me = state_of (first_parts me shape.processes shape.registers)
 -- There is a list of states, one more than the log has entries, that begins with the first state of the process, and in
 -- which each follows from the one before by the step and the reply of the entry between them. Unless the station has
 -- stopped, the last is that of its process.
-pub record IsKept (start : Op → ℕ → Start) (first : State) (log : List LogEntry) (stopped : Bool) (process : Kept) : Type 0 where
+pub record IsKept (start : Op → ℕ → Start) (first : State) (log : List LogEntry) (stopped : Bool)
+    (process : Kept) : Type 0 where
   pub after : List State
   pub follows : Follows start first log after
   pub last : stopped ≡ false → IsGoing process (last_of first after)
@@ -116,7 +119,10 @@ with_entry s e process room = record s { log = s.log ++ e ∷ []; process = proc
 -- what is noted of a section with these frames and this reply, at this place
 abbrev pub noted : Desk → Step → List Put → Option Reply → ℕ → Desk
 noted s e puts reply place =
-    record (in_phase s (after_place s.phase place)) { links = with_puts (with_step s.links e) puts; operation = after_section s.operation e reply place }
+    record (in_phase s (after_place s.phase place)) {
+      links = with_puts (with_step s.links e) puts;
+      operation = after_section s.operation e reply place;
+    }
 
 -- the phase once the caller waits no more: without an answer the station stops
 abbrev pub phase_settled : Phase → Operation → Phase
@@ -136,4 +142,5 @@ MayStop start process e = (process_fault start process e ≡ None) ⊎ (process_
 -- after a section that was refused, its process is as it was, or the station has stopped, as `MayStop` says
 abbrev pub IsLeft : (Op → ℕ → Start) → Desk → Step → Desk → Type 0
 IsLeft start old e new =
-    ((new.phase ≡ old.phase) × (new.process ≡ old.process)) ⊎ ((new.phase ≡ after_stop old.phase) × MayStop start old.process e)
+    ((new.phase ≡ old.phase) × (new.process ≡ old.process))
+    ⊎ ((new.phase ≡ after_stop old.phase) × MayStop start old.process e)

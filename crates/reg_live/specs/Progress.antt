@@ -1,5 +1,6 @@
 -- How far the links of a station have come. They carry a proof: no promise speaks of them.
-use Rattle.std.specs.Prelude.{ℕ, ◌+◌, ◌^◌, ◌-◌, ◌&&◌, min, max, List, [], ◌∷◌, length, Option, Some, None, slice_get, slice_index, slice_set, option_and_then, nat_lt, if◌then◌else◌}
+use Rattle.std.specs.Prelude.{ℕ, ◌+◌, ◌^◌, ◌-◌, ◌&&◌, min, max, List, [], ◌∷◌, length, Option, Some, None, slice_get}
+use Rattle.std.specs.Prelude.{slice_index, slice_set, option_and_then, nat_lt, if◌then◌else◌}
 use Rattle.reg_frames.specs.declared.bodies.Frame.{Frame}
 use Rattle.reg_frames.specs.declared.bodies.Frame.TheVariants.{Numbered, Got}
 use Rattle.reg_process.specs.declared.steps.Step.{Step}
@@ -13,13 +14,15 @@ pub record Reached : Type 0 where
 
 -- the number of the first body that a process hasn't acknowledged, where there is one
 abbrev pub first_unacknowledged : Reached → ℕ → Option ℕ
-first_unacknowledged r process = option_and_then (λ count. if nat_lt count r.queued then Some count else None) (slice_get r.counts process)
+first_unacknowledged r process =
+    option_and_then (λ count. if nat_lt count r.queued then Some count else None) (slice_get r.counts process)
 
 -- the counts after a process says how many bodies it has accepted: a count that isn't above the one before changes
 -- nothing
 abbrev pub raised : List ℕ → ℕ → ℕ → List ℕ
 raised counts process count =
-    if nat_lt process (length counts) && nat_lt (slice_index counts process) count then slice_set counts process count else counts
+    if nat_lt process (length counts) && nat_lt (slice_index counts process) count then slice_set counts process
+    count else counts
 
 abbrev pub after_frame : List ℕ → ℕ → Frame → List ℕ
 after_frame counts from (Got count) = raised counts from count

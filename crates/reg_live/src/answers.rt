@@ -38,7 +38,8 @@ impl<F: FrontEnd, G: Gate + Drop> Pass<F, G> {
     pub fn write<R: Wait>(&mut self, rt: &R, register: u16, value: u64) -> Result<(), LiveFault>
         ensures answered { OnOk result (IsAnswered (Write register value) Done self.old self.new) }
         ensures left { IfErr result (λ fault. IsLeft fault self.old self.new) }
-        ensures refusal { IfErr result (λ fault. IsRefusal self.old.shape.registers 0 (Call (Write register value)) fault) }
+        ensures refusal { IfErr result
+            (λ fault. IsRefusal self.old.shape.registers 0 (Call (Write register value)) fault) }
     {
         self.perform(rt, Op::Write { register, value })?;
         Ok(())
@@ -52,7 +53,8 @@ impl<F: FrontEnd, G: Gate + Drop> Pass<F, G> {
     pub fn swap<R: Wait>(&mut self, rt: &R, register: u16, value: u64) -> Result<u64, LiveFault>
         ensures answered { IfOk result (λ old. IsAnswered (Swap register value) (Value old) self.old self.new) }
         ensures left { IfErr result (λ fault. IsLeft fault self.old self.new) }
-        ensures refusal { IfErr result (λ fault. IsRefusal self.old.shape.registers 0 (Call (Swap register value)) fault) }
+        ensures refusal { IfErr result
+            (λ fault. IsRefusal self.old.shape.registers 0 (Call (Swap register value)) fault) }
     {
         match self.perform(rt, Op::Swap { register, value })?.answer {
             Answer::Value(old) => Ok(old),
@@ -73,9 +75,12 @@ impl<F: FrontEnd, G: Gate + Drop> Pass<F, G> {
         expected: u64,
         value: u64,
     ) -> Result<bool, LiveFault>
-        ensures answered { IfOk result (λ done. IsAnswered (CompareAndSwap register expected value) (if done then Done else Unequal) self.old self.new) }
+        ensures answered { IfOk result
+            (λ done. IsAnswered (CompareAndSwap register expected value) (if done then Done else Unequal) self.old
+            self.new) }
         ensures left { IfErr result (λ fault. IsLeft fault self.old self.new) }
-        ensures refusal { IfErr result (λ fault. IsRefusal self.old.shape.registers 0 (Call (CompareAndSwap register expected value)) fault) }
+        ensures refusal { IfErr result
+            (λ fault. IsRefusal self.old.shape.registers 0 (Call (CompareAndSwap register expected value)) fault) }
     {
         let op = Op::CompareAndSwap {
             register,

@@ -1,6 +1,7 @@
 //! How far the links of a station have come.
 ghost use Rattle.std.specs.Prelude.{◌≡◌, replicate, IfOk};
-ghost use Rattle.reg_live.specs.Progress.{Reached, first_unacknowledged, queued_by, queued_by_all, with_puts, with_step};
+ghost use Rattle.reg_live.specs.Progress.{Reached, first_unacknowledged, queued_by, queued_by_all, with_puts};
+ghost use Rattle.reg_live.specs.Progress.{with_step};
 
 use reg_frames::Frame;
 use reg_process::{Put, Step};

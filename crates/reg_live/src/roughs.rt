@@ -46,7 +46,9 @@ pub(crate) struct Sorted {
 
 /// A copy of a parcel where it is put twice. It is lost where memory is refused.
 fn copy_of(parcel: &Parcel, twice: bool) -> Option<Parcel>
-    ensures same { IfSome result (λ copy. (copy.from ≡ parcel.now.from) × (copy.to ≡ parcel.now.to) × (copy.bytes.items ≡ parcel.now.bytes.items)) }
+    ensures same { IfSome result
+        (λ copy. (copy.from ≡ parcel.now.from) × (copy.to ≡ parcel.now.to)
+        × (copy.bytes.items ≡ parcel.now.bytes.items)) }
     ensures once { twice ≡ false → result ≡ None }
 {
     if !twice {

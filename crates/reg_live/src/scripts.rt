@@ -132,7 +132,9 @@ fn start_callers<
     requires empty { handles.old.items ≡ [] }
     requires passes { AreNew shape passes.items }
     requires each { vec_len scripts ≡ shape.processes }
-    ensures { OnOk result (AreStarted (lists scripts.items) (map (λ h. (h.promise.process, h.promise.script.value.items)) handles.new.items)) }
+    ensures { OnOk result
+        (AreStarted (lists scripts.items)
+        (map (λ h. (h.promise.process, h.promise.script.value.items)) handles.new.items)) }
 {
     let mut passes = passes.into_iter();
     for script in scripts {
@@ -163,7 +165,9 @@ fn join_caller<F: FrontEnd, R: Threads + Wait>(
     process: u8,
     caller: PromisedHandle<Caller<F>, Performs>,
 ) -> Result<(), RunStop>
-    ensures { OnOk result ((told ≡ Ok tt) × IsBack passes.old.items caller.promise.process caller.promise.script.value.items passes.new.items) }
+    ensures { OnOk result
+        ((told ≡ Ok tt)
+        × IsBack passes.old.items caller.promise.process caller.promise.script.value.items passes.new.items) }
 {
     let Caller { pass, fault } = caller.join(rt);
     let pushed = passes.push(pass);
@@ -181,7 +185,10 @@ fn join_callers<F: FrontEnd, R: Threads + Wait>(
     alloc: Global,
     callers: Vec<PromisedHandle<Caller<F>, Performs>>,
 ) -> Result<Vec<Pass<F, NoGate>>, RunStop>
-    ensures { IfOk result (λ passes. (scripts : List (List Op)) → AreStarted scripts (map (λ h. (h.promise.process, h.promise.script.value.items)) callers.items) → ArePerformed scripts passes.items) }
+    ensures { IfOk result
+        (λ passes. (scripts : List (List Op))
+        → AreStarted scripts (map (λ h. (h.promise.process, h.promise.script.value.items)) callers.items)
+        → ArePerformed scripts passes.items) }
 {
     let mut passes = Vec::new(alloc);
     let mut told = Ok(());
@@ -206,7 +213,9 @@ fn close_ended<F: FrontEnd, R: Threads + Wait, W: WireStore<Global>>(
     ensures lived { IfOk result (λ c. IsLived F.start running (lists c.receipts.items) c.world) }
     ensures time { IfOk result (λ c. RespectTime c.world.registers c.world.history (lists c.receipts.items)) }
     ensures updates { IfOk result (λ c. RespectUpdates F.start c.world.history (lists c.receipts.items)) }
-    ensures performed { IfOk result (λ c. (scripts : List (List Op)) → ArePerformed scripts passes.items → map ops_of (lists c.receipts.items) ≡ scripts) }
+    ensures performed { IfOk result
+        (λ c. (scripts : List (List Op)) → ArePerformed scripts passes.items
+        → map ops_of (lists c.receipts.items) ≡ scripts) }
 {
     match running.close_in(rt, alloc, passes) {
         Ok(closed) => Ok(closed),
@@ -238,7 +247,10 @@ fn end<F: FrontEnd, R: Threads + Wait, W: WireStore<Global>>(
     ensures lived { IfOk result (λ c. IsLived F.start running (lists c.receipts.items) c.world) }
     ensures time { IfOk result (λ c. RespectTime c.world.registers c.world.history (lists c.receipts.items)) }
     ensures updates { IfOk result (λ c. RespectUpdates F.start c.world.history (lists c.receipts.items)) }
-    ensures performed { IfOk result (λ c. (scripts : List (List Op)) → AreStarted scripts (map (λ h. (h.promise.process, h.promise.script.value.items)) callers.items) → map ops_of (lists c.receipts.items) ≡ scripts) }
+    ensures performed { IfOk result
+        (λ c. (scripts : List (List Op))
+        → AreStarted scripts (map (λ h. (h.promise.process, h.promise.script.value.items)) callers.items)
+        → map ops_of (lists c.receipts.items) ≡ scripts) }
 {
     let told = join_callers(rt, alloc, callers);
     if !all {

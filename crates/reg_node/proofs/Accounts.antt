@@ -1,5 +1,7 @@
 -- Where and why the reader of a record stops, after its header lines and in a text.
-use Rattle.std.proofs.Common.{ℕ, suc, ◌≡◌, ◌⊎◌, inl, inr, ◌-◌, ◌<◌, ◌≤◌, ◌^◌, false, List, [], ◌∷◌, ◌++◌, length, map, get_or, drop, None, Some, Result, Ok, Err, refl, sym, ap, ◌∙◌, subst, arith, append_assoc, append-nil}
+use Rattle.std.proofs.Common.{ℕ, suc, ◌≡◌, ◌⊎◌, inl, inr, ◌-◌, ◌<◌, ◌≤◌, ◌^◌, false, List, [], ◌∷◌, ◌++◌, length, map}
+use Rattle.std.proofs.Common.{get_or, drop, None, Some, Result, Ok, Err, refl, sym, ap, ◌∙◌, subst, arith, append_assoc}
+use Rattle.std.proofs.Common.{append-nil}
 use Rattle.std.specs.Prelude.{slice_get, IfErr}
 use Rattle.reg_base.specs.Names.{names_fault}
 use Rattle.reg_base.specs.declared.limits.TheConstants.{MOST_PROCESSES, MOST_EVENTS}
@@ -17,7 +19,9 @@ use Rattle.reg_node.specs.Stops.{IsWrongStep, StopsFirst}
 use Rattle.reg_node.proofs.Heads.{first_line, front_line, processes_line, registers_line}
 
 -- after the lines of these steps the next one is that of a step
-find : (f : Recorded → List ℕ) (F : Recorded → Type 0) (line : List ℕ) (more : List (List ℕ)) (before es : List Recorded) → map f es ≡ map f before ++ line ∷ more → ((k : ℕ) (e : Recorded) → slice_get es k ≡ Some e → F e)
+find : (f : Recorded → List ℕ) (F : Recorded → Type 0) (line : List ℕ) (more : List (List ℕ))
+    (before es : List Recorded)
+    → map f es ≡ map f before ++ line ∷ more → ((k : ℕ) (e : Recorded) → slice_get es k ≡ Some e → F e)
     → (e : Recorded) × F e × (line ≡ f e) × (length before < length es)
 find f F line more [] [] same fit = absurd (cc)
 find f F line more [] (e ∷ es) same fit = (e, fit 0 e refl, sym (ap (λ l. get_or l 0 []) same), omega arith)
@@ -31,7 +35,9 @@ abbrev head : Front → ℕ → List (List ℕ) → List (List ℕ)
 head front processes names = first_line ∷ front_line front ∷ processes_line processes ∷ registers_line names ∷ []
 
 -- the header lines of two records that begin alike
-same_head : (old left more : List (List ℕ)) (n m : ℕ) (names others : List (List ℕ)) (front other : Front) (steps : List Recorded) (rest : List (List ℕ)) → old ≡ head_lines front n names left
+same_head : (old left more : List (List ℕ)) (n m : ℕ) (names others : List (List ℕ)) (front other : Front)
+    (steps : List Recorded) (rest : List (List ℕ))
+    → old ≡ head_lines front n names left
     → head_lines other m others (map (recorded_text others) steps) ≡ (head front n names ++ rest) ++ more → old ≡ head_lines other m others left
 same_head old left more n m names others front other steps rest read e =
     read ∙ ap (λ l. first_line ∷ l ∷ processes_line n ∷ registers_line names ∷ left) (sym (ap (λ l. get_or l 1 []) e))
@@ -75,7 +81,8 @@ module _ (old mid new : Rest) (front : Front) (processes : ℕ) (names : List (L
   }
 
 -- the line of the text at which the reader stops
-one_line : (text : List ℕ) (old new : Rest) (f : TextFault) → length text < 2 ^ 64 - 1 → old.left ≡ lines_of text → old.all ≡ lines_of text → old.number ≡ 0 → old.skips ≡ false
+one_line : (text : List ℕ) (old new : Rest) (f : TextFault) → length text < 2 ^ 64 - 1 → old.left ≡ lines_of text
+    → old.all ≡ lines_of text → old.number ≡ 0 → old.skips ≡ false
     → (f ≡ OutOfMemory) ⊎ ((why : Why) × (f ≡ Line new.number why) × StopsFirst old new why) → (f ≡ OutOfMemory) ⊎ ((number : ℕ) × (why : Why) × (f ≡ Line number why) × RefusesAccount number why text)
 one_line text old new f few left all number skips (inl memory) = inl memory
 one_line text old new f few left all number skips (inr (why, is, s)) =
@@ -92,7 +99,8 @@ one_line text old new f few left all number skips (inr (why, is, s)) =
       },
     )
 
-pub text_line : {A : Type 0} (text : List ℕ) (old new : Rest) (r : Result A TextFault) → length text < 2 ^ 64 - 1 → old.left ≡ lines_of text → old.all ≡ lines_of text → old.number ≡ 0 → old.skips ≡ false
+pub text_line : {A : Type 0} (text : List ℕ) (old new : Rest) (r : Result A TextFault) → length text < 2 ^ 64 - 1
+    → old.left ≡ lines_of text → old.all ≡ lines_of text → old.number ≡ 0 → old.skips ≡ false
     → IfErr r (λ f. (f ≡ OutOfMemory) ⊎ ((why : Why) × (f ≡ Line new.number why) × StopsFirst old new why)) → IfErr r (λ f. (f ≡ OutOfMemory) ⊎ ((number : ℕ) × (why : Why) × (f ≡ Line number why) × RefusesAccount number why text))
 text_line text old new (Ok x) few left all number skips s = tt
 text_line text old new (Err f) few left all number skips s = one_line text old new f few left all number skips s

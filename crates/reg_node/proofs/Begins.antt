@@ -1,9 +1,11 @@
 -- Logs at the start of bytes: their heads, and their first entries.
-use Rattle.std.proofs.Common.{ℕ, ◌≡◌, ◌-◌, ◌≤◌, ◌⊎◌, inl, inr, List, [], ◌++◌, length, map, take, drop, refl, sym, ap, ◌∙◌, subst, arith, append_assoc, append-nil, lit≤}
+use Rattle.std.proofs.Common.{ℕ, ◌≡◌, ◌-◌, ◌≤◌, ◌⊎◌, inl, inr, List, [], ◌++◌, length, map, take, drop, refl, sym, ap}
+use Rattle.std.proofs.Common.{◌∙◌, subst, arith, append_assoc, append-nil, lit≤}
 use Rattle.std.proofs.lemmas.List.{length-map, length-take-le, map-append, take-append-drop}
 use Rattle.reg_records.specs.declared.entries.LogEntry.{LogEntry}
 use Rattle.reg_node.specs.declared.transcripts.logs.LogFault.{LogFault}
-use Rattle.reg_node.specs.declared.transcripts.logs.LogFault.TheVariants.{Damaged, Foreign, Line, NoProcess, OutOfMemory}
+use Rattle.reg_node.specs.declared.transcripts.logs.LogFault.TheVariants.{Damaged, Foreign, Line, NoProcess}
+use Rattle.reg_node.specs.declared.transcripts.logs.LogFault.TheVariants.{OutOfMemory}
 use Rattle.reg_node.specs.LogFaults.{IsLogFault, IsNoLog}
 use Rattle.reg_node.specs.LogHeads.{BeginsWith, BeginsWithNone, first_entries, head_of}
 use Rattle.reg_node.specs.LogTexts.{IsJournal, Journal, SpellsLog, log_crc, log_lines, log_text, recorded_by}
@@ -34,13 +36,17 @@ head_good j good = record {
 abbrev lines_of_entries : Journal → List LogEntry → List (List ℕ)
 lines_of_entries j es = map (recorded_text j.names) (map (recorded_by j.id.process) es)
 
-both_entries : (j : Journal) (es more : List LogEntry) → lines_of_entries j (es ++ more) ≡ lines_of_entries j es ++ lines_of_entries j more
+both_entries : (j : Journal) (es more : List LogEntry)
+    → lines_of_entries j (es ++ more) ≡ lines_of_entries j es ++ lines_of_entries j more
 both_entries j es more = ap (map (recorded_text j.names)) (map-append (recorded_by j.id.process) es more) ∙ map-append (recorded_text j.names) (map (recorded_by j.id.process) es) (map (recorded_by j.id.process) more)
 
-parted : (j : Journal) (count : ℕ) → log_lines j ≡ log_lines (head_of j) ++ (lines_of_entries j (take count j.entries) ++ lines_of_entries j (drop count j.entries))
+parted : (j : Journal) (count : ℕ)
+    → log_lines j
+    ≡ log_lines (head_of j) ++ (lines_of_entries j (take count j.entries) ++ lines_of_entries j (drop count j.entries))
 parted j count = ap (λ ls. log_lines (head_of j) ++ ls) (ap (lines_of_entries j) (sym (take-append-drop count j.entries)) ∙ both_entries j (take count j.entries) (drop count j.entries))
 
-counted : (j : Journal) (count : ℕ) → count ≤ length j.entries → length (lines_of_entries j (take count j.entries)) ≡ count
+counted : (j : Journal) (count : ℕ) → count ≤ length j.entries
+    → length (lines_of_entries j (take count j.entries)) ≡ count
 counted j count few =
     length-map (map (recorded_by j.id.process) (take count j.entries)) (recorded_text j.names) ∙ length-map (take count j.entries) (recorded_by j.id.process) ∙ length-take-le count j.entries few
 
@@ -48,14 +54,16 @@ counted j count few =
 module _ (bytes middle rest : List ℕ) (count : ℕ)
     (first : (c : ℕ) (lines : List (List ℕ)) (behind : List ℕ) → AreLines lines → length lines ≡ 9 → bytes ≡ sealed c lines ++ behind → middle ≡ behind)
     (second : (c : ℕ) (lines : List (List ℕ)) (behind : List ℕ) → AreLines lines → length lines ≡ count → middle ≡ sealed c lines ++ behind → rest ≡ behind) where
-  pub first_are : (j : Journal) → IsJournal j → BeginsWith bytes j → count ≤ length j.entries → take (length bytes - length rest) bytes ≡ log_text (first_entries j count)
+  pub first_are : (j : Journal) → IsJournal j → BeginsWith bytes j → count ≤ length j.entries
+      → take (length bytes - length rest) bytes ≡ log_text (first_entries j count)
   first_are j good begins few =
       cut_off first_crc (log_lines (head_of j)) (lines_of_entries j (take count j.entries)) (lines_of_entries j (drop count j.entries)) bytes middle rest begins.0
       (subst AreLines (parted j count) (are_lines j good)) (begins.1 ∙ ap (λ ls. sealed first_crc ls ++ begins.0) (parted j count))
       (λ c lines behind are same is. first c lines behind are same is) (λ c lines behind are same is. second c lines behind are (same ∙ counted j count few) is)
 
 -- a log begins with its head
-pub head_begins : (bytes cut behind tail : List ℕ) (j : Journal) → bytes ≡ cut ++ behind → SpellsLog cut j tail → BeginsWith bytes (head_of j)
+pub head_begins : (bytes cut behind tail : List ℕ) (j : Journal) → bytes ≡ cut ++ behind → SpellsLog cut j tail
+    → BeginsWith bytes (head_of j)
 head_begins bytes cut behind tail j is s =
     let more = sealed (crc_after first_crc (log_lines (head_of j))) (lines_of_entries j j.entries) in (
       more ++ (tail ++ behind),
@@ -64,7 +72,9 @@ head_begins bytes cut behind tail j is s =
     )
 
 -- the head alone is a log with no entries
-pub head_spelled : (bytes cut : List ℕ) → ((j : Journal) → IsJournal j → BeginsWith bytes j → 0 ≤ length j.entries → cut ≡ log_text (first_entries j 0)) → (j : Journal) → IsJournal j → BeginsWith bytes j → SpellsLog cut (head_of j) []
+pub head_spelled : (bytes cut : List ℕ)
+    → ((j : Journal) → IsJournal j → BeginsWith bytes j → 0 ≤ length j.entries → cut ≡ log_text (first_entries j 0))
+    → (j : Journal) → IsJournal j → BeginsWith bytes j → SpellsLog cut (head_of j) []
 head_spelled bytes cut part j good begins = record { all = part j good begins (omega arith) ∙ sym (append-nil (log_text (head_of j))); torn = torn_without_feed (log_crc (head_of j)) [] refl }
 
 module _ (bytes cut : List ℕ) (spelled : (j : Journal) → IsJournal j → BeginsWith bytes j → SpellsLog cut (head_of j) []) where

@@ -1,5 +1,6 @@
 -- A process that did nothing yet, in a run and as a log begins; and no step makes its copy longer or shorter.
-use Rattle.std.proofs.Common.{◌≡◌, ℕ, zero, suc, ◌+◌, List, [], ◌∷◌, length, replicate, None, Some, refl, ap, sym, ◌∙◌, max}
+use Rattle.std.proofs.Common.{◌≡◌, ℕ, zero, suc, ◌+◌, List, [], ◌∷◌, length, replicate, None, Some, refl, ap, sym, ◌∙◌}
+use Rattle.std.proofs.Common.{max}
 use Rattle.std.proofs.lemmas.List.{length-replicate}
 use Rattle.std.specs.Prelude.{◌==◌}
 use Rattle.std.proofs.lemmas.Bool.{cond_both}
@@ -12,11 +13,14 @@ use Rattle.reg_frames.specs.declared.bodies.Body.{Body}
 use Rattle.reg_frames.specs.declared.bodies.Body.TheVariants.{Cast, Ack}
 use Rattle.reg_frames.specs.declared.bodies.Frame.TheVariants.{Numbered, Got}
 use Rattle.reg_front.specs.declared.starts.Start.{Start}
-use Rattle.reg_front.specs.declared.starts.Start.TheVariants.{Cast as Casts, CastAndAnswer as CastsAndAnswers, Look as Looks, Hold as Holds}
+use Rattle.reg_front.specs.declared.starts.Start.TheVariants.{Cast as Casts, CastAndAnswer as CastsAndAnswers}
+use Rattle.reg_front.specs.declared.starts.Start.TheVariants.{Look as Looks, Hold as Holds}
 use Rattle.reg_process.specs.declared.steps.Step.{Step}
 use Rattle.reg_process.specs.declared.steps.Step.TheVariants.{Call, Take, Tick}
 use Rattle.reg_process.specs.Parts.{merged, nothing}
-use Rattle.reg_process.specs.Process.{State, Own, Peer, no_peer, peer_at, step, called, accepts, accepted, cast_at, cast_made, quiet, queues, stamp_at, got_frames, clear_casts, delivered_state, ops_of, unsettled}
+use Rattle.reg_process.specs.Process.{State, Own, Peer, no_peer, peer_at, step, called, accepts, accepted, cast_at}
+use Rattle.reg_process.specs.Process.{cast_made, quiet, queues, stamp_at, got_frames, clear_casts, delivered_state}
+use Rattle.reg_process.specs.Process.{ops_of, unsettled}
 use Rattle.reg_world.specs.Nodes.{empty, first_state as first_of_run}
 use Rattle.reg_records.specs.declared.entries.LogEntry.{LogEntry}
 use Rattle.reg_node.specs.Logs.{first_state, state_after}
@@ -52,9 +56,11 @@ step_copy start s (Take from (Numbered number body)) =
 step_copy start s (Take from (Got count)) = refl
 step_copy start s Tick = refl
 
-log_copy : (start : Op → ℕ → Start) (s : State) (log : List LogEntry) → length (state_after start s log).copy ≡ length s.copy
+log_copy : (start : Op → ℕ → Start) (s : State) (log : List LogEntry)
+    → length (state_after start s log).copy ≡ length s.copy
 log_copy start s [] = refl
 log_copy start s (e ∷ es) = log_copy start (step start s e.step).0 es ∙ step_copy start s e.step
 
-pub copy_length : (start : Op → ℕ → Start) (shape : Extent) (p : ℕ) (log : List LogEntry) → length (state_after start (first_state shape p) log).copy ≡ shape.registers
+pub copy_length : (start : Op → ℕ → Start) (shape : Extent) (p : ℕ) (log : List LogEntry)
+    → length (state_after start (first_state shape p) log).copy ≡ shape.registers
 copy_length start shape p log = log_copy start (first_state shape p) log ∙ length-replicate shape.registers 0

@@ -1,6 +1,7 @@
 -- One thing that happens at one member of a cluster: which entries stay, and that all it handed out goes out of durable
 -- entries.
-use Rattle.std.proofs.Common.{◌≡◌, ◌⊎◌, inl, inr, ℕ, zero, suc, ◌+◌, ◌<◌, ◌≤◌, List, [], ◌∷◌, ◌++◌, length, take, min, max, Some, refl, ap, sym, ◌∙◌, subst, arith, length-append, length-take}
+use Rattle.std.proofs.Common.{◌≡◌, ◌⊎◌, inl, inr, ℕ, zero, suc, ◌+◌, ◌<◌, ◌≤◌, List, [], ◌∷◌, ◌++◌, length, take, min}
+use Rattle.std.proofs.Common.{max, Some, refl, ap, sym, ◌∙◌, subst, arith, length-append, length-take}
 use Rattle.std.specs.Prelude.{slice_get}
 use Rattle.std.proofs.lemmas.Bool.{cases_lt}
 use Rattle.reg_base.specs.declared.memory.Op.{Op}
@@ -15,7 +16,8 @@ use Rattle.reg_node.specs.declared.faults.NodeFault.{NodeFault}
 use Rattle.reg_node.specs.declared.faults.NodeFault.TheVariants.{Full, NoRoom, Refused}
 use Rattle.reg_node.specs.Logs.{Outgoing, outputs_of, output_of, state_after}
 use Rattle.reg_node.specs.Nodes.{NodeState, LogsNothing, Lives, Past, marked}
-use Rattle.reg_node.specs.Clusters.{Member, LogsStep, RefusesStep, MarksDurable, HandsOutNext, CrashesAndOpens, IsNewMember}
+use Rattle.reg_node.specs.Clusters.{Member, LogsStep, RefusesStep, MarksDurable, HandsOutNext, CrashesAndOpens}
+use Rattle.reg_node.specs.Clusters.{IsNewMember}
 use Rattle.reg_node.proofs.Crashing.{got_left, given_at}
 use Rattle.reg_node.proofs.Living.{lives_logs, lives_logs_nothing, lives_marked, lives_gives}
 use Rattle.reg_node.proofs.Steps.{outputs_push, outputs_take}
@@ -44,14 +46,16 @@ got_last : {X : Type 0} (xs : List X) (x : X) → slice_get (xs ++ x ∷ []) (le
 got_last [] x = refl
 got_last (y ∷ ys) x = got_last ys x
 
-got_take : {X : Type 0} (k : ℕ) (xs : List X) (i : ℕ) (x : X) → i < k → slice_get xs i ≡ Some x → slice_get (take k xs) i ≡ Some x
+got_take : {X : Type 0} (k : ℕ) (xs : List X) (i : ℕ) (x : X) → i < k → slice_get xs i ≡ Some x
+    → slice_get (take k xs) i ≡ Some x
 got_take zero xs i x lt h = absurd (omega (arith, lt))
 got_take (suc k) [] i x lt h = absurd (let bad : ⊥ = cc in bad)
 got_take (suc k) (y ∷ ys) zero x lt h = h
 got_take (suc k) (y ∷ ys) (suc i) x lt h = got_take k ys i x (omega (arith, lt)) h
 
 -- a refusal leaves as many entries durable
-nothing_durable : (start : Op → ℕ → Start) (old new : NodeState) (e : Step) (fault : NodeFault) → LogsNothing start old e fault new → new.durable ≡ old.durable
+nothing_durable : (start : Op → ℕ → Start) (old new : NodeState) (e : Step) (fault : NodeFault)
+    → LogsNothing start old e fault new → new.durable ≡ old.durable
 nothing_durable start old new e Full h = ap (λ (n : NodeState). n.durable) h.1
 nothing_durable start old new e NoRoom h = ap (λ (n : NodeState). n.durable) h.1
 nothing_durable start old new e (Refused fault) h = ap (λ (n : NodeState). n.durable) h.2
@@ -107,7 +111,8 @@ module _ (start : Op → ℕ → Start) (first : State) where
     before : now.handed ≡ was.handed → (o : Outgoing) → In o now.handed → In o was.handed ⊎ IsSafe start first now o
     before same o h = inl (subst (λ (os : List Outgoing). In o os) same h)
 
-  pub log_changed : (cluster : List Member) (p : ℕ) (was now : Member) (l : LogsStep start cluster p was now) → Works start first was
+  pub log_changed : (cluster : List Member) (p : ℕ) (was now : Member) (l : LogsStep start cluster p was now)
+      → Works start first was
       → Changed start first (length was.past.log) was now × (length now.past.log ≡ length was.past.log + 1) × (slice_get now.past.log (length was.past.log) ≡ Some l.entry)
   log_changed cluster p was now l works = (
     changed was now works lives (length was.past.log) is (before was now works lives l.handed),
@@ -135,19 +140,22 @@ module _ (start : Op → ℕ → Start) (first : State) where
             durable = omega (arith, same);
           }
 
-  pub refuse_changed : (was now : Member) → RefusesStep start was now → Works start first was → (kept : ℕ) × Changed start first kept was now × (length now.past.log ≡ min kept (length was.past.log))
+  pub refuse_changed : (was now : Member) → RefusesStep start was now → Works start first was
+      → (kept : ℕ) × Changed start first kept was now × (length now.past.log ≡ min kept (length was.past.log))
   refuse_changed was now r works =
       let lives : Lives start first now.past now.node = subst (λ (past : Past). Lives start first past now.node) (sym r.past) (lives_logs_nothing start first was.past was.node now.node r.step r.fault r.refuses works.lives) in
       let same = nothing_durable start was.node now.node r.step r.fault r.refuses in
       same_changed was now works lives (ap (λ (past : Past). past.log) r.past) (omega (arith, same)) (before was now works lives r.handed)
 
-  pub mark_changed : (was now : Member) → MarksDurable was now → Works start first was → (kept : ℕ) × Changed start first kept was now × (length now.past.log ≡ min kept (length was.past.log))
+  pub mark_changed : (was now : Member) → MarksDurable was now → Works start first was
+      → (kept : ℕ) × Changed start first kept was now × (length now.past.log ≡ min kept (length was.past.log))
   mark_changed was now m works =
       let lives : Lives start first now.past now.node = subst (λ (x : Member). Lives start first x.past x.node) (sym m.rest) (lives_marked start first was.past was.node (marked was.node m.count) m.count m.within refl works.lives) in
       let more : now.node.durable ≡ max was.node.durable m.count = ap (λ (x : Member). x.node.durable) m.rest in
       same_changed was now works lives (ap (λ (x : Member). x.past.log) m.rest) (omega (arith, more)) (before was now works lives (ap (λ (x : Member). x.handed) m.rest))
 
-  pub hand_changed : (was now : Member) → HandsOutNext was now → Works start first was → (kept : ℕ) × Changed start first kept was now × (length now.past.log ≡ min kept (length was.past.log))
+  pub hand_changed : (was now : Member) → HandsOutNext was now → Works start first was
+      → (kept : ℕ) × Changed start first kept was now × (length now.past.log ≡ min kept (length was.past.log))
   hand_changed was now h works = same_changed was now works lives (ap (λ (past : Past). past.log) h.past) (let same : now.node.durable ≡ was.node.durable = ap (λ (n : NodeState). n.durable) h.hands_out.rest in omega (arith, same)) handed
     where
       lives : Lives start first now.past now.node
@@ -167,7 +175,8 @@ module _ (start : Op → ℕ → Start) (first : State) where
       handed : (o : Outgoing) → In o now.handed → In o was.handed ⊎ IsSafe start first now o
       handed o there = by o (in_cases o was.handed (h.output ∷ []) (subst (λ (os : List Outgoing). In o os) h.handed there))
 
-  pub crash_changed : (was now : Member) → CrashesAndOpens start first was now → Works start first was → (kept : ℕ) × Changed start first kept was now × (length now.past.log ≡ min kept (length was.past.log))
+  pub crash_changed : (was now : Member) → CrashesAndOpens start first was now → Works start first was
+      → (kept : ℕ) × Changed start first kept was now × (length now.past.log ≡ min kept (length was.past.log))
   crash_changed was now c works = (
     c.kept,
     changed was now works c.lives c.kept is (before was now works c.lives c.handed),

@@ -1,5 +1,6 @@
 -- What holds of all nodes of a cluster, whatever happened: an order of all their entries is supported.
-use Rattle.std.proofs.Common.{◌≡◌, ◌⊎◌, inl, inr, ℕ, zero, suc, ◌+◌, ◌<◌, ◌≤◌, List, [], ◌∷◌, length, min, Option, Some, None, refl, ap, sym, ◌∙◌, subst, arith}
+use Rattle.std.proofs.Common.{◌≡◌, ◌⊎◌, inl, inr, ℕ, zero, suc, ◌+◌, ◌<◌, ◌≤◌, List, [], ◌∷◌, length, min, Option, Some}
+use Rattle.std.proofs.Common.{None, refl, ap, sym, ◌∙◌, subst, arith}
 use Rattle.std.specs.Prelude.{option_and_then, slice_get, slice_set}
 use Rattle.std.specs.List.{sum_by}
 use Rattle.std.specs.Option.{option_map}
@@ -24,17 +25,21 @@ use Rattle.reg_records.specs.Records.{NothingLeft, entry_of, mentions}
 use Rattle.reg_node.specs.Logs.{Outgoing, AreSteps, first_state, outputs_of}
 use Rattle.reg_node.specs.Nodes.{Past}
 use Rattle.reg_node.specs.Clusters.{Member, Comes, HappensTo, IsNewCluster, Happened, logs_of}
-use Rattle.reg_node.proofs.Changes.{Works, Changed, share, log_changed, refuse_changed, mark_changed, hand_changed, crash_changed, new_works}
+use Rattle.reg_node.proofs.Changes.{Works, Changed, share, log_changed, refuse_changed, mark_changed, hand_changed}
+use Rattle.reg_node.proofs.Changes.{crash_changed, new_works}
 use Rattle.reg_node.proofs.Running.{forwards, mentions_forwards, supported_runs}
-use Rattle.reg_node.proofs.Supported.{Share, AreSupported, IsBacked, IsKept, keep_first, mention_yes, mention_no, mentions_kept, supported_kept}
+use Rattle.reg_node.proofs.Supported.{Share, AreSupported, IsBacked, IsKept, keep_first, mention_yes, mention_no}
+use Rattle.reg_node.proofs.Supported.{mentions_kept, supported_kept}
 use Rattle.reg_node.proofs.Totals.{order_length}
 
-got_set_same : {X : Type 0} (xs : List X) (p : ℕ) (x y : X) → slice_get xs p ≡ Some y → slice_get (slice_set xs p x) p ≡ Some x
+got_set_same : {X : Type 0} (xs : List X) (p : ℕ) (x y : X) → slice_get xs p ≡ Some y
+    → slice_get (slice_set xs p x) p ≡ Some x
 got_set_same [] p x y h = absurd (let bad : ⊥ = cc in bad)
 got_set_same (z ∷ xs) zero x y h = refl
 got_set_same (z ∷ xs) (suc p) x y h = got_set_same xs p x y h
 
-got_set_other : {X : Type 0} (xs : List X) (p q : ℕ) (x : X) → (q ≡ p → ⊥) → slice_get (slice_set xs p x) q ≡ slice_get xs q
+got_set_other : {X : Type 0} (xs : List X) (p q : ℕ) (x : X) → (q ≡ p → ⊥)
+    → slice_get (slice_set xs p x) q ≡ slice_get xs q
 got_set_other [] p q x other = refl
 got_set_other (z ∷ xs) zero zero x other = absurd (other refl)
 got_set_other (z ∷ xs) zero (suc q) x other = refl
@@ -278,10 +283,13 @@ module _ (start : Op → ℕ → Start) (shape : Extent) where
         let runs = supported_runs start shape (logs_of cluster) (share_of cluster) entries_are (λ p. outputs_from p (slice_get cluster p)) (λ p. steps_from p (slice_get cluster p) (stays.each p)) stays.order stays.supported (omega (arith, long, few)) in
         (forwards stays.order, runs.0, record { plays = runs.1; all = none_left })
 
-  pub one_run : (k : ℕ) (cluster : List Member) → Happened start shape k cluster → sum_by length (logs_of cluster) ≤ MOST_EVENTS → HasOrder start shape (logs_of cluster)
+  pub one_run : (k : ℕ) (cluster : List Member) → Happened start shape k cluster
+      → sum_by length (logs_of cluster) ≤ MOST_EVENTS → HasOrder start shape (logs_of cluster)
   one_run k cluster happened few = has_order cluster (happened_stays k cluster happened) few
 
-  pub handed_stays : (k : ℕ) (cluster : List Member) → Happened start shape k cluster → (p : ℕ) (m : Member) (o : Outgoing) (x : Put) → slice_get cluster p ≡ Some m → In o m.handed → In x o.frames → In o (outputs_of start (first_state shape p) m.past.log)
+  pub handed_stays : (k : ℕ) (cluster : List Member) → Happened start shape k cluster
+      → (p : ℕ) (m : Member) (o : Outgoing) (x : Put) → slice_get cluster p ≡ Some m → In o m.handed → In x o.frames
+      → In o (outputs_of start (first_state shape p) m.past.log)
   handed_stays k cluster happened p m o x at h f =
       let safe = ((happened_stays k cluster happened).each p m at).handed o x h f in
       place_in (outputs_of start (first_state shape p) m.past.log) safe.place o safe.stands

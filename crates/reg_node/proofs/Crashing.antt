@@ -1,5 +1,6 @@
 -- What outlives a crash.
-use Rattle.std.proofs.Common.{◌≡◌, ℕ, zero, suc, ◌+◌, ◌-◌, ◌<◌, ◌≤◌, List, [], ◌∷◌, length, drop, take, ap, sym, ◌∙◌, subst, arith, inr, refl, ◌++◌, Some}
+use Rattle.std.proofs.Common.{◌≡◌, ℕ, zero, suc, ◌+◌, ◌-◌, ◌<◌, ◌≤◌, List, [], ◌∷◌, length, drop, take, ap, sym, ◌∙◌}
+use Rattle.std.proofs.Common.{subst, arith, inr, refl, ◌++◌, Some}
 use Rattle.std.specs.Prelude.{slice_get}
 use Rattle.std.proofs.lemmas.Option.{slice_get_within}
 use Rattle.std.proofs.Math.Seq.{take-append-add}
@@ -26,7 +27,8 @@ got_left [] ys k x h = absurd (let bad : ⊥ = cc in bad)
 got_left (z ∷ xs) ys zero x h = h
 got_left (z ∷ xs) ys (suc k) x h = got_left xs ys k x h
 
-pub given_at : (start : Op → ℕ → Start) (first : State) (past : Past) (n : NodeState) (k : ℕ) (o : Outgoing) → Lives start first past n → slice_get past.given k ≡ Some o
+pub given_at : (start : Op → ℕ → Start) (first : State) (past : Past) (n : NodeState) (k : ℕ) (o : Outgoing)
+    → Lives start first past n → slice_get past.given k ≡ Some o
     → (past.opened + k < n.durable) × (slice_get (outputs_of start first past.log) (past.opened + k) ≡ Some o)
 given_at start first past n k o is h =
     let within = slice_get_within past.given k o h in
@@ -35,7 +37,8 @@ given_at start first past n k o is h =
       place_drop past.opened (outputs_of start first past.log) (past.opened + k) k o refl there,
     )
 
-pub crash_steps : (start : Op → ℕ → Start) (first : State) (past : Past) (n : NodeState) (kept : ℕ) → Lives start first past n → AreSteps start first (take kept past.log)
+pub crash_steps : (start : Op → ℕ → Start) (first : State) (past : Past) (n : NodeState) (kept : ℕ)
+    → Lives start first past n → AreSteps start first (take kept past.log)
 crash_steps start first past n kept is = steps_take start kept first past.log is.steps
 
 module _ (start : Op → ℕ → Start) (first : State) (past : Past) (n : NodeState) (kept : ℕ) (is : Lives start first past n) where
@@ -55,7 +58,8 @@ module _ (start : Op → ℕ → Start) (first : State) (past : Past) (n : NodeS
   crash_given le = given_of (kept - (past.opened + length past.given)) (let a = is.write_ahead in omega arith)
 
   -- a body that was handed out is one of those that the rest of the log has queued
-  pub crash_bodies : (to number : ℕ) → n.durable ≤ kept → IsGiven past.given to number → number < next_of (peer_at (state_after start first (take kept past.log)) to)
+  pub crash_bodies : (to number : ℕ) → n.durable ≤ kept → IsGiven past.given to number
+      → number < next_of (peer_at (state_after start first (take kept past.log)) to)
   crash_bodies to number le g =
       let from = crash_given le in
       let among : In g.output (drop past.opened (outputs_of start first (take kept past.log))) = subst (λ (xs : List Outgoing). In g.output xs) from.all (in_left g.output past.given from.left g.handed) in

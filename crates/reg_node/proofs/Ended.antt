@@ -1,5 +1,7 @@
 -- Where what was told says that a chapter is over, no process queues another body.
-use Rattle.std.proofs.Common.{◌≡◌, ℕ, zero, suc, ◌+◌, ◌-◌, ◌<◌, ◌≤◌, ◌⊎◌, inl, inr, max, not, ◌&&◌, Bool, true, false, List, [], ◌∷◌, ◌++◌, length, take, drop, Option, Some, None, refl, sym, ap, ◌∙◌, subst, arith, length-append, length-drop}
+use Rattle.std.proofs.Common.{◌≡◌, ℕ, zero, suc, ◌+◌, ◌-◌, ◌<◌, ◌≤◌, ◌⊎◌, inl, inr, max, not, ◌&&◌, Bool, true, false}
+use Rattle.std.proofs.Common.{List, [], ◌∷◌, ◌++◌, length, take, drop, Option, Some, None, refl, sym, ap, ◌∙◌, subst}
+use Rattle.std.proofs.Common.{arith, length-append, length-drop}
 use Rattle.std.specs.Prelude.{cond, slice_get, slice_index_or, slice_set, nat_lt, ◌==◌}
 use Rattle.std.specs.Option.{option_to_list}
 use Rattle.std.proofs.lemmas.List.{nil_from_length, take_all}
@@ -11,12 +13,15 @@ use Rattle.reg_frames.specs.declared.bodies.Body.TheVariants.{Cast, Ack}
 use Rattle.reg_frames.specs.declared.bodies.Frame.{Frame}
 use Rattle.reg_frames.specs.declared.bodies.Frame.TheVariants.{Numbered, Got}
 use Rattle.reg_front.specs.declared.starts.Start.{Start}
-use Rattle.reg_front.specs.declared.starts.Start.TheVariants.{Cast as Casts, CastAndAnswer as CastsAndAnswers, Look as Looks, Hold as Holds}
+use Rattle.reg_front.specs.declared.starts.Start.TheVariants.{Cast as Casts, CastAndAnswer as CastsAndAnswers}
+use Rattle.reg_front.specs.declared.starts.Start.TheVariants.{Look as Looks, Hold as Holds}
 use Rattle.reg_process.specs.declared.steps.Step.{Step}
 use Rattle.reg_process.specs.declared.steps.Step.TheVariants.{Call as CallStep, Take as TakeStep, Tick as TickStep}
 use Rattle.reg_process.specs.declared.events.Event.{Event}
 use Rattle.reg_process.specs.declared.events.Event.TheVariants.{Call, Take, Tick}
-use Rattle.reg_process.specs.Process.{State, Outcome, Peer, no_peer, peer_at, next_of, pending_of, queue_from, accepts, accepted, acknowledged, called, taken, quiet, got_frames, no_frames, step, unsettled}
+use Rattle.reg_process.specs.Process.{State, Outcome, Peer, no_peer, peer_at, next_of, pending_of, queue_from, accepts}
+use Rattle.reg_process.specs.Process.{accepted, acknowledged, called, taken, quiet, got_frames, no_frames, step}
+use Rattle.reg_process.specs.Process.{unsettled}
 use Rattle.reg_world.specs.Nodes.{Node, Nodes, after_step, take_step, step_of}
 use Rattle.reg_world.specs.World.{World, empty_world, happens, moved, move_of, whole}
 use Rattle.reg_world.proofs.lists.Bodies.{place_in, place_within}
@@ -53,12 +58,14 @@ put_on : (b : Bool) (p : Peer) (body : Body) → Rises p (cond b p (record p { p
 put_on true p body = rises_same p
 put_on false p body = record { expected = omega arith; first = omega arith }
 
-queue_rises : (body : Body) (q me : ℕ) (ps : List Peer) (i : ℕ) → Rises (slice_index_or ps i no_peer) (slice_index_or (queue_from q me body ps) i no_peer)
+queue_rises : (body : Body) (q me : ℕ) (ps : List Peer) (i : ℕ)
+    → Rises (slice_index_or ps i no_peer) (slice_index_or (queue_from q me body ps) i no_peer)
 queue_rises body q me [] i = rises_same no_peer
 queue_rises body q me (p ∷ ps) zero = put_on (q == me) p body
 queue_rises body q me (p ∷ ps) (suc i) = queue_rises body (suc q) me ps i
 
-set_rises : (ps : List Peer) (from : ℕ) (p : Peer) (r : ℕ) → Rises (slice_index_or ps from no_peer) p → Rises (slice_index_or ps r no_peer) (slice_index_or (slice_set ps from p) r no_peer)
+set_rises : (ps : List Peer) (from : ℕ) (p : Peer) (r : ℕ) → Rises (slice_index_or ps from no_peer) p
+    → Rises (slice_index_or ps r no_peer) (slice_index_or (slice_set ps from p) r no_peer)
 set_rises [] from p r e = rises_same no_peer
 set_rises (x ∷ xs) zero p zero e = e
 set_rises (x ∷ xs) zero p (suc r) e = rises_same (slice_index_or xs r no_peer)
@@ -106,7 +113,8 @@ grows_on x y z a b = record {
 grows_step : (start : Op → ℕ → Start) (x : Node) (m : Step) → Grows x (after_step start x m)
 grows_step start x m = record { queued = (let e = length-append x.queued (option_to_list (step start x.state m).1.body) in omega (arith, e)); peers = λ r. step_rises x.state r start m }
 
-moved_grows : (start : Op → ℕ → Start) (w : World) (e : Event) (m : Option (ℕ × Step)) (p : ℕ) → Grows (w.nodes p) ((moved start w e m).nodes p)
+moved_grows : (start : Op → ℕ → Start) (w : World) (e : Event) (m : Option (ℕ × Step)) (p : ℕ)
+    → Grows (w.nodes p) ((moved start w e m).nodes p)
 moved_grows start w e None p = grows_same (w.nodes p)
 moved_grows start w e (Some m) p =
     put_cases (λ (z : Node). Grows (w.nodes p) z) w.nodes m.0 (after_step start (w.nodes m.0) m.1) p
@@ -117,10 +125,13 @@ moved_grows start w e (Some m) p =
 abbrev HasAll : ℕ → Nodes → ℕ → Type 0
 HasAll n w p = (r : ℕ) → r < n → (r ≡ p → ⊥) → length (w r).queued ≤ (peer_at (w p).state r).expected
 
-nothing_more : (x : Node) (o : State × Outcome) → o.1.body ≡ None → length (x.queued ++ option_to_list o.1.body) ≤ length x.queued
+nothing_more : (x : Node) (o : State × Outcome) → o.1.body ≡ None
+    → length (x.queued ++ option_to_list o.1.body) ≤ length x.queued
 nothing_more x o none = let e = length-append x.queued (option_to_list o.1.body) in let l = ap (λ b. length (option_to_list b)) none in omega (arith, e, l)
 
-taken_still : (x : Node) (from : ℕ) (frame : Frame) → ((i : ℕ) (b : Body) → frame ≡ Numbered i b → i < (peer_at x.state from).expected) → length (x.queued ++ option_to_list (taken x.state from frame).1.body) ≤ length x.queued
+taken_still : (x : Node) (from : ℕ) (frame : Frame)
+    → ((i : ℕ) (b : Body) → frame ≡ Numbered i b → i < (peer_at x.state from).expected)
+    → length (x.queued ++ option_to_list (taken x.state from frame).1.body) ≤ length x.queued
 taken_still x from (Numbered i body) old =
     cond_both (i == (peer_at x.state from).expected) (accepted x.state from body) (quiet x.state (got_frames from (peer_at x.state from).expected)) (λ (o : State × Outcome). length (x.queued ++ option_to_list o.1.body) ≤ length x.queued)
     (λ e. let is = eqb-true i (peer_at x.state from).expected e in let less = old i body refl in absurd (omega (arith, is, less))) (λ _. nothing_more x (quiet x.state (got_frames from (peer_at x.state from).expected)) refl)
@@ -166,7 +177,9 @@ module _ (start : Op → ℕ → Start) (n registers k : ℕ) (w : World) (I : I
 
 -- One event after the other
 
-next : (es : List Event) (k : ℕ) → (take (suc k) es ≡ take k es) ⊎ ((e : Event) × (slice_get es k ≡ Some e) × (take (suc k) es ≡ take k es ++ e ∷ []))
+next : (es : List Event) (k : ℕ)
+    → (take (suc k) es ≡ take k es)
+    ⊎ ((e : Event) × (slice_get es k ≡ Some e) × (take (suc k) es ≡ take k es ++ e ∷ []))
 next [] zero = inl refl
 next [] (suc k) = inl refl
 next (e ∷ es) zero = inr (e, refl, refl)

@@ -1,5 +1,6 @@
 -- A step with its reply.
-use Rattle.std.proofs.Common.{ℕ, ◌≡◌, List, [], ◌∷◌, ◌++◌, Option, None, Some, refl, sym, ap, ap₂, ◌∙◌, subst, append_assoc}
+use Rattle.std.proofs.Common.{ℕ, ◌≡◌, List, [], ◌∷◌, ◌++◌, Option, None, Some, refl, sym, ap, ap₂, ◌∙◌, subst}
+use Rattle.std.proofs.Common.{append_assoc}
 use Rattle.std.proofs.lemmas.Option.{same_Some}
 use Rattle.reg_base.specs.Names.{names_fault}
 use Rattle.reg_process.specs.declared.steps.Reply.{Reply}
@@ -36,7 +37,9 @@ module _ (names : List (List ℕ)) (text front behind : List ℕ) (spelt : names
   pub answered : EntryFits names entry → text ≡ entry_text names entry → Answered names front behind entry
   answered fits same = of_reply entry.reply refl (clear_step names entry.step spelt fits.0).0 fits.1 same
 
-pub same_entry : (entry : LogEntry) (step : Step) (reply told : Reply) → (let one : Step × Reply = (step, reply) in let other : Step × Reply = (entry.step, told) in Some one ≡ Some other) → entry.reply ≡ Some told → Some (record { step = step; reply = Some reply }) ≡ Some entry
+pub same_entry : (entry : LogEntry) (step : Step) (reply told : Reply)
+    → (let one : Step × Reply = (step, reply) in let other : Step × Reply = (entry.step, told) in Some one ≡ Some other)
+    → entry.reply ≡ Some told → Some (record { step = step; reply = Some reply }) ≡ Some entry
 same_entry entry step reply told both is =
     let same = same_Some (step, reply) (entry.step, told) both in
     let first : step ≡ entry.step = ap (λ (p : Step × Reply). p.0) same in

@@ -1,5 +1,6 @@
 -- A CRC-32 goes on over four bits of zeros at once: by what they make of the lowest four bits of its register.
-use Rattle.std.proofs.Common.{◌≡◌, ℕ, zero, suc, ◌+◌, ◌*◌, ◌/◌, ◌%◌, ◌^◌, ◌<◌, Bool, true, false, List, [], ◌∷◌, slice_index_or, refl, sym, ap, ap₂, ◌∙◌, arith}
+use Rattle.std.proofs.Common.{◌≡◌, ℕ, zero, suc, ◌+◌, ◌*◌, ◌/◌, ◌%◌, ◌^◌, ◌<◌, Bool, true, false, List, [], ◌∷◌}
+use Rattle.std.proofs.Common.{slice_index_or, refl, sym, ap, ap₂, ◌∙◌, arith}
 use Rattle.std.specs.Prelude.{◌==◌, if◌then◌else◌, map}
 use Rattle.std.proofs.lemmas.List.FromFn.{get_or-map-range_with_len}
 use Rattle.std.specs.List.{range_with_len}
@@ -86,7 +87,8 @@ unfolding crc_bit crc_four
 all = refl
 
 of_lowest : (n : ℕ) → n < 16 → slice_index_or fours n 0 ≡ crc_four n
-of_lowest n small = ap (λ xs. slice_index_or xs n 0) all ∙ get_or-map-range_with_len crc_four 0 16 n n 0 small (omega arith)
+of_lowest n small =
+    ap (λ xs. slice_index_or xs n 0) all ∙ get_or-map-range_with_len crc_four 0 16 n n 0 small (omega arith)
 
 pub by_table : (c : ℕ) → bit_xor (c / 16) (slice_index_or fours (c % 16) 0) ≡ crc_four c
 by_table c =

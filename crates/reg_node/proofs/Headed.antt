@@ -1,5 +1,7 @@
 -- What a crash leaves of a log before its head is whole, counted by line feeds.
-use Rattle.std.proofs.Common.{ℕ, ◌≡◌, ◌≢◌, ◌<◌, ◌+◌, ◌==◌, ◌^◌, ◌⊎◌, inl, inr, not, true, List, [], ◌∷◌, ◌++◌, length, Bool, false, cond, refl, sym, ap, ◌∙◌, subst, arith, append_assoc, append-nil, codes, lit<, drop, get_or}
+use Rattle.std.proofs.Common.{ℕ, ◌≡◌, ◌≢◌, ◌<◌, ◌+◌, ◌==◌, ◌^◌, ◌⊎◌, inl, inr, not, true, List, [], ◌∷◌, ◌++◌, length}
+use Rattle.std.proofs.Common.{Bool, false, cond, refl, sym, ap, ◌∙◌, subst, arith, append_assoc, append-nil, codes}
+use Rattle.std.proofs.Common.{lit<, drop, get_or}
 use Rattle.std.specs.List.{list_all}
 use Rattle.std.specs.Fmt.{decimal}
 use Rattle.std.proofs.lemmas.List.Sums.{sum_by-append}
@@ -77,7 +79,8 @@ module _ (id : LogId) (cluster : id.cluster < 2 ^ 64) (process : id.process < 2 
       omega (arith, all, lines, less)
 
 -- two ways to part a list
-parts : (a b x y : List ℕ) → a ++ b ≡ x ++ y → ((u : List ℕ) × (x ≡ a ++ u) × (b ≡ u ++ y)) ⊎ ((u : List ℕ) × (a ≡ x ++ u) × (y ≡ u ++ b))
+parts : (a b x y : List ℕ) → a ++ b ≡ x ++ y
+    → ((u : List ℕ) × (x ≡ a ++ u) × (b ≡ u ++ y)) ⊎ ((u : List ℕ) × (a ≡ x ++ u) × (y ≡ u ++ b))
 parts [] b x y e = inl (x, refl, e)
 parts (d ∷ a) b [] y e = inr (d ∷ a, refl, sym e)
 parts (d ∷ a) b (f ∷ x) y e =
@@ -133,7 +136,8 @@ module _ (id : LogId) (front : Front) (shape : Extent) (names : List (List ℕ))
   five = sym (ap feeds rest_is) ∙ sealed_feeds behind_first (middle ++ last ∷ []) (are_lines (begun_with id front shape names) good).1.1.1.1
 
   -- what a crash can leave of the head has no whole head
-  pub is_left : (part left zeros : List ℕ) → log_text (begun_with id front shape names) ≡ part ++ left → left ≢ [] → list_all (λ b. b == 0) zeros ≡ true → IsHeadless id (part ++ zeros)
+  pub is_left : (part left zeros : List ℕ) → log_text (begun_with id front shape names) ≡ part ++ left → left ≢ []
+      → list_all (λ b. b == 0) zeros ≡ true → IsHeadless id (part ++ zeros)
   is_left part left zeros text some are =
       let by : ((u : List ℕ) × (first_text id ≡ part ++ u) × (left ≡ u ++ (before_feed ++ 10 ∷ []))) ⊎ ((u : List ℕ) × (part ≡ first_text id ++ u) × (before_feed ++ 10 ∷ [] ≡ u ++ left)) → IsHeadless id (part ++ zeros) = elim [
         | inl s ↦ inl (record { part = part; left = s.0; zeros = zeros; all = refl; of_text = s.1; are = are })

@@ -1,5 +1,6 @@
 -- Where and why the reader of the header lines stops.
-use Rattle.std.proofs.Common.{ℕ, ◌≡◌, ◌≢◌, ◌⊎◌, inl, inr, ◌<◌, ◌≤◌, true, false, List, [], ◌∷◌, ◌++◌, length, get_or, drop, codes, Option, None, Some, Result, Err, refl, sym, ap, ◌∙◌, subst, lit<, lit≤}
+use Rattle.std.proofs.Common.{ℕ, ◌≡◌, ◌≢◌, ◌⊎◌, inl, inr, ◌<◌, ◌≤◌, true, false, List, [], ◌∷◌, ◌++◌, length, get_or}
+use Rattle.std.proofs.Common.{drop, codes, Option, None, Some, Result, Err, refl, sym, ap, ◌∙◌, subst, lit<, lit≤}
 use Rattle.std.specs.Fmt.{decimal}
 use Rattle.reg_base.specs.Names.{names_fault}
 use Rattle.reg_base.specs.declared.limits.TheConstants.{MOST_PROCESSES, MOST_REGISTERS}
@@ -22,7 +23,8 @@ use Rattle.reg_inputs.proofs.Heads.{no_memory, same_why}
 abbrev account_of : Front → ℕ → List (List ℕ) → Account
 account_of front processes names = record { front = front; shape = record { processes = processes; registers = length names }; names = names; steps = [] }
 
-is_account : (front : Front) (processes : ℕ) (names : List (List ℕ)) → 0 < processes → processes ≤ MOST_PROCESSES → names_fault names ≡ None → IsAccount (account_of front processes names)
+is_account : (front : Front) (processes : ℕ) (names : List (List ℕ)) → 0 < processes → processes ≤ MOST_PROCESSES
+    → names_fault names ≡ None → IsAccount (account_of front processes names)
 is_account front processes names some few spelt = record {
   names = spelt;
   some_process = some;
@@ -52,7 +54,11 @@ abbrev pub registers_line : List (List ℕ) → List ℕ
 registers_line names = codes "registers" ++ names_text names
 
 -- some record begins with so many header lines
-begun : (front : Front) (processes n : ℕ) (names : List (List ℕ)) → 0 < processes → processes ≤ MOST_PROCESSES → names_fault names ≡ None → (before : List (List ℕ)) → account_lines (account_of front processes names) ≡ before ++ drop n (account_lines (account_of front processes names)) → IsBegun before
+begun : (front : Front) (processes n : ℕ) (names : List (List ℕ)) → 0 < processes → processes ≤ MOST_PROCESSES
+    → names_fault names ≡ None → (before : List (List ℕ))
+    → account_lines (account_of front processes names)
+    ≡ before ++ drop n (account_lines (account_of front processes names))
+    → IsBegun before
 begun front processes n names some few spelt before e = (account_of front processes names, is_account front processes names some few spelt, drop n (account_lines (account_of front processes names)), e)
 
 none_begun : IsBegun []
@@ -64,7 +70,8 @@ one_begun = begun Linear 1 1 one_name (lit< tt) (lit≤ tt) one_is_spelt (first_
 two_begun : (front : Front) → IsBegun (first_line ∷ front_line front ∷ [])
 two_begun front = begun front 1 2 one_name (lit< tt) (lit≤ tt) one_is_spelt (first_line ∷ front_line front ∷ []) refl
 
-three_begun : (front : Front) (processes : ℕ) → 0 < processes → processes ≤ MOST_PROCESSES → IsBegun (first_line ∷ front_line front ∷ processes_line processes ∷ [])
+three_begun : (front : Front) (processes : ℕ) → 0 < processes → processes ≤ MOST_PROCESSES
+    → IsBegun (first_line ∷ front_line front ∷ processes_line processes ∷ [])
 three_begun front processes some few = begun front processes 3 one_name some few one_is_spelt (first_line ∷ front_line front ∷ processes_line processes ∷ []) refl
 
 -- the line that a reader stops at, with the reason
@@ -148,7 +155,8 @@ module _ (n : ℕ) (f : TextFault) (why : Why) (is : f ≡ Line n why) where
     },
   )
 
-  pub fourth_refused : {A : Type 0} (left : List (List ℕ)) (front : Front) (processes : ℕ) → 0 < processes → processes ≤ MOST_PROCESSES
+  pub fourth_refused : {A : Type 0} (left : List (List ℕ)) (front : Front) (processes : ℕ) → 0 < processes
+      → processes ≤ MOST_PROCESSES
       → (left ≡ [] → (let r : Result A TextFault = Err f in r ≡ Err (Line n End)))
       → ((ws : List (List ℕ)) (rest : List (List ℕ)) → AreWords ws → left ≡ registers_line ws ∷ rest → (f ≡ OutOfMemory) ⊎ ((w : Why) × IsNamesWhy MOST_REGISTERS ws w × (f ≡ Line n w)))
       → ((line : List ℕ) (rest : List (List ℕ)) → left ≡ line ∷ rest → ((text : List ℕ) → HasWords text → ¬ (line ≡ codes "registers" ++ text)) → (f ≡ OutOfMemory) ⊎ (f ≡ Line n Form))

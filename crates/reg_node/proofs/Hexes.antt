@@ -1,5 +1,6 @@
 -- Frames, their bytes, and the digits of these.
-use Rattle.std.proofs.Common.{ℕ, zero, suc, ◌≡◌, ◌+◌, ◌*◌, ◌%◌, ◌<◌, ◌⊎◌, inl, inr, List, [], ◌∷◌, ◌++◌, length, Ok, refl, ap, ◌∙◌, arith}
+use Rattle.std.proofs.Common.{ℕ, zero, suc, ◌≡◌, ◌+◌, ◌*◌, ◌%◌, ◌<◌, ◌⊎◌, inl, inr, List, [], ◌∷◌, ◌++◌, length, Ok}
+use Rattle.std.proofs.Common.{refl, ap, ◌∙◌, arith}
 use Rattle.std.specs.Int.{bytes_high_first, byte_at}
 use Rattle.hex.specs.Hex.{IsBytes, decode_sized, lower_digits}
 use Rattle.hex.proofs.HexLemmas.{decode_sized-encode_lower, length-encode_with}
@@ -67,15 +68,20 @@ are_bytes : (frame : Frame) → IsBytes (spelling frame)
 are_bytes frame = joined (bytes_high_first 2 (length (payload frame) + 1)) (version_of frame ∷ payload frame) (high 2 (length (payload frame) + 1)) (one_more (version_of frame) (payload frame) (version_small frame) (of_payload frame))
 
 -- what is read of the digits of a frame
-pub read_back : (frame : Frame) (text : List ℕ) (n : ℕ) → length (spelling frame) ≡ n → text ≡ frame_text frame → decode_sized text n ≡ Ok (spelling frame)
-read_back frame text n long is = ap (λ t. decode_sized t n) is ∙ decode_sized-encode_lower (spelling frame) n long (are_bytes frame)
+pub read_back : (frame : Frame) (text : List ℕ) (n : ℕ) → length (spelling frame) ≡ n → text ≡ frame_text frame
+    → decode_sized text n ≡ Ok (spelling frame)
+read_back frame text n long is =
+    ap (λ t. decode_sized t n) is ∙ decode_sized-encode_lower (spelling frame) n long (are_bytes frame)
 
 -- how many digits a frame has
 pub digits : (frame : Frame) (text : List ℕ) → text ≡ frame_text frame → length text ≡ 2 * length (spelling frame)
 digits frame text is = ap length is ∙ length-encode_with lower_digits (spelling frame)
 
 -- the sizes of frames
-pub sizes : (frame : Frame) → (length (spelling frame) ≡ 12) ⊎ ((length (spelling frame) ≡ 21) ⊎ ((length (spelling frame) ≡ 24) ⊎ ((length (spelling frame) ≡ 32) ⊎ (length (spelling frame) ≡ 40))))
+pub sizes : (frame : Frame)
+    → (length (spelling frame) ≡ 12)
+    ⊎ ((length (spelling frame) ≡ 21)
+    ⊎ ((length (spelling frame) ≡ 24) ⊎ ((length (spelling frame) ≡ 32) ⊎ (length (spelling frame) ≡ 40))))
 sizes (Got count) = inl refl
 sizes (Numbered number (Ack time)) = inr (inl refl)
 sizes (Numbered number (Cast time (Read r))) = inr (inr (inl refl))

@@ -1,5 +1,6 @@
 -- Logs and their lines.
-use Rattle.std.proofs.Common.{ℕ, ◌≡◌, ◌≢◌, ◌<◌, ◌^◌, List, [], ◌∷◌, ◌++◌, length, map, codes, refl, sym, ap, ◌∙◌, subst, arith, append-nil}
+use Rattle.std.proofs.Common.{ℕ, ◌≡◌, ◌≢◌, ◌<◌, ◌^◌, List, [], ◌∷◌, ◌++◌, length, map, codes, refl, sym, ap, ◌∙◌, subst}
+use Rattle.std.proofs.Common.{arith, append-nil}
 use Rattle.std.specs.Fmt.{decimal}
 use Rattle.std.proofs.lemmas.List.{map-append}
 use Rattle.reg_records.specs.declared.entries.LogEntry.{LogEntry}
@@ -8,12 +9,14 @@ use Rattle.reg_text.specs.Parts.{Lacks}
 use Rattle.reg_text.proofs.Joining.{joined, number}
 use Rattle.reg_text.proofs.Split.{AllLack, lines_text, none_left}
 use Rattle.reg_node.specs.declared.transcripts.logs.LogFault.{LogFault}
-use Rattle.reg_node.specs.declared.transcripts.logs.LogFault.TheVariants.{Damaged, Foreign, Line, NoProcess, OutOfMemory}
+use Rattle.reg_node.specs.declared.transcripts.logs.LogFault.TheVariants.{Damaged, Foreign, Line, NoProcess}
+use Rattle.reg_node.specs.declared.transcripts.logs.LogFault.TheVariants.{OutOfMemory}
 use Rattle.reg_node.specs.declared.transcripts.logs.LogId.{LogId}
 use Rattle.reg_node.specs.Headless.{first_lines}
 use Rattle.reg_node.specs.LogFaults.{IsLogFault}
 use Rattle.reg_node.specs.RecordLines.{account_lines, head_lines, recorded_text}
-use Rattle.reg_node.specs.LogTexts.{IsJournal, Journal, SpellsLog, account_of, entry_line, grown_by, id_lines, log_crc, log_lines, log_text, recorded_by}
+use Rattle.reg_node.specs.LogTexts.{IsJournal, Journal, SpellsLog, account_of, entry_line, grown_by, id_lines, log_crc}
+use Rattle.reg_node.specs.LogTexts.{log_lines, log_text, recorded_by}
 use Rattle.reg_node.specs.Seals.{AreLines, IsTorn, crc_after, crc_behind, first_crc, sealed}
 use Rattle.reg_node.specs.Unsealing.{IsUnsealed}
 use Rattle.reg_node.proofs.Sealed.{crc_more, sealed_more, unique}
@@ -31,7 +34,8 @@ counted : (words : List ℕ) (n : ℕ) → Lacks 10 words → n < 2 ^ 64 → Lac
 counted words n h small = joined 10 words (decimal n) h (number n small)
 
 -- no line feed stands in the first lines of a log
-pub are_first : (id : LogId) → id.cluster < 2 ^ 64 → id.process < 2 ^ 64 → id.chapter < 2 ^ 64 → AreLines (first_lines id)
+pub are_first : (id : LogId) → id.cluster < 2 ^ 64 → id.process < 2 ^ 64 → id.chapter < 2 ^ 64
+    → AreLines (first_lines id)
 are_first id cluster process chapter =
     (refl, (counted (codes "cluster ") id.cluster refl cluster, (counted (codes "process ") id.process refl process, (counted (codes "chapter ") id.chapter refl chapter, tt))))
 
@@ -47,7 +51,8 @@ are_lines j good = (
   ),
 )
 
-lines_grow : (j : Journal) (e : LogEntry) → log_lines (grown_by j e) ≡ log_lines j ++ recorded_text j.names (recorded_by j.id.process e) ∷ []
+lines_grow : (j : Journal) (e : LogEntry)
+    → log_lines (grown_by j e) ≡ log_lines j ++ recorded_text j.names (recorded_by j.id.process e) ∷ []
 lines_grow j e =
     ap (λ steps. id_lines j.id (head_lines j.front j.shape.processes j.names (map (recorded_text j.names) steps))) (map-append (recorded_by j.id.process) j.entries (e ∷ []))
     ∙ ap (λ lines. id_lines j.id (head_lines j.front j.shape.processes j.names lines)) (map-append (recorded_text j.names) (map (recorded_by j.id.process) j.entries) (recorded_by j.id.process e ∷ []))
@@ -55,7 +60,8 @@ lines_grow j e =
 pub text_grows : (j : Journal) (e : LogEntry) → log_text (grown_by j e) ≡ log_text j ++ entry_line j e
 text_grows j e = ap (sealed first_crc) (lines_grow j e) ∙ sealed_more first_crc (log_lines j) (recorded_text j.names (recorded_by j.id.process e))
 
-pub crc_grows : (j : Journal) (e : LogEntry) → log_crc (grown_by j e) ≡ crc_behind (log_crc j) (recorded_text j.names (recorded_by j.id.process e))
+pub crc_grows : (j : Journal) (e : LogEntry)
+    → log_crc (grown_by j e) ≡ crc_behind (log_crc j) (recorded_text j.names (recorded_by j.id.process e))
 crc_grows j e = ap (crc_after first_crc) (lines_grow j e) ∙ crc_more first_crc (log_lines j) (recorded_text j.names (recorded_by j.id.process e))
 
 text_lines : (ls : List (List ℕ)) → AreLines ls → lines_of (text_of ls) ≡ ls
@@ -66,7 +72,8 @@ module _ (bytes text : List ℕ) (crc whole : ℕ) (u : IsUnsealed bytes text cr
   found = ap lines_of u.text_is ∙ text_lines u.lines u.are
 
   -- the lines that were found are those of a log, which the bytes spell
-  pub spelled : (j : Journal) → lines_of text ≡ log_lines j → (tail : List ℕ) × SpellsLog bytes j tail × (whole ≡ length (log_text j)) × (crc ≡ log_crc j)
+  pub spelled : (j : Journal) → lines_of text ≡ log_lines j
+      → (tail : List ℕ) × SpellsLog bytes j tail × (whole ≡ length (log_text j)) × (crc ≡ log_crc j)
   spelled j is =
       let same : u.lines ≡ log_lines j = sym found ∙ is in
       let behind : crc ≡ log_crc j = u.crc_is ∙ ap (crc_after first_crc) same in (
@@ -82,7 +89,9 @@ module _ (bytes text : List ℕ) (crc whole : ℕ) (u : IsUnsealed bytes text cr
       found ∙ (unique first_crc u.lines (log_lines j) u.tail tail u.are (are_lines j good) (sym u.read ∙ s.all) (subst (λ (c : ℕ). IsTorn c u.tail) u.crc_is u.torn) s.torn).0
 
   -- why none is read
-  pub no_log : (durable : ℕ) (left : List (List ℕ)) → left ≡ lines_of text → (f : LogFault) → ((j : Journal) → IsJournal j → left ≡ log_lines j → f ≡ OutOfMemory) → ((place : ℕ) → f ≢ Damaged place) → IsLogFault bytes durable f
+  pub no_log : (durable : ℕ) (left : List (List ℕ)) → left ≡ lines_of text → (f : LogFault)
+      → ((j : Journal) → IsJournal j → left ≡ log_lines j → f ≡ OutOfMemory) → ((place : ℕ) → f ≢ Damaged place)
+      → IsLogFault bytes durable f
   no_log durable left is (Line n why) wrong kind = λ j tail good s. let e : Line n why ≡ OutOfMemory = wrong j good (is ∙ lines_are j tail good s) in absurd (cc)
   no_log durable left is NoProcess wrong kind = λ j tail good s. let e : NoProcess ≡ OutOfMemory = wrong j good (is ∙ lines_are j tail good s) in absurd (cc)
   no_log durable left is (Foreign place) wrong kind = λ j tail good s. let e : Foreign place ≡ OutOfMemory = wrong j good (is ∙ lines_are j tail good s) in absurd (cc)

@@ -1,5 +1,6 @@
 -- Sealed lines at the start of bytes, passed one by one.
-use Rattle.std.proofs.Common.{refl, ℕ, ◌≡◌, ◌+◌, ◌-◌, ◌<◌, List, [], ◌∷◌, ◌++◌, length, take, sym, ap, ◌∙◌, subst, arith, append_assoc}
+use Rattle.std.proofs.Common.{refl, ℕ, ◌≡◌, ◌+◌, ◌-◌, ◌<◌, List, [], ◌∷◌, ◌++◌, length, take, sym, ap, ◌∙◌, subst}
+use Rattle.std.proofs.Common.{arith, append_assoc}
 use Rattle.std.proofs.Math.Seq.{take-append_seam}
 use Rattle.std.proofs.lemmas.List.{length-append}
 use Rattle.reg_text.specs.Parts.{Lacks}
@@ -15,10 +16,12 @@ pub record AreLeft (count passed : ℕ) (rest behind : List ℕ) : Type 0 where
   pub counted : length lines + passed ≡ count
   pub is : rest ≡ sealed crc lines ++ behind
 
-first_is : (c : ℕ) (line : List ℕ) (lines : List (List ℕ)) (behind : List ℕ) → sealed c (line ∷ lines) ++ behind ≡ front_of c line ++ 10 ∷ (sealed (crc_behind c line) lines ++ behind)
+first_is : (c : ℕ) (line : List ℕ) (lines : List (List ℕ)) (behind : List ℕ)
+    → sealed c (line ∷ lines) ++ behind ≡ front_of c line ++ 10 ∷ (sealed (crc_behind c line) lines ++ behind)
 first_is c line lines behind = append_assoc (sealed_line c line) (sealed (crc_behind c line) lines) behind ∙ front_is c line (sealed (crc_behind c line) lines ++ behind)
 
-fewer_by : (count passed c : ℕ) (lines : List (List ℕ)) (rest behind after : List ℕ) → passed < count → AreLines lines → length lines + passed ≡ count → rest ≡ sealed c lines ++ behind
+fewer_by : (count passed c : ℕ) (lines : List (List ℕ)) (rest behind after : List ℕ) → passed < count → AreLines lines
+    → length lines + passed ≡ count → rest ≡ sealed c lines ++ behind
     → ((front more : List ℕ) → Lacks 10 front → rest ≡ front ++ 10 ∷ more → after ≡ more) → AreLeft count (passed + 1) after behind
 fewer_by count passed c [] rest behind after less are counted is cut = absurd (omega (arith, less, counted))
 fewer_by count passed c (line ∷ lines) rest behind after less are counted is cut = record {
@@ -30,19 +33,26 @@ fewer_by count passed c (line ∷ lines) rest behind after less are counted is c
 }
 
 -- one more is passed
-pub fewer : (count passed : ℕ) (rest behind after : List ℕ) → passed < count → AreLeft count passed rest behind → ((front more : List ℕ) → Lacks 10 front → rest ≡ front ++ 10 ∷ more → after ≡ more) → AreLeft count (passed + 1) after behind
-fewer count passed rest behind after less left cut = fewer_by count passed left.crc left.lines rest behind after less left.are left.counted left.is cut
+pub fewer : (count passed : ℕ) (rest behind after : List ℕ) → passed < count → AreLeft count passed rest behind
+    → ((front more : List ℕ) → Lacks 10 front → rest ≡ front ++ 10 ∷ more → after ≡ more)
+    → AreLeft count (passed + 1) after behind
+fewer count passed rest behind after less left cut =
+    fewer_by count passed left.crc left.lines rest behind after less left.are left.counted left.is cut
 
-some_by : (count passed c : ℕ) (lines : List (List ℕ)) (rest behind : List ℕ) → passed < count → AreLines lines → length lines + passed ≡ count → rest ≡ sealed c lines ++ behind → ¬ Lacks 10 rest
+some_by : (count passed c : ℕ) (lines : List (List ℕ)) (rest behind : List ℕ) → passed < count → AreLines lines
+    → length lines + passed ≡ count → rest ≡ sealed c lines ++ behind → ¬ Lacks 10 rest
 some_by count passed c [] rest behind less are counted is = λ lacks. omega (arith, less, counted)
 some_by count passed c (line ∷ lines) rest behind less are counted is = λ lacks.
     not_lacking 10 (front_of c line) (sealed (crc_behind c line) lines ++ behind) (subst (λ (l : List ℕ). Lacks 10 l) (is ∙ first_is c line lines behind) lacks)
 
 -- where not all are passed, there is a line feed
-pub some : (count passed : ℕ) (rest behind : List ℕ) → passed < count → AreLeft count passed rest behind → ¬ Lacks 10 rest
-some count passed rest behind less left = some_by count passed left.crc left.lines rest behind less left.are left.counted left.is
+pub some : (count passed : ℕ) (rest behind : List ℕ) → passed < count → AreLeft count passed rest behind
+    → ¬ Lacks 10 rest
+some count passed rest behind less left =
+    some_by count passed left.crc left.lines rest behind less left.are left.counted left.is
 
-none_by : (count passed c : ℕ) (lines : List (List ℕ)) (rest behind : List ℕ) → count ≡ passed → length lines + passed ≡ count → rest ≡ sealed c lines ++ behind → rest ≡ behind
+none_by : (count passed c : ℕ) (lines : List (List ℕ)) (rest behind : List ℕ) → count ≡ passed
+    → length lines + passed ≡ count → rest ≡ sealed c lines ++ behind → rest ≡ behind
 none_by count passed c [] rest behind all counted is = is
 none_by count passed c (line ∷ lines) rest behind all counted is = absurd (omega (arith, all, counted))
 
@@ -84,7 +94,8 @@ module _ (c : ℕ) (head more others : List (List ℕ)) (bytes middle rest behin
   all_is =
       middle_is ∙ ap (λ t. sealed c head ++ t) rest_is ∙ sym (append_assoc (sealed c head) (sealed (crc_after c head) more) tail) ∙ ap (λ t. t ++ tail) (sym (sealed_both c head more))
 
-  pub cut_off : ((d : ℕ) (lines : List (List ℕ)) (after : List ℕ) → AreLines lines → length lines ≡ length head → bytes ≡ sealed d lines ++ after → middle ≡ after)
+  pub cut_off : ((d : ℕ) (lines : List (List ℕ)) (after : List ℕ) → AreLines lines → length lines ≡ length head
+      → bytes ≡ sealed d lines ++ after → middle ≡ after)
       → ((d : ℕ) (lines : List (List ℕ)) (after : List ℕ) → AreLines lines → length lines ≡ length more → middle ≡ sealed d lines ++ after → rest ≡ after)
       → take (length bytes - length rest) bytes ≡ sealed c (head ++ more)
   cut_off first second =

@@ -1,5 +1,7 @@
 -- What a node did, input by input.
-use Rattle.std.proofs.Common.{◌≡◌, ℕ, ◌+◌, ◌-◌, ◌<◌, ◌≤◌, Bool, true, false, List, [], ◌∷◌, ◌++◌, length, drop, refl, ap, sym, ◌∙◌, subst, arith, Option, None, Some, Ok, Err, length-append, length-drop, append_assoc}
+use Rattle.std.proofs.Common.{◌≡◌, ℕ, ◌+◌, ◌-◌, ◌<◌, ◌≤◌, Bool, true, false, List, [], ◌∷◌, ◌++◌, length, drop, refl}
+use Rattle.std.proofs.Common.{ap, sym, ◌∙◌, subst, arith, Option, None, Some, Ok, Err, length-append, length-drop}
+use Rattle.std.proofs.Common.{append_assoc}
 use Rattle.std.specs.Prelude.{cond, max, option_to_list}
 use Rattle.std.proofs.lemmas.List.{drop-append-le}
 use Rattle.std.proofs.Math.ListN.{drop_of_length-le}
@@ -9,7 +11,9 @@ use Rattle.reg_front.specs.declared.starts.Start.{Start}
 use Rattle.reg_process.specs.declared.steps.Reply.{Reply}
 use Rattle.reg_process.specs.declared.steps.Step.{Step}
 use Rattle.reg_process.specs.declared.faults.ProcessFault.{ProcessFault}
-use Rattle.reg_process.specs.declared.faults.ProcessFault.TheVariants.{Failed, NoProcess, Busy, NoRegister, TooManyOperations, Ahead, Stale, ClockFull, OutOfMemory}
+use Rattle.reg_process.specs.declared.faults.ProcessFault.TheVariants.{Failed, NoProcess, Busy, NoRegister}
+use Rattle.reg_process.specs.declared.faults.ProcessFault.TheVariants.{TooManyOperations, Ahead, Stale, ClockFull}
+use Rattle.reg_process.specs.declared.faults.ProcessFault.TheVariants.{OutOfMemory}
 use Rattle.reg_process.specs.Process.{State, step}
 use Rattle.reg_process.specs.Puts.{puts}
 use Rattle.reg_process.specs.Faults.{step_fault}
@@ -30,12 +34,14 @@ fault_none false o h = (refl, h)
 outgoing : List Put → Option Reply → Outgoing
 outgoing fs r = record { frames = fs; reply = r }
 
-outgoing_is : (o : Outgoing) (fs : List Put) (r : Option Reply) → o.frames ≡ fs → o.reply ≡ r → o ≡ record { frames = fs; reply = r }
+outgoing_is : (o : Outgoing) (fs : List Put) (r : Option Reply) → o.frames ≡ fs → o.reply ≡ r
+    → o ≡ record { frames = fs; reply = r }
 unfolding outgoing
 outgoing_is o fs r a b = ap (λ (xs : List Put). outgoing xs o.reply) a ∙ ap (λ (x : Option Reply). outgoing fs x) b
 
 -- a refused process that goes on is as it was
-pub refused_same : (start : Op → ℕ → Start) (old new : Kept) (e : Step) (fault : ProcessFault) → RefusedBy start old e fault new → new.failed ≡ false → new ≡ old
+pub refused_same : (start : Op → ℕ → Start) (old new : Kept) (e : Step) (fault : ProcessFault)
+    → RefusedBy start old e fault new → new.failed ≡ false → new ≡ old
 refused_same start old new e Failed r is = r.1
 refused_same start old new e NoProcess r is = r.1
 refused_same start old new e Busy r is = r.1
@@ -47,7 +53,9 @@ refused_same start old new e ClockFull r is = absurd (let bad : ⊥ = cc in bad)
 refused_same start old new e OutOfMemory r is = absurd (let bad : ⊥ = cc in bad)
 
 -- a node that was just opened with a log
-pub lives_opened : (start : Op → ℕ → Start) (first : State) (log : List LogEntry) (k : Kept) (calls : ℕ) (held : List Outgoing) → calls ≡ calls_in log → held ≡ [] → AreSteps start first log → IsGoing k (state_after start first log)
+pub lives_opened : (start : Op → ℕ → Start) (first : State) (log : List LogEntry) (k : Kept) (calls : ℕ)
+    (held : List Outgoing)
+    → calls ≡ calls_in log → held ≡ [] → AreSteps start first log → IsGoing k (state_after start first log)
     → Lives start first (opened_with log) (record { process = k; logged = length log; calls = calls; durable = length log; held = held })
 lives_opened start first log k calls held counted none steps going =
     let count : length (outputs_of start first log) ≤ length log = let e = outputs_count start first log in omega arith in
@@ -63,7 +71,8 @@ lives_opened start first log k calls held counted none steps going =
 
 module _ (start : Op → ℕ → Start) (first : State) (past : Past) where
   -- a step was made, and is logged
-  pub lives_logs : (old new : NodeState) (e : Step) (entry : LogEntry) → Logs start old e entry new → Lives start first past old → Lives start first (past_logged {E = NodeFault} past (Ok entry)) new
+  pub lives_logs : (old new : NodeState) (e : Step) (entry : LogEntry) → Logs start old e entry new
+      → Lives start first past old → Lives start first (past_logged {E = NodeFault} past (Ok entry)) new
   lives_logs old new e entry l is =
       let none = fault_none old.process.failed (step_fault start old.process.state e) l.made.no_fault in
       let state : old.process.state ≡ state_after start first past.log = is.process none.0 in
@@ -98,7 +107,8 @@ module _ (start : Op → ℕ → Start) (first : State) (past : Past) where
       })
 
   -- a step was refused
-  pub lives_logs_nothing : (old new : NodeState) (e : Step) (fault : NodeFault) → LogsNothing start old e fault new → Lives start first past old → Lives start first (past_logged past (Err fault)) new
+  pub lives_logs_nothing : (old new : NodeState) (e : Step) (fault : NodeFault) → LogsNothing start old e fault new
+      → Lives start first past old → Lives start first (past_logged past (Err fault)) new
   lives_logs_nothing old new e Full l is = subst (λ (n : NodeState). Lives start first past n) (sym l.1) is
   lives_logs_nothing old new e NoRoom l is = subst (λ (n : NodeState). Lives start first past n) (sym l.1) is
   lives_logs_nothing old new e (Refused fault) l is =
@@ -115,7 +125,8 @@ module _ (start : Op → ℕ → Start) (first : State) (past : Past) where
       })
 
   -- the first entries were said to be durable
-  pub lives_marked : (old new : NodeState) (count : ℕ) → count ≤ old.logged → new ≡ record old { durable = max old.durable count } → Lives start first past old → Lives start first past new
+  pub lives_marked : (old new : NodeState) (count : ℕ) → count ≤ old.logged
+      → new ≡ record old { durable = max old.durable count } → Lives start first past old → Lives start first past new
   lives_marked old new count few rest is =
       subst (λ (n : NodeState). Lives start first past n) (sym rest) (record {
         steps = is.steps;
@@ -128,7 +139,9 @@ module _ (start : Op → ℕ → Start) (first : State) (past : Past) where
       })
 
   -- what is held first was handed out, and its entry is durable
-  pub lives_gives : (old new : NodeState) (o : Outgoing) → first_held old < old.durable → old.held ≡ o ∷ new.held → new ≡ record old { held = new.held } → Lives start first past old → Lives start first (past_given past (Some o)) new
+  pub lives_gives : (old new : NodeState) (o : Outgoing) → first_held old < old.durable → old.held ≡ o ∷ new.held
+      → new ≡ record old { held = new.held } → Lives start first past old
+      → Lives start first (past_given past (Some o)) new
   lives_gives old new o due head rest is =
       let outs = outputs_of start first past.log in
       let count : length outs ≡ length past.log = outputs_count start first past.log in
@@ -146,6 +159,8 @@ module _ (start : Op → ℕ → Start) (first : State) (past : Past) where
       })
 
   -- what is held first was taken out
-  pub lives_pops : (old : NodeState) (result : Option Outgoing) (left : List Outgoing) → first_held old < old.durable → old.held ≡ option_to_list result ++ left → Lives start first past old → Lives start first (past_given past result) (record old { held = left })
+  pub lives_pops : (old : NodeState) (result : Option Outgoing) (left : List Outgoing) → first_held old < old.durable
+      → old.held ≡ option_to_list result ++ left → Lives start first past old
+      → Lives start first (past_given past result) (record old { held = left })
   lives_pops old None left due head is = subst (λ (xs : List Outgoing). Lives start first past (record old { held = xs })) head is
   lives_pops old (Some o) left due head is = lives_gives old (record old { held = left }) o due head refl is

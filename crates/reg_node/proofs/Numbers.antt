@@ -1,5 +1,7 @@
 -- The bodies that went out have numbers below the next one.
-use Rattle.std.proofs.Common.{◌≡◌, ℕ, zero, suc, ◌+◌, ◌-◌, ◌<◌, ◌≤◌, Bool, true, false, List, [], ◌∷◌, ◌++◌, length, take, drop, map, Option, None, Some, refl, ap, sym, ◌∙◌, subst, arith, inl, inr, length-append, length-drop, length-set}
+use Rattle.std.proofs.Common.{◌≡◌, ℕ, zero, suc, ◌+◌, ◌-◌, ◌<◌, ◌≤◌, Bool, true, false, List, [], ◌∷◌, ◌++◌, length}
+use Rattle.std.proofs.Common.{take, drop, map, Option, None, Some, refl, ap, sym, ◌∙◌, subst, arith, inl, inr}
+use Rattle.std.proofs.Common.{length-append, length-drop, length-set}
 use Rattle.std.specs.Prelude.{cond, max, slice_index_or, slice_set, nat_lt, nat_le, ◌==◌, ◌||◌}
 use Rattle.std.proofs.lemmas.Bool.{cond_both, ltb-false, eq-eqb}
 use Rattle.std.proofs.lemmas.Option.{slice_get_within}
@@ -13,12 +15,15 @@ use Rattle.reg_frames.specs.declared.bodies.Frame.{Frame}
 use Rattle.reg_frames.specs.declared.bodies.Frame.TheVariants.{Numbered, Got}
 use Rattle.reg_frames.specs.declared.puts.Put.{Put}
 use Rattle.reg_front.specs.declared.starts.Start.{Start}
-use Rattle.reg_front.specs.declared.starts.Start.TheVariants.{Cast as Casts, CastAndAnswer as CastsAndAnswers, Look as Looks, Hold as Holds}
+use Rattle.reg_front.specs.declared.starts.Start.TheVariants.{Cast as Casts, CastAndAnswer as CastsAndAnswers}
+use Rattle.reg_front.specs.declared.starts.Start.TheVariants.{Look as Looks, Hold as Holds}
 use Rattle.reg_process.specs.declared.faults.ProcessFault.{ProcessFault}
 use Rattle.reg_process.specs.declared.faults.ProcessFault.TheVariants.{NoProcess, Ahead}
 use Rattle.reg_process.specs.declared.steps.Step.{Step}
 use Rattle.reg_process.specs.declared.steps.Step.TheVariants.{Call, Take, Tick}
-use Rattle.reg_process.specs.Process.{State, Peer, no_peer, peer_at, next_of, unsettled, queue_from, data_frames, got_frames, accepted, accepts, acknowledged, called, quiet, resent, numbered_from, step}
+use Rattle.reg_process.specs.Process.{State, Peer, no_peer, peer_at, next_of, unsettled, queue_from, data_frames}
+use Rattle.reg_process.specs.Process.{got_frames, accepted, accepts, acknowledged, called, quiet, resent, numbered_from}
+use Rattle.reg_process.specs.Process.{step}
 use Rattle.reg_process.specs.Faults.{step_fault, frame_fault}
 use Rattle.reg_process.specs.Puts.{put_to, puts}
 use Rattle.reg_process.proofs.Peers.{queue_other}
@@ -40,30 +45,35 @@ in_puts frames (suc m) x h = elim (in_cases x (puts frames m) (map (put_to m) (f
 ]
 
 -- queueing a body makes the next number no lower, and for another process one higher
-grown : (b : Bool) (p : Peer) (body : Body) → next_of p ≤ next_of (cond b p (record p { pending = p.pending ++ body ∷ [] }))
+grown : (b : Bool) (p : Peer) (body : Body)
+    → next_of p ≤ next_of (cond b p (record p { pending = p.pending ++ body ∷ [] }))
 grown true p body = omega arith
 grown false p body = let e = length-append p.pending (body ∷ []) in omega arith
 
-queue_grows : (body : Body) (q me : ℕ) (ps : List Peer) (i : ℕ) → next_of (slice_index_or ps i no_peer) ≤ next_of (slice_index_or (queue_from q me body ps) i no_peer)
+queue_grows : (body : Body) (q me : ℕ) (ps : List Peer) (i : ℕ)
+    → next_of (slice_index_or ps i no_peer) ≤ next_of (slice_index_or (queue_from q me body ps) i no_peer)
 queue_grows body q me [] i = omega arith
 queue_grows body q me (p ∷ ps) zero = grown (q == me) p body
 queue_grows body q me (p ∷ ps) (suc i) = queue_grows body (suc q) me ps i
 
-queue_next : (body : Body) (me : ℕ) (ps : List Peer) (i : ℕ) → i < length ps → (i ≡ me → ⊥) → next_of (slice_index_or (queue_from 0 me body ps) i no_peer) ≡ next_of (slice_index_or ps i no_peer) + 1
+queue_next : (body : Body) (me : ℕ) (ps : List Peer) (i : ℕ) → i < length ps → (i ≡ me → ⊥)
+    → next_of (slice_index_or (queue_from 0 me body ps) i no_peer) ≡ next_of (slice_index_or ps i no_peer) + 1
 queue_next body me ps i within other =
     ap next_of (queue_other body 0 me ps i within (λ e. other (let f : i ≡ me = omega arith in f)))
     ∙ (let e = length-append (slice_index_or ps i no_peer).pending (body ∷ []) in
     let f : (slice_index_or ps i no_peer).first + length ((slice_index_or ps i no_peer).pending ++ body ∷ []) ≡ next_of (slice_index_or ps i no_peer) + 1 = omega arith in f)
 
 -- a changed entry with the same next number leaves all of them
-set_next : (ps : List Peer) (from : ℕ) (p : Peer) (r : ℕ) → next_of p ≡ next_of (slice_index_or ps from no_peer) → next_of (slice_index_or (slice_set ps from p) r no_peer) ≡ next_of (slice_index_or ps r no_peer)
+set_next : (ps : List Peer) (from : ℕ) (p : Peer) (r : ℕ) → next_of p ≡ next_of (slice_index_or ps from no_peer)
+    → next_of (slice_index_or (slice_set ps from p) r no_peer) ≡ next_of (slice_index_or ps r no_peer)
 set_next [] from p r e = refl
 set_next (x ∷ xs) zero p zero e = e
 set_next (x ∷ xs) zero p (suc r) e = refl
 set_next (x ∷ xs) (suc from) p zero e = refl
 set_next (x ∷ xs) (suc from) p (suc r) e = set_next xs from p r e
 
-pub none_if : (b : Bool) (x : ProcessFault) (o : Option ProcessFault) → cond b (Some x) o ≡ None → (b ≡ false) × (o ≡ None)
+pub none_if : (b : Bool) (x : ProcessFault) (o : Option ProcessFault) → cond b (Some x) o ≡ None
+    → (b ≡ false) × (o ≡ None)
 none_if true x o h = absurd (let bad : ⊥ = cc in bad)
 none_if false x o h = (refl, h)
 
@@ -161,7 +171,9 @@ module _ (start : Op → ℕ → Start) (r : ℕ) where
       omega arith
 
   -- and a body that went out of one of its steps has a number below the next one after it
-  pub log_queues : (k : ℕ) (b : Body) (o : Outgoing) → In (put_to r (Numbered k b)) o.frames → (s : State) (log : List LogEntry) → AreSteps start s log → In o (outputs_of start s log) → k < next_of (peer_at (state_after start s log) r)
+  pub log_queues : (k : ℕ) (b : Body) (o : Outgoing) → In (put_to r (Numbered k b)) o.frames
+      → (s : State) (log : List LogEntry) → AreSteps start s log → In o (outputs_of start s log)
+      → k < next_of (peer_at (state_after start s log) r)
   log_queues k b o put s [] is h = absurd h
   log_queues k b o put s (e ∷ es) is (inl same) =
       let there : In (put_to r (Numbered k b)) (puts (step start s e.step).1.frames (length s.peers)) = subst (λ (x : Outgoing). In (put_to r (Numbered k b)) x.frames) same put in

@@ -1,5 +1,6 @@
 -- The steps of one process, and the names of a head.
-use Rattle.std.proofs.Common.{ℕ, zero, suc, ◌≡◌, ◌+◌, ◌<◌, ◌≤◌, List, [], ◌∷◌, ◌++◌, length, map, take, drop, get_or, refl, sym, ap, ◌∙◌, arith, append-nil}
+use Rattle.std.proofs.Common.{ℕ, zero, suc, ◌≡◌, ◌+◌, ◌<◌, ◌≤◌, List, [], ◌∷◌, ◌++◌, length, map, take, drop, get_or}
+use Rattle.std.proofs.Common.{refl, sym, ap, ◌∙◌, arith, append-nil}
 use Rattle.std.proofs.lemmas.Grind.{flat_map-append}
 use Rattle.std.proofs.lemmas.List.{map-append, take_more}
 use Rattle.reg_base.specs.Shape.{Extent}
@@ -10,7 +11,9 @@ use Rattle.reg_node.specs.declared.transcripts.logs.LogId.{LogId}
 use Rattle.reg_node.specs.declared.transcripts.recorded.Recorded.{Recorded}
 use Rattle.reg_node.specs.LogTexts.{Journal, recorded_by}
 
-pub owned_more : (p : ℕ) (steps : List Recorded) (k : ℕ) (d : Recorded) (old new : List LogEntry) → k < length steps → take k steps ≡ map (recorded_by p) old → (get_or steps k d).process ≡ p → new ≡ old ++ (get_or steps k d).entry ∷ [] → take (k + 1) steps ≡ map (recorded_by p) new
+pub owned_more : (p : ℕ) (steps : List Recorded) (k : ℕ) (d : Recorded) (old new : List LogEntry) → k < length steps
+    → take k steps ≡ map (recorded_by p) old → (get_or steps k d).process ≡ p
+    → new ≡ old ++ (get_or steps k d).entry ∷ [] → take (k + 1) steps ≡ map (recorded_by p) new
 owned_more p steps k d old new within so_far is grown =
     take_more steps k d within ∙ ap (λ l. l ++ get_or steps k d ∷ []) so_far ∙ ap (λ q. map (recorded_by p) old ++ recorded_by q (get_or steps k d).entry ∷ []) is
     ∙ sym (map-append (recorded_by p) old ((get_or steps k d).entry ∷ [])) ∙ ap (map (recorded_by p)) (sym grown)
@@ -21,11 +24,13 @@ take_all [] (suc k) l = refl
 take_all (s ∷ steps) zero l = absurd (omega (arith, l))
 take_all (s ∷ steps) (suc k) l = ap (λ r. s ∷ r) (take_all steps k (omega (arith, l)))
 
-pub all_owned : (p : ℕ) (steps : List Recorded) (k : ℕ) (es : List LogEntry) → take k steps ≡ map (recorded_by p) es → length steps ≤ k → steps ≡ map (recorded_by p) es
+pub all_owned : (p : ℕ) (steps : List Recorded) (k : ℕ) (es : List LogEntry) → take k steps ≡ map (recorded_by p) es
+    → length steps ≤ k → steps ≡ map (recorded_by p) es
 all_owned p steps k es so_far l = sym (take_all steps k l) ∙ so_far
 
 -- the step at a place is of the process that all are of
-pub process_at : (p : ℕ) (es : List LogEntry) (steps : List Recorded) (k : ℕ) (d : Recorded) → steps ≡ map (recorded_by p) es → k < length steps → (get_or steps k d).process ≡ p
+pub process_at : (p : ℕ) (es : List LogEntry) (steps : List Recorded) (k : ℕ) (d : Recorded)
+    → steps ≡ map (recorded_by p) es → k < length steps → (get_or steps k d).process ≡ p
 process_at p [] [] k d e l = absurd (omega (arith, l))
 process_at p [] (s ∷ steps) k d e l = absurd (cc)
 process_at p (x ∷ es) [] k d e l = absurd (cc)
@@ -37,16 +42,21 @@ entries_of p [] = refl
 entries_of p (e ∷ es) = ap (λ l. e ∷ l) (entries_of p es)
 
 -- one more name
-pub names_more : (names : List (List ℕ)) (i : ℕ) → i < length names → names_text (take (i + 1) names) ≡ names_text (take i names) ++ (32 ∷ get_or names i [])
+pub names_more : (names : List (List ℕ)) (i : ℕ) → i < length names
+    → names_text (take (i + 1) names) ≡ names_text (take i names) ++ (32 ∷ get_or names i [])
 names_more names i l =
     ap names_text (take_more names i [] l) ∙ flat_map-append (λ n. 32 ∷ n) (take i names) (get_or names i [] ∷ []) ∙ ap (λ x. names_text (take i names) ++ x) (append-nil (32 ∷ get_or names i []))
 
-pub same_id : (a b c d : ℕ) (id : LogId) → a ≡ id.cluster → b ≡ id.process → c ≡ id.chapter → d ≡ id.begun → record { cluster = a; process = b; chapter = c; begun = d } ≡ id
+pub same_id : (a b c d : ℕ) (id : LogId) → a ≡ id.cluster → b ≡ id.process → c ≡ id.chapter → d ≡ id.begun
+    → record { cluster = a; process = b; chapter = c; begun = d } ≡ id
 same_id a b c d id e f g h =
     ap (λ x. record { cluster = x; process = b; chapter = c; begun = d }) e ∙ ap (λ x. record { cluster = id.cluster; process = x; chapter = c; begun = d }) f
     ∙ ap (λ x. record { cluster = id.cluster; process = id.process; chapter = x; begun = d }) g ∙ ap (λ x. record { cluster = id.cluster; process = id.process; chapter = id.chapter; begun = x }) h
 
-pub same_journal : (id : LogId) (front : Front) (shape : Extent) (names : List (List ℕ)) (es : List LogEntry) (j : Journal) → id ≡ j.id → front ≡ j.front → shape ≡ j.shape → names ≡ j.names → es ≡ j.entries → record { id = id; front = front; shape = shape; names = names; entries = es } ≡ j
+pub same_journal : (id : LogId) (front : Front) (shape : Extent) (names : List (List ℕ)) (es : List LogEntry)
+    (j : Journal)
+    → id ≡ j.id → front ≡ j.front → shape ≡ j.shape → names ≡ j.names → es ≡ j.entries
+    → record { id = id; front = front; shape = shape; names = names; entries = es } ≡ j
 same_journal id front shape names es j a b c d e =
     ap (λ x. record { id = x; front = front; shape = shape; names = names; entries = es }) a ∙ ap (λ x. record { id = j.id; front = x; shape = shape; names = names; entries = es }) b
     ∙ ap (λ x. record { id = j.id; front = j.front; shape = x; names = names; entries = es }) c ∙ ap (λ x. record { id = j.id; front = j.front; shape = j.shape; names = x; entries = es }) d

@@ -1,5 +1,6 @@
 -- A log made again, entry by entry.
-use Rattle.std.proofs.Common.{◌≡◌, ℕ, ◌+◌, ◌<◌, ◌≤◌, Bool, true, false, IsTrue, List, [], ◌∷◌, ◌++◌, length, take, Option, None, Some, refl, ap, sym, ◌∙◌, subst}
+use Rattle.std.proofs.Common.{◌≡◌, ℕ, ◌+◌, ◌<◌, ◌≤◌, Bool, true, false, IsTrue, List, [], ◌∷◌, ◌++◌, length, take}
+use Rattle.std.proofs.Common.{Option, None, Some, refl, ap, sym, ◌∙◌, subst}
 use Rattle.std.specs.Prelude.{cond, slice_get}
 use Rattle.std.proofs.lemmas.List.{take_more, take_all}
 use Rattle.std.proofs.lemmas.Option.{get_or_from_slice_get}
@@ -11,7 +12,9 @@ use Rattle.reg_front.specs.declared.starts.Start.{Start}
 use Rattle.reg_process.specs.declared.steps.Reply.{Reply}
 use Rattle.reg_process.specs.declared.steps.Step.{Step}
 use Rattle.reg_process.specs.declared.faults.ProcessFault.{ProcessFault}
-use Rattle.reg_process.specs.declared.faults.ProcessFault.TheVariants.{Failed, NoProcess, Busy, NoRegister, TooManyOperations, Ahead, Stale, ClockFull, OutOfMemory}
+use Rattle.reg_process.specs.declared.faults.ProcessFault.TheVariants.{Failed, NoProcess, Busy, NoRegister}
+use Rattle.reg_process.specs.declared.faults.ProcessFault.TheVariants.{TooManyOperations, Ahead, Stale, ClockFull}
+use Rattle.reg_process.specs.declared.faults.ProcessFault.TheVariants.{OutOfMemory}
 use Rattle.reg_process.specs.Process.{State, step}
 use Rattle.reg_process.specs.Faults.{step_fault}
 use Rattle.reg_process.specs.Events.{Kept, IsGoing, Steps, Refused, process_fault}
@@ -27,7 +30,9 @@ module _ (start : Op → ℕ → Start) where
   fault_is old e o going is = subst (λ (b : Bool). cond b (Some Failed) (step_fault start old.state e) ≡ o) going is
 
   -- an accepted step, and whether its reply is the entry's
-  pub remakes_made : (old new : Kept) (entry : LogEntry) (frames : List Put) (cast : Option Stamp) (delivered : List Delivered) (reply : Option Reply) (same : Bool) → old.failed ≡ false
+  pub remakes_made : (old new : Kept) (entry : LogEntry) (frames : List Put) (cast : Option Stamp)
+      (delivered : List Delivered) (reply : Option Reply) (same : Bool)
+      → old.failed ≡ false
       → Steps start old entry.step frames cast delivered reply new → ((IsTrue same → reply ≡ entry.reply) × (reply ≡ entry.reply → IsTrue same)) → Remakes start old entry same new
   remakes_made old new entry frames cast delivered reply true going is tells = (
     record { accepted = fault_is old entry.step None going is.no_fault; reply = sym (tells.0 refl) ∙ is.outcome.answer },
@@ -48,7 +53,8 @@ module _ (start : Op → ℕ → Start) where
   refused_fault old new e ClockFull h off = h.0
   refused_fault old new e OutOfMemory h off = absurd (off refl)
 
-  pub remakes_refused : (old new : Kept) (entry : LogEntry) (fault : ProcessFault) → old.failed ≡ false → Refused start old entry.step fault new → (fault ≡ OutOfMemory → ⊥) → Remakes start old entry false new
+  pub remakes_refused : (old new : Kept) (entry : LogEntry) (fault : ProcessFault) → old.failed ≡ false
+      → Refused start old entry.step fault new → (fault ≡ OutOfMemory → ⊥) → Remakes start old entry false new
   remakes_refused old new entry fault going is off =
       λ made.
       let some : step_fault start old.state entry.step ≡ Some fault = fault_is old entry.step (Some fault) going (refused_fault old new entry.step fault is off) in
@@ -79,5 +85,6 @@ module _ (start : Op → ℕ → Start) where
     }
 
   -- all of them are
-  pub replayed_all : (first : State) (log : List LogEntry) (place : ℕ) (now : Kept) → length log ≤ place → IsReplayed start first log place now → AreSteps start first log × IsGoing now (state_after start first log)
+  pub replayed_all : (first : State) (log : List LogEntry) (place : ℕ) (now : Kept) → length log ≤ place
+      → IsReplayed start first log place now → AreSteps start first log × IsGoing now (state_after start first log)
   replayed_all first log place now all is = subst (λ (es : List LogEntry). AreSteps start first es × IsGoing now (state_after start first es)) (take_all place log all) (is.steps, is.going)

@@ -1,5 +1,6 @@
 -- A supported order of all nodes' entries is a run.
-use Rattle.std.proofs.Common.{◌≡◌, ℕ, zero, suc, ◌+◌, ◌<◌, ◌≤◌, Bool, true, false, not, List, [], ◌∷◌, ◌++◌, length, take, Option, Some, None, refl, ap, sym, ◌∙◌, subst, arith, length-append}
+use Rattle.std.proofs.Common.{◌≡◌, ℕ, zero, suc, ◌+◌, ◌<◌, ◌≤◌, Bool, true, false, not, List, [], ◌∷◌, ◌++◌, length}
+use Rattle.std.proofs.Common.{take, Option, Some, None, refl, ap, sym, ◌∙◌, subst, arith, length-append}
 use Rattle.std.specs.Prelude.{cond, ◌==◌, ◌&&◌, ◌||◌, nat_lt, nat_le, slice_get}
 use Rattle.std.specs.Option.{is_some}
 use Rattle.std.proofs.Math.Seq.{take-length}
@@ -73,7 +74,9 @@ take_push (y ∷ ys) zero x h = ap (λ z. z ∷ []) (same_Some y x h)
 take_push (y ∷ ys) (suc k) x h = ap (λ l. y ∷ l) (take_push ys k x h)
 
 -- what goes out of the entry at a place
-outputs_at : (start : Op → ℕ → Start) (s : State) (log : List LogEntry) (k : ℕ) (e : LogEntry) → slice_get log k ≡ Some e → slice_get (outputs_of start s log) k ≡ Some (output_of start (state_after start s (take k log)) e.step)
+outputs_at : (start : Op → ℕ → Start) (s : State) (log : List LogEntry) (k : ℕ) (e : LogEntry)
+    → slice_get log k ≡ Some e
+    → slice_get (outputs_of start s log) k ≡ Some (output_of start (state_after start s (take k log)) e.step)
 outputs_at start s [] k e h = absurd (let bad : ⊥ = cc in bad)
 outputs_at start s (x ∷ xs) zero e h = ap (λ (y : LogEntry). Some (output_of start s y.step)) (same_Some x e h)
 outputs_at start s (x ∷ xs) (suc k) e h = outputs_at start (step start s x.step).0 xs k e h
@@ -110,7 +113,8 @@ may_call start s op none = by s.running refl
           few = leb-false MOST_OPERATIONS s.calls b.0;
         }
 
-call_tests : {X : Type 0} (a b c d : Bool) (o : Option X) → a ≡ true → b ≡ false → c ≡ true → d ≡ true → cond (a && (not b && (c && d))) o None ≡ o
+call_tests : {X : Type 0} (a b c d : Bool) (o : Option X) → a ≡ true → b ≡ false → c ≡ true → d ≡ true
+    → cond (a && (not b && (c && d))) o None ≡ o
 call_tests a b c d o e f g h = rw (e, f, g, h) refl
 
 -- an order of the logs of a cluster, and what is known of them
@@ -235,7 +239,8 @@ module _ (start : Op → ℕ → Start) (shape : Extent) (logs : List (List LogE
         (with_event start w x.0, subst (λ (z : Extent). IsRun start z logs (forwards older ++ p ∷ []) (with_event start w x.0)) same more)
 
   -- so each supported order that isn't too long is a run
-  pub supported_runs : (xs : List ℕ) → AreSupported shape.processes shares xs → length xs ≤ MOST_EVENTS → (w : Made) × IsRun start shape logs (forwards xs) w
+  pub supported_runs : (xs : List ℕ) → AreSupported shape.processes shares xs → length xs ≤ MOST_EVENTS
+      → (w : Made) × IsRun start shape logs (forwards xs) w
   supported_runs [] s few = (new_world shape, refl)
   supported_runs (p ∷ older) s few =
       let before = supported_runs older s.2 (omega (arith, few)) in

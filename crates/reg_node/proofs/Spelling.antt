@@ -14,7 +14,8 @@ use Rattle.reg_node.specs.declared.faults.LoggedFault.{LoggedFault}
 use Rattle.reg_node.specs.declared.faults.LoggedFault.TheVariants.{Stopped, Unspelled, OfMeeting}
 use Rattle.reg_node.specs.declared.faults.MeetingFault.{MeetingFault}
 use Rattle.reg_node.specs.declared.faults.MeetingFault.TheVariants.{LogLost, Unheard, OfNode}
-use Rattle.reg_node.specs.Logged.{IsSpelled, IsSpelledOn, LoggedHandsOut, LoggedState, SpellsEntry, SpellsNothing, Writes, WritesNothing, past_with, text_by}
+use Rattle.reg_node.specs.Logged.{IsSpelled, IsSpelledOn, LoggedHandsOut, LoggedState, SpellsEntry, SpellsNothing}
+use Rattle.reg_node.specs.Logged.{Writes, WritesNothing, past_with, text_by}
 use Rattle.reg_node.specs.Meetings.{MeetingLogs, MeetingLogsNothing, MeetingState}
 use Rattle.reg_node.specs.Logs.{Outgoing}
 use Rattle.reg_node.specs.Nodes.{Lives, Past, past_given}
@@ -22,7 +23,8 @@ use Rattle.reg_node.proofs.Living.{lives_gives, lives_logs, lives_logs_nothing}
 
 module _ (start : Op → ℕ → Start) (first : State) (j : Journal) (past : Past) where
   -- an entry was made, and spelled
-  pub spelled_on : (old new : LoggedState) (e : Step) (bytes : List ℕ) → Writes start old e bytes new → IsSpelled start first j past old → IsSpelledOn start first j past bytes new
+  pub spelled_on : (old new : LoggedState) (e : Step) (bytes : List ℕ) → Writes start old e bytes new
+      → IsSpelled start first j past old → IsSpelledOn start first j past bytes new
   spelled_on old new e bytes w is =
       let text : recorded_text j.names (recorded_by j.id.process w.entry) ≡ text_by old w.entry =
       ap (λ ns. recorded_text ns (recorded_by j.id.process w.entry)) is.names ∙ ap (λ p. recorded_text old.names (recorded_by p w.entry)) is.process in
@@ -45,7 +47,9 @@ module _ (start : Op → ℕ → Start) (first : State) (j : Journal) (past : Pa
   meeting_kept old new e (OfNode fault) n is = lives_logs_nothing start first past old.node new.node e fault n.0 is
 
   -- what was made is spelled, or nothing is
-  pub spelled_by : {V : Type 0} (items : V → List ℕ) (old new : LoggedState) (m : MeetingState) (e : Step) (made : Result LogEntry MeetingFault) (r : Result V LoggedFault) → old.stopped ≡ false
+  pub spelled_by : {V : Type 0} (items : V → List ℕ) (old new : LoggedState) (m : MeetingState) (e : Step)
+      (made : Result LogEntry MeetingFault) (r : Result V LoggedFault)
+      → old.stopped ≡ false
       → MatchResult made (λ entry. MeetingLogs start old.meeting e entry m) (λ f. MeetingLogsNothing start old.meeting e f m)
       → MatchResult r (λ v. SpellsEntry (record old { meeting = m }) made (items v) new) (λ f. SpellsNothing (record old { meeting = m }) made f new)
       → IsSpelled start first j past old → MatchResult r (λ v. IsSpelledOn start first j past (items v) new) (λ f. f ≢ Unspelled → IsSpelled start first j past new)
@@ -69,7 +73,8 @@ module _ (start : Op → ℕ → Start) (first : State) (j : Journal) (past : Pa
       (record { lives = meeting_kept old.meeting m e fault nothing is.lives; entries = is.entries; process = is.process; names = is.names; crc = is.crc })
 
   -- nothing was to be written
-  pub spelled_still : (old new : LoggedState) (e : Step) (fault : LoggedFault) → WritesNothing start old e fault new → fault ≢ Unspelled → IsSpelled start first j past old → IsSpelled start first j past new
+  pub spelled_still : (old new : LoggedState) (e : Step) (fault : LoggedFault) → WritesNothing start old e fault new
+      → fault ≢ Unspelled → IsSpelled start first j past old → IsSpelled start first j past new
   spelled_still old new e Stopped w other is = subst (λ (l : LoggedState). IsSpelled start first j past l) (sym w.1) is
   spelled_still old new e Unspelled w other is = absurd (other refl)
   spelled_still old new e (OfMeeting fault) w other is =
@@ -77,7 +82,8 @@ module _ (start : Op → ℕ → Start) (first : State) (j : Journal) (past : Pa
       (record { lives = meeting_kept old.meeting new.meeting e fault w.1 is.lives; entries = is.entries; process = is.process; names = is.names; crc = is.crc })
 
   -- something was handed out
-  pub spelled_given : (old new : LoggedState) (output : Outgoing) → LoggedHandsOut old output new → IsSpelled start first j past old → IsSpelled start first j (past_given past (Some output)) new
+  pub spelled_given : (old new : LoggedState) (output : Outgoing) → LoggedHandsOut old output new
+      → IsSpelled start first j past old → IsSpelled start first j (past_given past (Some output)) new
   spelled_given old new output h is =
       let made = h.made.made in
       subst (λ (l : LoggedState). IsSpelled start first j (past_given past (Some output)) l) (sym h.rest)

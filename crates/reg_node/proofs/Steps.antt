@@ -17,15 +17,19 @@ calls_push es e =
 
 module _ (start : Op → ℕ → Start) where
   -- one entry more
-  pub steps_push : (s : State) (es : List LogEntry) (e : LogEntry) → AreSteps start s es → IsStep start (state_after start s es) e → AreSteps start s (es ++ e ∷ [])
+  pub steps_push : (s : State) (es : List LogEntry) (e : LogEntry) → AreSteps start s es
+      → IsStep start (state_after start s es) e → AreSteps start s (es ++ e ∷ [])
   steps_push s [] e r is = (is, tt)
   steps_push s (x ∷ xs) e r is = (r.0, steps_push (step start s x.step).0 xs e r.1 is)
 
-  pub state_push : (s : State) (es : List LogEntry) (e : LogEntry) → state_after start s (es ++ e ∷ []) ≡ (step start (state_after start s es) e.step).0
+  pub state_push : (s : State) (es : List LogEntry) (e : LogEntry)
+      → state_after start s (es ++ e ∷ []) ≡ (step start (state_after start s es) e.step).0
   state_push s [] e = refl
   state_push s (x ∷ xs) e = state_push (step start s x.step).0 xs e
 
-  pub outputs_push : (s : State) (es : List LogEntry) (e : LogEntry) → outputs_of start s (es ++ e ∷ []) ≡ outputs_of start s es ++ output_of start (state_after start s es) e.step ∷ []
+  pub outputs_push : (s : State) (es : List LogEntry) (e : LogEntry)
+      → outputs_of start s (es ++ e ∷ [])
+      ≡ outputs_of start s es ++ output_of start (state_after start s es) e.step ∷ []
   outputs_push s [] e = refl
   outputs_push s (x ∷ xs) e = ap (λ l. output_of start s x.step ∷ l) (outputs_push (step start s x.step).0 xs e)
 
@@ -40,13 +44,15 @@ module _ (start : Op → ℕ → Start) where
   steps_take (suc k) s [] r = tt
   steps_take (suc k) s (x ∷ xs) r = (r.0, steps_take k (step start s x.step).0 xs r.1)
 
-  pub outputs_take : (k : ℕ) (s : State) (es : List LogEntry) → outputs_of start s (take k es) ≡ take k (outputs_of start s es)
+  pub outputs_take : (k : ℕ) (s : State) (es : List LogEntry)
+      → outputs_of start s (take k es) ≡ take k (outputs_of start s es)
   outputs_take zero s es = refl
   outputs_take (suc k) s [] = refl
   outputs_take (suc k) s (x ∷ xs) = ap (λ l. output_of start s x.step ∷ l) (outputs_take k (step start s x.step).0 xs)
 
   -- each entry is a step in the state after those before it
-  pub steps_at : (s : State) (es : List LogEntry) (place : ℕ) (e : LogEntry) → AreSteps start s es → slice_get es place ≡ Some e → IsStep start (state_after start s (take place es)) e
+  pub steps_at : (s : State) (es : List LogEntry) (place : ℕ) (e : LogEntry) → AreSteps start s es
+      → slice_get es place ≡ Some e → IsStep start (state_after start s (take place es)) e
   steps_at s [] place e r h = absurd (let bad : ⊥ = cc in bad)
   steps_at s (x ∷ xs) zero e r h = subst (λ (y : LogEntry). IsStep start s y) (same_Some x e h) r.0
   steps_at s (x ∷ xs) (suc n) e r h = steps_at (step start s x.step).0 xs n e r.1 h

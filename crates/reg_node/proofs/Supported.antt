@@ -1,5 +1,6 @@
 -- Orders of entries in which each frame is put before it is taken. The newest entry of an order stands first.
-use Rattle.std.proofs.Common.{◌≡◌, ◌⊎◌, inl, inr, ℕ, suc, ◌+◌, ◌<◌, ◌≤◌, Bool, List, [], ◌∷◌, min, Some, ap, sym, ◌∙◌, subst, arith}
+use Rattle.std.proofs.Common.{◌≡◌, ◌⊎◌, inl, inr, ℕ, suc, ◌+◌, ◌<◌, ◌≤◌, Bool, List, [], ◌∷◌, min, Some, ap, sym, ◌∙◌}
+use Rattle.std.proofs.Common.{subst, arith}
 use Rattle.std.specs.Prelude.{cond, ◌==◌, nat_lt, slice_get}
 use Rattle.std.proofs.lemmas.Bool.{cases_eq, cond_both, eq-eqb, ne_eqb, ltb-true, ltb-false}
 use Rattle.std.proofs.lemmas.List.Sums.{sum_by-cons}
@@ -59,9 +60,12 @@ mention_no p q xs other =
 -- the order without the mentions of each process behind so many first ones
 abbrev pub keep_first : (ℕ → ℕ) → List ℕ → List ℕ
 keep_first kept [] = []
-keep_first kept (p ∷ older) = cond (nat_lt (mentions p older) (kept p)) (p ∷ keep_first kept older) (keep_first kept older)
+keep_first kept (p ∷ older) =
+    cond (nat_lt (mentions p older) (kept p)) (p ∷ keep_first kept older) (keep_first kept older)
 
-kept_yes : (kept : ℕ → ℕ) (p q : ℕ) (xs left : List ℕ) → mentions q xs < kept q → mentions p left ≡ min (kept p) (mentions p xs) → (q ≡ p) ⊎ (q ≡ p → ⊥) → mentions p (q ∷ left) ≡ min (kept p) (mentions p (q ∷ xs))
+kept_yes : (kept : ℕ → ℕ) (p q : ℕ) (xs left : List ℕ) → mentions q xs < kept q
+    → mentions p left ≡ min (kept p) (mentions p xs) → (q ≡ p) ⊎ (q ≡ p → ⊥)
+    → mentions p (q ∷ left) ≡ min (kept p) (mentions p (q ∷ xs))
 kept_yes kept p q xs left lt h (inl e) =
     let a = mention_yes p q left e in
     let b = mention_yes p q xs e in
@@ -72,14 +76,17 @@ kept_yes kept p q xs left lt h (inr other) =
     let b = mention_no p q xs other in
     a ∙ (h ∙ ap (λ (k : ℕ). min (kept p) k) (sym b))
 
-kept_no : (kept : ℕ → ℕ) (p q : ℕ) (xs left : List ℕ) → kept q ≤ mentions q xs → mentions p left ≡ min (kept p) (mentions p xs) → (q ≡ p) ⊎ (q ≡ p → ⊥) → mentions p left ≡ min (kept p) (mentions p (q ∷ xs))
+kept_no : (kept : ℕ → ℕ) (p q : ℕ) (xs left : List ℕ) → kept q ≤ mentions q xs
+    → mentions p left ≡ min (kept p) (mentions p xs) → (q ≡ p) ⊎ (q ≡ p → ⊥)
+    → mentions p left ≡ min (kept p) (mentions p (q ∷ xs))
 kept_no kept p q xs left le h (inl e) =
     let b = mention_yes p q xs e in
     let here : kept p ≤ mentions p xs = subst (λ (r : ℕ). kept r ≤ mentions r xs) e le in
     omega (arith, b, h, here)
 kept_no kept p q xs left le h (inr other) = h ∙ ap (λ (k : ℕ). min (kept p) k) (sym (mention_no p q xs other))
 
-pub mentions_kept : (kept : ℕ → ℕ) (p : ℕ) (xs : List ℕ) → mentions p (keep_first kept xs) ≡ min (kept p) (mentions p xs)
+pub mentions_kept : (kept : ℕ → ℕ) (p : ℕ) (xs : List ℕ)
+    → mentions p (keep_first kept xs) ≡ min (kept p) (mentions p xs)
 mentions_kept kept p [] = omega arith
 mentions_kept kept p (q ∷ xs) = cond_both (nat_lt (mentions q xs) (kept q)) (q ∷ keep_first kept xs) (keep_first kept xs) (λ ys. mentions p ys ≡ min (kept p) (mentions p (q ∷ xs)))
     (λ e. kept_yes kept p q xs (keep_first kept xs) (ltb-true (mentions q xs) (kept q) e) (mentions_kept kept p xs) (cases_eq q p))
@@ -89,7 +96,8 @@ mentions_kept kept p (q ∷ xs) = cond_both (nat_lt (mentions q xs) (kept q)) (q
 pub record IsKept (kept : ℕ) (old new : Share) : Type 0 where
   pub entries : (k : ℕ) (e : LogEntry) → k < kept → slice_get old.log k ≡ Some e → slice_get new.log k ≡ Some e
   pub outputs : (k : ℕ) (o : Outgoing) → k < kept → slice_get old.outputs k ≡ Some o → slice_get new.outputs k ≡ Some o
-  pub safe : (k : ℕ) (o : Outgoing) (x : Put) → k < old.durable → slice_get old.outputs k ≡ Some o → In x o.frames → k < kept
+  pub safe : (k : ℕ) (o : Outgoing) (x : Put) → k < old.durable → slice_get old.outputs k ≡ Some o → In x o.frames
+      → k < kept
   pub durable : min kept old.durable ≤ new.durable
 
 module _ (kept : ℕ → ℕ) (old new : ℕ → Share) (is : (p : ℕ) → IsKept (kept p) (old p) (new p)) where

@@ -28,7 +28,8 @@ total_none f (suc n) h =
     omega (arith, a, b)
 
 -- one value is higher by one
-total_more : (f g : ℕ → ℕ) (x n : ℕ) → x < n → f x ≡ suc (g x) → ((q : ℕ) → (x ≡ q → ⊥) → f q ≡ g q) → total f n ≡ suc (total g n)
+total_more : (f g : ℕ → ℕ) (x n : ℕ) → x < n → f x ≡ suc (g x) → ((q : ℕ) → (x ≡ q → ⊥) → f q ≡ g q)
+    → total f n ≡ suc (total g n)
 unfolding total
 total_more f g x zero lt here others = absurd (omega (arith, lt))
 total_more f g zero (suc n) lt here others =
@@ -39,14 +40,17 @@ total_more f g (suc x) (suc n) lt here others =
     let rest = total_more (λ q. f (suc q)) (λ q. g (suc q)) x n (omega (arith, lt)) here (λ q ne. others (suc q) (λ e. ne (omega (arith, e)))) in
     omega (arith, first, rest)
 
-total_mentions : (n : ℕ) (shares : ℕ → Share) (xs : List ℕ) → AreSupported n shares xs → total (λ q. mentions q xs) n ≡ length xs
+total_mentions : (n : ℕ) (shares : ℕ → Share) (xs : List ℕ) → AreSupported n shares xs
+    → total (λ q. mentions q xs) n ≡ length xs
 total_mentions n shares [] s = total_none (λ q. mentions q []) n (λ q. refl)
 total_mentions n shares (x ∷ xs) s =
     let more = total_more (λ q. mentions q (x ∷ xs)) (λ q. mentions q xs) x n s.0 (mention_yes x x xs refl) (λ q ne. mention_no q x xs ne) in
     let rest = total_mentions n shares xs s.2 in
     omega (arith, more, rest)
 
-total_lengths : {X Y : Type 0} (log : X → List Y) (xs : List X) (f : ℕ → ℕ) → ((p : ℕ) (x : X) → slice_get xs p ≡ Some x → f p ≡ length (log x)) → total f (length xs) ≡ sum_by length (map log xs)
+total_lengths : {X Y : Type 0} (log : X → List Y) (xs : List X) (f : ℕ → ℕ)
+    → ((p : ℕ) (x : X) → slice_get xs p ≡ Some x → f p ≡ length (log x))
+    → total f (length xs) ≡ sum_by length (map log xs)
 unfolding total
 total_lengths log [] f h = refl
 total_lengths log (x ∷ xs) f h =
@@ -56,7 +60,8 @@ total_lengths log (x ∷ xs) f h =
     omega (arith, first, rest, parts)
 
 -- where each process is mentioned once for each entry of its log
-pub order_length : {X Y : Type 0} (log : X → List Y) (members : List X) (n : ℕ) (shares : ℕ → Share) (order : List ℕ) → length members ≡ n → AreSupported n shares order
+pub order_length : {X Y : Type 0} (log : X → List Y) (members : List X) (n : ℕ) (shares : ℕ → Share) (order : List ℕ)
+    → length members ≡ n → AreSupported n shares order
     → ((p : ℕ) (x : X) → slice_get members p ≡ Some x → mentions p order ≡ length (log x)) → length order ≡ sum_by length (map log members)
 order_length log members n shares order count s each =
     let a = total_mentions n shares order s in

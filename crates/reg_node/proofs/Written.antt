@@ -1,5 +1,6 @@
 -- The text of a record is read as that record.
-use Rattle.std.proofs.Common.{ℕ, suc, ◌≡◌, ◌<◌, ◌^◌, List, [], ◌∷◌, ◌++◌, map, codes, Option, None, Some, refl, sym, ap, ◌∙◌, arith, append-nil}
+use Rattle.std.proofs.Common.{ℕ, suc, ◌≡◌, ◌<◌, ◌^◌, List, [], ◌∷◌, ◌++◌, map, codes, Option, None, Some, refl, sym, ap}
+use Rattle.std.proofs.Common.{◌∙◌, arith, append-nil}
 use Rattle.std.specs.Prelude.{slice_get}
 use Rattle.std.specs.Fmt.{decimal}
 use Rattle.reg_base.specs.Names.{names_fault}
@@ -13,7 +14,9 @@ use Rattle.reg_text.proofs.Joining.{joined, number}
 use Rattle.reg_text.proofs.NamesLack.{well_spelt}
 use Rattle.reg_text.proofs.Split.{AllLack, lines_text, none_left}
 use Rattle.reg_node.specs.declared.transcripts.recorded.Recorded.{Recorded}
-use Rattle.reg_node.specs.RecordLines.{Account, AnswerFits, IsAccount, IsFitting, RecordedFits, SpellsAccount, account_lines, account_text, answer_text, recorded_text, reply_text, step_text, told_text}
+use Rattle.reg_node.specs.RecordLines.{Account, AnswerFits, IsAccount, IsFitting, RecordedFits, SpellsAccount}
+use Rattle.reg_node.specs.RecordLines.{account_lines, account_text, answer_text, recorded_text, reply_text, step_text}
+use Rattle.reg_node.specs.RecordLines.{told_text}
 use Rattle.reg_node.proofs.Signs.{clear_step}
 use Rattle.reg_inputs.proofs.ReadBack.{names_lack, front_lacks}
 
@@ -27,15 +30,19 @@ told_lacks : (step : List ℕ) (reply : Option Reply) → Lacks 10 step → IsFi
 told_lacks step None lacks fits = lacks
 told_lacks step (Some reply) lacks fits = joined 10 step (codes " = " ++ reply_text reply) lacks (joined 10 (codes " = ") (reply_text reply) refl (answer_lacks reply.answer reply.place fits.0 fits.1))
 
-recorded_lacks : (names : List (List ℕ)) (r : Recorded) → names_fault names ≡ None → RecordedFits names r → Lacks 10 (recorded_text names r)
+recorded_lacks : (names : List (List ℕ)) (r : Recorded) → names_fault names ≡ None → RecordedFits names r
+    → Lacks 10 (recorded_text names r)
 recorded_lacks names r ok fits =
     let entry = told_text (step_text names r.entry.step) r.entry.reply in
     joined 10 (decimal r.process) (32 ∷ entry) (number r.process (let l = fits.0 in omega (arith, l)))
     (joined 10 (32 ∷ []) entry refl (told_lacks (step_text names r.entry.step) r.entry.reply (clear_step names r.entry.step ok fits.1.0).1 fits.1.1))
 
-steps_lack : (names : List (List ℕ)) (steps : List Recorded) → names_fault names ≡ None → ((k : ℕ) (r : Recorded) → slice_get steps k ≡ Some r → RecordedFits names r) → AllLack (map (recorded_text names) steps)
+steps_lack : (names : List (List ℕ)) (steps : List Recorded) → names_fault names ≡ None
+    → ((k : ℕ) (r : Recorded) → slice_get steps k ≡ Some r → RecordedFits names r)
+    → AllLack (map (recorded_text names) steps)
 steps_lack names [] ok fit = tt
-steps_lack names (r ∷ steps) ok fit = (recorded_lacks names r ok (fit 0 r refl), steps_lack names steps ok (λ k x h. fit (suc k) x h))
+steps_lack names (r ∷ steps) ok fit =
+    (recorded_lacks names r ok (fit 0 r refl), steps_lack names steps ok (λ k x h. fit (suc k) x h))
 
 pub lines_lack : (a : Account) → IsAccount a → AllLack (account_lines a)
 lines_lack a good = (

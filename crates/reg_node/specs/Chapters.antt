@@ -1,5 +1,6 @@
 -- How far the processes of a cluster have come in a chapter, and when it is over. Promises cite it.
-use Rattle.std.specs.Prelude.{ℕ, ◌≡◌, ◌≢◌, ◌+◌, ◌*◌, ◌<◌, ◌≤◌, ◌⊎◌, ◌==◌, nat_le, Bool, true, if◌then◌else◌, List, ◌∷◌, length, flat_map, slice_get, slice_index_or, slice_set, Option, None, Some}
+use Rattle.std.specs.Prelude.{ℕ, ◌≡◌, ◌≢◌, ◌+◌, ◌*◌, ◌<◌, ◌≤◌, ◌⊎◌, ◌==◌, nat_le, Bool, true, if◌then◌else◌, List, ◌∷◌}
+use Rattle.std.specs.Prelude.{length, flat_map, slice_get, slice_index_or, slice_set, Option, None, Some}
 use Rattle.std.specs.Int.{w64, to_be_bytes}
 use Rattle.std.specs.List.{sum}
 use Rattle.reg_process.specs.Process.{State, next_of, peer_at, pending_of}
@@ -100,7 +101,8 @@ pub record ChapterState : Type 0 where
 
 -- what is kept once this process told this state
 abbrev pub with_standing : Tale → ℕ → Standing → Tale
-with_standing told process s = if is_kept (slice_index_or told process None) s then slice_set told process (Some s) else told
+with_standing told process s =
+    if is_kept (slice_index_or told process None) s then slice_set told process (Some s) else told
 
 -- the bytes of another were heard
 pub record HearsStanding (old : ChapterState) (sender : ℕ) (bytes : List ℕ) (new : ChapterState) : Type 0 where
@@ -110,7 +112,8 @@ pub record HearsStanding (old : ChapterState) (sender : ℕ) (bytes : List ℕ) 
   pub kept : new ≡ record old { told = with_standing old.told sender standing }
 
 -- the own process told in these bytes how far it has come
-pub record TellsStanding (s : State) (is_quiet : Bool) (old : ChapterState) (bytes : List ℕ) (new : ChapterState) : Type 0 where
+pub record TellsStanding (s : State) (is_quiet : Bool) (old : ChapterState) (bytes : List ℕ)
+    (new : ChapterState) : Type 0 where
   pub standing : Standing
   pub is : IsStanding s is_quiet standing
   pub own : OwnIsNone s standing.accepted
@@ -120,5 +123,6 @@ pub record TellsStanding (s : State) (is_quiet : Bool) (old : ChapterState) (byt
 -- why not, and then nothing has changed
 abbrev pub IsUnheard : ChapterState → ℕ → List ℕ → ToldFault → Type 0
 IsUnheard old sender bytes NoProcess = length old.told ≤ sender
-IsUnheard old sender bytes NoState = (sender < length old.told) × ((s : Standing) → ¬ SpellsStanding (length old.told) bytes s)
+IsUnheard old sender bytes NoState =
+    (sender < length old.told) × ((s : Standing) → ¬ SpellsStanding (length old.told) bytes s)
 IsUnheard old sender bytes OutOfMemory = (sender < length old.told) × HasForm (length old.told) bytes

@@ -1,5 +1,6 @@
 -- All nodes of a cluster, over a network that loses, repeats and reorders, with crashes. Promises cite it.
-use Rattle.std.specs.Prelude.{ℕ, zero, suc, ◌≡◌, ◌<◌, ◌≤◌, ◌⊎◌, List, [], ◌∷◌, ◌++◌, length, map, take, slice_get, slice_set, Some, Ok}
+use Rattle.std.specs.Prelude.{ℕ, zero, suc, ◌≡◌, ◌<◌, ◌≤◌, ◌⊎◌, List, [], ◌∷◌, ◌++◌, length, map, take, slice_get}
+use Rattle.std.specs.Prelude.{slice_set, Some, Ok}
 use Rattle.reg_base.specs.declared.memory.Op.{Op}
 use Rattle.reg_base.specs.Order.{In}
 use Rattle.reg_base.specs.Shape.{Extent}
@@ -12,7 +13,8 @@ use Rattle.reg_process.specs.Puts.{put_to}
 use Rattle.reg_records.specs.declared.entries.LogEntry.{LogEntry}
 use Rattle.reg_node.specs.declared.faults.NodeFault.{NodeFault}
 use Rattle.reg_node.specs.Logs.{Outgoing, first_state, outputs_of}
-use Rattle.reg_node.specs.Nodes.{NodeState, Logs, LogsNothing, HandsOut, Lives, Past, marked, nothing_yet, past_logged, past_given}
+use Rattle.reg_node.specs.Nodes.{NodeState, Logs, LogsNothing, HandsOut, Lives, Past, marked, nothing_yet, past_logged}
+use Rattle.reg_node.specs.Nodes.{past_given}
 use Rattle.reg_node.specs.Opening.{opened_with}
 
 -- A node with what it did since it was opened last, and all that it ever handed out, before its crashes too.
@@ -111,4 +113,5 @@ pub record IsNewCluster (start : Op → ℕ → Start) (shape : Extent) (cluster
 -- this is a cluster of the shape in which so many things happened, one after another
 abbrev pub Happened : (Op → ℕ → Start) → Extent → ℕ → List Member → Type 0
 Happened start shape zero cluster = IsNewCluster start shape cluster
-Happened start shape (suc k) cluster = (before : List Member) × Happened start shape k before × Happens start shape before cluster
+Happened start shape (suc k) cluster =
+    (before : List Member) × Happened start shape k before × Happens start shape before cluster

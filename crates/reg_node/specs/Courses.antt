@@ -1,5 +1,6 @@
 -- How a node goes through a chapter: what is written first, and when the chapter is to end. Promises cite it.
-use Rattle.std.specs.Prelude.{ℕ, ◌-◌, ◌==◌, ◌&&◌, ◌||◌, Bool, false, not, nat_le, nat_lt, List, [], length, slice_get, Option, None, if◌then◌else◌}
+use Rattle.std.specs.Prelude.{ℕ, ◌-◌, ◌==◌, ◌&&◌, ◌||◌, Bool, false, not, nat_le, nat_lt, List, [], length, slice_get}
+use Rattle.std.specs.Prelude.{Option, None, if◌then◌else◌}
 use Rattle.reg_base.specs.declared.memory.Op.{Op}
 use Rattle.reg_process.specs.Process.{unsettled}
 use Rattle.reg_node.specs.declared.courses.Progress.{Progress}
@@ -28,7 +29,8 @@ pub record CourseState : Type 0 where
 
 -- that of a chapter in such a room before which there was none
 abbrev pub course_at_first : ℕ → ℕ → ℕ → CourseState
-course_at_first operations entries ahead = record { operations = operations; entries = entries; ahead = ahead; opening = []; asked = false }
+course_at_first operations entries ahead =
+    record { operations = operations; entries = entries; ahead = ahead; opening = []; asked = false }
 
 -- whether there is little room left
 abbrev pub is_full : CourseState → Progress → Bool
@@ -53,7 +55,8 @@ own_calls c p = if p.process == 0 then p.calls - length c.opening else p.calls
 -- whether the opening, if there is one, isn't all delivered here, or one of its writes goes on: nothing else is called
 -- then
 abbrev pub is_opening : CourseState → Progress → Bool
-is_opening c p = nat_lt 0 (length c.opening) && (nat_lt p.delivered (length c.opening) || (p.is_running && (own_calls c p == 0)))
+is_opening c p =
+    nat_lt 0 (length c.opening) && (nat_lt p.delivered (length c.opening) || (p.is_running && (own_calls c p == 0)))
 
 -- whether it calls nothing more in this chapter, and no operation goes on
 abbrev pub is_quiet : CourseState → Progress → Bool

@@ -12,7 +12,8 @@ use Rattle.reg_node.specs.Logs.{Outgoing, outputs_of}
 
 -- what was handed out is what goes out of the first steps of the log behind the entries that the node was opened with,
 -- each once, in order; `left` goes out of the others
-pub record AreOfSteps (start : Op → ℕ → Start) (first : State) (log : List LogEntry) (opened : ℕ) (given : List Outgoing) : Type 0 where
+pub record AreOfSteps (start : Op → ℕ → Start) (first : State) (log : List LogEntry) (opened : ℕ)
+    (given : List Outgoing) : Type 0 where
   pub left : List Outgoing
   pub all : given ++ left ≡ drop opened (outputs_of start first log)
 

@@ -9,7 +9,8 @@ use Rattle.reg_node.specs.Seals.{first_crc, sealed}
 -- the next one.
 abbrev pub first_lines : LogId → List (List ℕ)
 first_lines id =
-    codes "tellwydar log 1" ∷ (codes "cluster " ++ decimal id.cluster) ∷ (codes "process " ++ decimal id.process) ∷ (codes "chapter " ++ decimal id.chapter) ∷ []
+    codes "tellwydar log 1" ∷ (codes "cluster " ++ decimal id.cluster) ∷ (codes "process " ++ decimal id.process)
+    ∷ (codes "chapter " ++ decimal id.chapter) ∷ []
 
 -- these lines, each behind its seal
 abbrev pub first_text : LogId → List ℕ

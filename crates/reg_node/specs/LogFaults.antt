@@ -3,7 +3,8 @@ use Rattle.std.specs.Prelude.{ℕ, ⊤, ◌≡◌, ◌<◌, List, length}
 use Rattle.reg_text.specs.declared.faults.TextFault.{TextFault}
 use Rattle.reg_text.specs.declared.faults.TextFault.TheVariants.{Line as TextLine, OutOfMemory as NoMemory}
 use Rattle.reg_node.specs.declared.transcripts.logs.LogFault.{LogFault}
-use Rattle.reg_node.specs.declared.transcripts.logs.LogFault.TheVariants.{Damaged, Foreign, Line, NoProcess, OutOfMemory}
+use Rattle.reg_node.specs.declared.transcripts.logs.LogFault.TheVariants.{Damaged, Foreign, Line, NoProcess}
+use Rattle.reg_node.specs.declared.transcripts.logs.LogFault.TheVariants.{OutOfMemory}
 use Rattle.reg_node.specs.LogTexts.{IsJournal, Journal, SpellsLog}
 
 -- what is wrong with a line, as a log's fault

@@ -23,12 +23,14 @@ recorded_by process entry = record { process = process; entry = entry }
 
 -- the record of this process alone
 abbrev pub account_of : Journal → Account
-account_of j = record { front = j.front; shape = j.shape; names = j.names; steps = map (recorded_by j.id.process) j.entries }
+account_of j =
+    record { front = j.front; shape = j.shape; names = j.names; steps = map (recorded_by j.id.process) j.entries }
 
 -- the lines that say which log it is, and then the rest
 abbrev pub id_lines : LogId → List (List ℕ) → List (List ℕ)
 id_lines id rest =
-    codes "tellwydar log 1" ∷ (codes "cluster " ++ decimal id.cluster) ∷ (codes "process " ++ decimal id.process) ∷ (codes "chapter " ++ decimal id.chapter) ∷ (codes "begun " ++ decimal id.begun) ∷ rest
+    codes "tellwydar log 1" ∷ (codes "cluster " ++ decimal id.cluster) ∷ (codes "process " ++ decimal id.process)
+    ∷ (codes "chapter " ++ decimal id.chapter) ∷ (codes "begun " ++ decimal id.begun) ∷ rest
 
 -- the lines of a log: behind those, the lines of a record
 abbrev pub log_lines : Journal → List (List ℕ)

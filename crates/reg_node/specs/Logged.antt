@@ -12,7 +12,8 @@ use Rattle.reg_node.specs.declared.faults.LoggedFault.{LoggedFault}
 use Rattle.reg_node.specs.declared.faults.MeetingFault.{MeetingFault}
 use Rattle.reg_node.specs.declared.faults.LoggedFault.TheVariants.{Stopped, Unspelled, OfMeeting}
 use Rattle.reg_node.specs.Logs.{Outgoing}
-use Rattle.reg_node.specs.Meetings.{MeetingState, MeetingHandsOut, MeetingHandsOutNothing, MeetingLogs, MeetingLogsNothing}
+use Rattle.reg_node.specs.Meetings.{MeetingState, MeetingHandsOut, MeetingHandsOutNothing, MeetingLogs}
+use Rattle.reg_node.specs.Meetings.{MeetingLogsNothing}
 use Rattle.reg_node.specs.Nodes.{Lives, Past}
 
 -- Such a node as contracts see it: a node that meets the others, what the lines of its log need, and whether it has
@@ -29,7 +30,8 @@ abbrev pub text_by : LoggedState → LogEntry → List ℕ
 text_by l entry = recorded_text l.names (recorded_by l.process entry)
 
 -- what was made is an entry, which these bytes spell behind the log
-pub record SpellsEntry (old : LoggedState) (made : Result LogEntry MeetingFault) (bytes : List ℕ) (new : LoggedState) : Type 0 where
+pub record SpellsEntry (old : LoggedState) (made : Result LogEntry MeetingFault) (bytes : List ℕ)
+    (new : LoggedState) : Type 0 where
   pub entry : LogEntry
   pub is : made ≡ Ok entry
   pub spelled : bytes ≡ sealed_line old.crc (text_by old entry)
@@ -42,7 +44,8 @@ SpellsNothing old made Unspelled new = ((entry : LogEntry) × (made ≡ Ok entry
 SpellsNothing old made (OfMeeting fault) new = (made ≡ Err fault) × (new ≡ old)
 
 -- it made a step, whose entry these bytes spell behind the log that it has
-pub record Writes (start : Op → ℕ → Start) (old : LoggedState) (e : Step) (bytes : List ℕ) (new : LoggedState) : Type 0 where
+pub record Writes (start : Op → ℕ → Start) (old : LoggedState) (e : Step) (bytes : List ℕ)
+    (new : LoggedState) : Type 0 where
   pub entry : LogEntry
   pub kept : old.stopped ≡ false
   pub made : MeetingLogs start old.meeting e entry new.meeting
@@ -53,11 +56,16 @@ pub record Writes (start : Op → ℕ → Start) (old : LoggedState) (e : Step) 
 -- made no step
 abbrev pub WritesNothing : (Op → ℕ → Start) → LoggedState → Step → LoggedFault → LoggedState → Type 0
 WritesNothing start old e Stopped new = (old.stopped ≡ true) × (new ≡ old)
-WritesNothing start old e Unspelled new = (old.stopped ≡ false) × ((entry : LogEntry) × MeetingLogs start old.meeting e entry new.meeting) × (new ≡ record old { meeting = new.meeting; stopped = true })
-WritesNothing start old e (OfMeeting fault) new = (old.stopped ≡ false) × MeetingLogsNothing start old.meeting e fault new.meeting × (new ≡ record old { meeting = new.meeting })
+WritesNothing start old e Unspelled new =
+    (old.stopped ≡ false) × ((entry : LogEntry) × MeetingLogs start old.meeting e entry new.meeting)
+    × (new ≡ record old { meeting = new.meeting; stopped = true })
+WritesNothing start old e (OfMeeting fault) new =
+    (old.stopped ≡ false) × MeetingLogsNothing start old.meeting e fault new.meeting
+    × (new ≡ record old { meeting = new.meeting })
 
 -- This is what the node did, and its log is what it logged.
-pub record IsSpelled (start : Op → ℕ → Start) (first : State) (j : Journal) (past : Past) (l : LoggedState) : Type 0 where
+pub record IsSpelled (start : Op → ℕ → Start) (first : State) (j : Journal) (past : Past)
+    (l : LoggedState) : Type 0 where
   pub lives : Lives start first past l.meeting.node
   pub entries : j.entries ≡ past.log
   pub process : j.id.process ≡ l.process
@@ -69,7 +77,8 @@ abbrev pub past_with : Past → LogEntry → Past
 past_with past entry = record past { log = past.log ++ entry ∷ [] }
 
 -- the log grew by these bytes, which spell one more entry of what the node did
-pub record IsSpelledOn (start : Op → ℕ → Start) (first : State) (j : Journal) (past : Past) (bytes : List ℕ) (new : LoggedState) : Type 0 where
+pub record IsSpelledOn (start : Op → ℕ → Start) (first : State) (j : Journal) (past : Past) (bytes : List ℕ)
+    (new : LoggedState) : Type 0 where
   pub entry : LogEntry
   pub text : log_text (grown_by j entry) ≡ log_text j ++ bytes
   pub spelled : IsSpelled start first (grown_by j entry) (past_with past entry) new

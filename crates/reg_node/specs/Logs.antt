@@ -23,7 +23,8 @@ pub record Outgoing : Type 0 where
   pub reply : Option Reply
 
 abbrev pub output_of : (Op → ℕ → Start) → State → Step → Outgoing
-output_of start s e = record { frames = puts (step start s e).1.frames (length s.peers); reply = (step start s e).1.reply }
+output_of start s e =
+    record { frames = puts (step start s e).1.frames (length s.peers); reply = (step start s e).1.reply }
 
 -- the entry is a step that the process makes in this state, with its reply
 pub record IsStep (start : Op → ℕ → Start) (s : State) (entry : LogEntry) : Type 0 where

@@ -42,7 +42,8 @@ pub record Hears (old : MeetingState) (other count : ℕ) (new : MeetingState) :
 
 -- it says more, now or before, so that the log was lost; or there is no such process
 abbrev pub HearsNothing : MeetingState → ℕ → ℕ → HelloFault → MeetingState → Type 0
-HearsNothing old other count FoundLost new = ((old.lost ≡ true) ⊎ (queued_for old other < count)) × (new ≡ record old { lost = true })
+HearsNothing old other count FoundLost new =
+    ((old.lost ≡ true) ⊎ (queued_for old other < count)) × (new ≡ record old { lost = true })
 HearsNothing old other count NoPeer new = IsNoPeer old.node.process.state other × (new ≡ old)
 
 -- whether a step makes a cast of its own
@@ -52,7 +53,8 @@ casts start s (Take from frame) = false
 casts start s Tick = false
 
 -- the node made a step; a cast of its own it made only where it had heard from all
-pub record MeetingLogs (start : Op → ℕ → Start) (old : MeetingState) (e : Step) (entry : LogEntry) (new : MeetingState) : Type 0 where
+pub record MeetingLogs (start : Op → ℕ → Start) (old : MeetingState) (e : Step) (entry : LogEntry)
+    (new : MeetingState) : Type 0 where
   pub kept : old.lost ≡ false
   pub heard : casts start old.node.process.state e ≡ true → all_heard old.heard ≡ true
   pub made : Logs start old.node e entry new.node
@@ -61,8 +63,10 @@ pub record MeetingLogs (start : Op → ℕ → Start) (old : MeetingState) (e : 
 -- no step was made
 abbrev pub MeetingLogsNothing : (Op → ℕ → Start) → MeetingState → Step → MeetingFault → MeetingState → Type 0
 MeetingLogsNothing start old e LogLost new = (old.lost ≡ true) × (new ≡ old)
-MeetingLogsNothing start old e Unheard new = (casts start old.node.process.state e ≡ true) × (all_heard old.heard ≡ false) × (new ≡ old)
-MeetingLogsNothing start old e (OfNode fault) new = LogsNothing start old.node e fault new.node × (new ≡ record old { node = new.node })
+MeetingLogsNothing start old e Unheard new =
+    (casts start old.node.process.state e ≡ true) × (all_heard old.heard ≡ false) × (new ≡ old)
+MeetingLogsNothing start old e (OfNode fault) new =
+    LogsNothing start old.node e fault new.node × (new ≡ record old { node = new.node })
 
 -- the node handed something out
 pub record MeetingHandsOut (old : MeetingState) (output : Outgoing) (new : MeetingState) : Type 0 where

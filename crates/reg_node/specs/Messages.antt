@@ -1,6 +1,7 @@
 -- Messages between the nodes of a cluster: how they begin, and what they are to the process that they came to. Promises
 -- cite it.
-use Rattle.std.specs.Prelude.{ℕ, ◌≡◌, ◌+◌, ◌-◌, ◌<◌, ◌^◌, ◌==◌, ◌&&◌, nat_lt, not, Bool, true, false, List, ◌∷◌, ◌++◌, drop, Option, None, Some, if◌then◌else◌}
+use Rattle.std.specs.Prelude.{ℕ, ◌≡◌, ◌+◌, ◌-◌, ◌<◌, ◌^◌, ◌==◌, ◌&&◌, nat_lt, not, Bool, true, false, List, ◌∷◌, ◌++◌}
+use Rattle.std.specs.Prelude.{drop, Option, None, Some, if◌then◌else◌}
 use Rattle.std.specs.Int.{w16, w32, w64, to_be_bytes}
 use Rattle.reg_text.specs.Words.{names_text}
 use Rattle.reg_node.specs.Chapters.{bit}
@@ -9,7 +10,9 @@ use Rattle.reg_node.specs.declared.messages.Brings.TheVariants as brings
 use Rattle.reg_node.specs.declared.messages.Message.{Message}
 use Rattle.reg_node.specs.declared.messages.MessageStart.{MessageStart}
 use Rattle.reg_node.specs.declared.messages.Met.{Met}
-use Rattle.reg_node.specs.declared.messages.Met.TheVariants.{BegunAnew, Elsewhere, Late, OtherCluster, OtherFront, OtherProcesses, OtherReceiver, OtherRegisters, OtherSender, Peer, Unknown}
+use Rattle.reg_node.specs.declared.messages.Met.TheVariants.{BegunAnew, Elsewhere, Late, OtherCluster, OtherFront}
+use Rattle.reg_node.specs.declared.messages.Met.TheVariants.{OtherProcesses, OtherReceiver, OtherRegisters, OtherSender}
+use Rattle.reg_node.specs.declared.messages.Met.TheVariants.{Peer, Unknown}
 use Rattle.reg_node.specs.Seals.{crc_over, first_crc}
 
 -- The form
@@ -25,7 +28,11 @@ names_crc names = 4294967295 - crc_over first_crc (spaced names)
 -- TW and a 3; the cluster's shape and its number; who sends it to whom; and of which log, in which chapter
 abbrev pub start_bytes : MessageStart → List ℕ
 start_bytes s =
-    84 ∷ 87 ∷ 3 ∷ s.front ∷ s.processes ∷ (to_be_bytes w16 s.registers ++ (to_be_bytes w32 s.names ++ (to_be_bytes w64 s.cluster ++ s.sender ∷ s.receiver ∷ (to_be_bytes w64 s.begun ++ to_be_bytes w32 s.chapter))))
+    84 ∷ 87 ∷ 3 ∷ s.front ∷ s.processes
+    ∷ (to_be_bytes w16 s.registers
+    ++ (to_be_bytes w32 s.names
+    ++ (to_be_bytes w64 s.cluster ++ s.sender ∷ s.receiver
+    ∷ (to_be_bytes w64 s.begun ++ to_be_bytes w32 s.chapter))))
 
 -- each number has its size
 pub record AreInRange (s : MessageStart) : Type 0 where

@@ -1,5 +1,6 @@
 -- One node: what each input does to it, and what it did since it was opened. Promises cite it.
-use Rattle.std.specs.Prelude.{ℕ, ◌≡◌, ◌<◌, ◌≤◌, ◌+◌, ◌-◌, ◌++◌, List, [], ◌∷◌, length, drop, max, false, Option, None, Some, Result, Ok, Err}
+use Rattle.std.specs.Prelude.{ℕ, ◌≡◌, ◌<◌, ◌≤◌, ◌+◌, ◌-◌, ◌++◌, List, [], ◌∷◌, length, drop, max, false, Option, None}
+use Rattle.std.specs.Prelude.{Some, Result, Ok, Err}
 use Rattle.reg_base.specs.declared.limits.TheConstants.{MOST_EVENTS}
 use Rattle.reg_base.specs.declared.memory.Op.{Op}
 use Rattle.reg_base.specs.declared.stamps.Stamp.{Stamp}
@@ -27,20 +28,30 @@ abbrev pub first_held : NodeState → ℕ
 first_held n = n.logged - length n.held
 
 -- One step was made, as the process says. Its entry is the last of the log, and its output is held behind the others.
-pub record Logs (start : Op → ℕ → Start) (old : NodeState) (e : Step) (entry : LogEntry) (new : NodeState) : Type 0 where
+pub record Logs (start : Op → ℕ → Start) (old : NodeState) (e : Step) (entry : LogEntry)
+    (new : NodeState) : Type 0 where
   pub output : Outgoing
   pub cast : Option Stamp
   pub delivered : List Delivered
   pub room : old.logged < MOST_EVENTS
   pub made : Steps start old.process e output.frames cast delivered output.reply new.process
   pub written : entry ≡ record { step = e; reply = output.reply }
-  pub rest : new ≡ record { process = new.process; logged = old.logged + 1; calls = old.calls + calls_in (entry ∷ []); durable = old.durable; held = old.held ++ output ∷ [] }
+  pub rest : new
+      ≡ record {
+        process = new.process;
+        logged = old.logged + 1;
+        calls = old.calls + calls_in (entry ∷ []);
+        durable = old.durable;
+        held = old.held ++ output ∷ [];
+      }
 
 -- no step was made, and nothing is logged or held: the process refuses it, or else nothing has changed
 abbrev pub LogsNothing : (Op → ℕ → Start) → NodeState → Step → NodeFault → NodeState → Type 0
 LogsNothing start old e Full new = (MOST_EVENTS ≤ old.logged) × (new ≡ old)
 LogsNothing start old e NoRoom new = (old.logged < MOST_EVENTS) × (new ≡ old)
-LogsNothing start old e (Refused fault) new = (old.logged < MOST_EVENTS) × RefusedBy start old.process e fault new.process × (new ≡ record old { process = new.process })
+LogsNothing start old e (Refused fault) new =
+    (old.logged < MOST_EVENTS) × RefusedBy start old.process e fault new.process
+    × (new ≡ record old { process = new.process })
 
 -- the first entries were said to be durable
 abbrev pub marked : NodeState → ℕ → NodeState

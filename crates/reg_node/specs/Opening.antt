@@ -36,7 +36,8 @@ pub record IsFirstNoStep (start : Op → ℕ → Start) (first : State) (log : L
 abbrev pub IsOpenFault : (Op → ℕ → Start) → Extent → ℕ → List LogEntry → OpenFault → Type 0
 IsOpenFault start shape me log NoProcess = shape.processes ≤ me
 IsOpenFault start shape me log TooLong = (me < shape.processes) × (MOST_EVENTS < length log)
-IsOpenFault start shape me log (NoStep place) = (me < shape.processes) × (length log ≤ MOST_EVENTS) × IsFirstNoStep start (first_state shape me) log place
+IsOpenFault start shape me log (NoStep place) =
+    (me < shape.processes) × (length log ≤ MOST_EVENTS) × IsFirstNoStep start (first_state shape me) log place
 IsOpenFault start shape me log OutOfMemory = me < shape.processes
 
 -- why there is no process to open a node with

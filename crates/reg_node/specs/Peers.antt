@@ -1,5 +1,6 @@
 -- When a node greets a peer that is silent, and when it ticks. Promises cite it.
-use Rattle.std.specs.Prelude.{ℕ, ◌≡◌, ◌+◌, ◌==◌, ◌&&◌, ◌||◌, nat_lt, Bool, false, not, List, replicate, slice_get, slice_set, slice_index_or, Option, None, Some, if◌then◌else◌}
+use Rattle.std.specs.Prelude.{ℕ, ◌≡◌, ◌+◌, ◌==◌, ◌&&◌, ◌||◌, nat_lt, Bool, false, not, List, replicate, slice_get}
+use Rattle.std.specs.Prelude.{slice_set, slice_index_or, Option, None, Some, if◌then◌else◌}
 use Rattle.reg_base.specs.declared.limits.TheConstants.{FRAME_NUMBERS, MOST_RESENT}
 use Rattle.reg_links.specs.declared.beats.Beat.{Beat}
 use Rattle.reg_links.specs.Beats.{is_long, ticks_at, watched, woken}
@@ -43,7 +44,8 @@ is_look_due heard known beat = ticks_at beat (watch heard known) false
 abbrev pub look_of : Bool → Known → Beat → Look
 look_of heard known beat = record {
   greets = is_look_due heard known beat && (not heard || is_long (beat_after heard known beat));
-  ticks = is_look_due heard known beat && (not (known.first == known.next) && not (is_long (beat_after heard known beat)));
+  ticks = is_look_due heard known beat &&
+      (not (known.first == known.next) && not (is_long (beat_after heard known beat)));
 }
 
 -- the number after the last frame that a tick puts again to a peer, by the numbers of the first frame that it hasn't
@@ -57,7 +59,11 @@ awaited_by ticks known awaited = if ticks then behind known.first known.next els
 
 -- what is watched of a peer after a look
 abbrev pub looked_at : Bool → Known → Watched → Watched
-looked_at heard known w = record { beat = beat_after heard known w.beat; awaited = awaited_by (look_of heard known w.beat).ticks known w.awaited }
+looked_at heard known w =
+    record {
+      beat = beat_after heard known w.beat;
+      awaited = awaited_by (look_of heard known w.beat).ticks known w.awaited;
+    }
 
 -- a peer that has acknowledged all frames before `first` has acknowledged just those that were put again to it
 abbrev pub is_answered : Option ℕ → ℕ → Bool
@@ -68,7 +74,8 @@ is_answered (Some n) first = first == n
 -- puts; and nothing where more is acknowledged, since that peer takes frames as they come.
 abbrev pub awaited_of : Option ℕ → Known → Option ℕ
 awaited_of None known = None
-awaited_of (Some n) known = if nat_lt known.first n then Some n else if known.first == n then behind known.first known.next else None
+awaited_of (Some n) known =
+    if nat_lt known.first n then Some n else if known.first == n then behind known.first known.next else None
 
 -- what is watched of a peer after something came from it
 abbrev pub heard_of : Known → Watched → Watched

@@ -85,7 +85,8 @@ pub record Account : Type 0 where
 -- the four header lines, and then the rest
 abbrev pub head_lines : Front → ℕ → List (List ℕ) → List (List ℕ) → List (List ℕ)
 head_lines front processes names rest =
-    codes "tellwydar record 1" ∷ (codes "front " ++ front_name front) ∷ (codes "processes " ++ decimal processes) ∷ (codes "registers" ++ names_text names) ∷ rest
+    codes "tellwydar record 1" ∷ (codes "front " ++ front_name front) ∷ (codes "processes " ++ decimal processes)
+    ∷ (codes "registers" ++ names_text names) ∷ rest
 
 -- the lines of a record, one for each step after the header lines
 abbrev pub account_lines : Account → List (List ℕ)

@@ -16,7 +16,8 @@ Remakes start old entry true new = IsStep start old.state entry × IsGoing new (
 Remakes start old entry false new = ¬ IsStep start old.state entry
 
 -- the entries before a place are made again
-pub record IsReplayed (start : Op → ℕ → Start) (first : State) (log : List LogEntry) (place : ℕ) (now : Kept) : Type 0 where
+pub record IsReplayed (start : Op → ℕ → Start) (first : State) (log : List LogEntry) (place : ℕ)
+    (now : Kept) : Type 0 where
   pub steps : AreSteps start first (take place log)
   pub going : IsGoing now (state_after start first (take place log))
 

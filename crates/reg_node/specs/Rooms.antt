@@ -54,6 +54,8 @@ abbrev pub IsNoRoom : Extent → ℕ → ℕ → NoRoom → Type 0
 IsNoRoom shape operations entries (NoBeginning least most) =
     (most < least) × (least ≡ least_entries shape) × (most ≡ most_entries shape)
 IsNoRoom shape operations entries (BadOperations least most) =
-    (least_entries shape ≤ most_entries shape) × (operations < least ⊎ most < operations) × (least ≡ shape.registers + 1) × (most ≡ MOST_OPERATIONS)
+    (least_entries shape ≤ most_entries shape) × (operations < least ⊎ most < operations)
+    × (least ≡ shape.registers + 1) × (most ≡ MOST_OPERATIONS)
 IsNoRoom shape operations entries (BadEntries least most) =
-    (least_entries shape ≤ most_entries shape) × (shape.registers < operations) × (operations ≤ MOST_OPERATIONS) × (entries < least ⊎ most < entries) × (least ≡ least_entries shape) × (most ≡ most_entries shape)
+    (least_entries shape ≤ most_entries shape) × (shape.registers < operations) × (operations ≤ MOST_OPERATIONS)
+    × (entries < least ⊎ most < entries) × (least ≡ least_entries shape) × (most ≡ most_entries shape)

@@ -1,9 +1,12 @@
 //! Chapters of a cluster that doesn't end: how far its processes have come in one, and when it is over.
-ghost use Rattle.std.specs.Prelude.{ℕ, ◌≡◌, ◌≢◌, ◌+◌, ◌*◌, ◌<◌, ◌≤◌, ◌⊎◌, ◌↔◌, true, false, Some, None, drop, length, replicate, slice_get, slice_index_or, take, IfErr, IfOk, MatchOption, OnErr, OnOk};
+ghost use Rattle.std.specs.Prelude.{ℕ, ◌≡◌, ◌≢◌, ◌+◌, ◌*◌, ◌<◌, ◌≤◌, ◌⊎◌, ◌↔◌, true, false, Some, None, drop, length};
+ghost use Rattle.std.specs.Prelude.{replicate, slice_get, slice_index_or, take, IfErr, IfOk, MatchOption, OnErr, OnOk};
 ghost use Rattle.std.specs.Int.{w64, to_be_bytes};
 ghost use Rattle.std.specs.List.{sum};
 ghost use Rattle.reg_process.specs.Process.{next_of, peer_at};
-ghost use Rattle.reg_node.specs.Chapters.{HasAccepted, HasForm, HearsStanding, IsDone, IsOver, IsStanding, IsUnheard, OwnIsNone, SpellsStanding, Standing, TellsStanding, bit as bit_of, is_kept, numbers_bytes, rank as rank_of, standing_bytes, with_standing};
+ghost use Rattle.reg_node.specs.Chapters.{HasAccepted, HasForm, HearsStanding, IsDone, IsOver, IsStanding, IsUnheard};
+ghost use Rattle.reg_node.specs.Chapters.{OwnIsNone, SpellsStanding, Standing, TellsStanding, bit as bit_of, is_kept};
+ghost use Rattle.reg_node.specs.Chapters.{numbers_bytes, rank as rank_of, standing_bytes, with_standing};
 
 use reg_front::FrontEnd;
 use reg_process::Process;
@@ -47,7 +50,8 @@ impl<A: Allocator + Copy> Model for Told<A> {
 
     ghost Value = { Standing };
 
-    ghost view = { λ t. record { is_quiet = t.is_quiet; is_at_rest = t.is_at_rest; put = t.put; accepted = t.accepted.items } };
+    ghost view = { λ t.
+        record { is_quiet = t.is_quiet; is_at_rest = t.is_at_rest; put = t.put; accepted = t.accepted.items } };
 
     ghost invariant = { λ t. length t.accepted.items ≤ 255 };
 }
@@ -118,7 +122,8 @@ fn queued<F: FrontEnd, A: Allocator + Copy>(process: &Process<F, A>, other: u8) 
 
 /// The most bodies that a process queued for any other.
 fn most_queued<F: FrontEnd, A: Allocator + Copy>(process: &Process<F, A>) -> u64
-    ensures most { (q : ℕ) → q < length process.now.state.peers → q ≢ process.now.state.me → next_of (peer_at process.now.state q) ≤ result }
+    ensures most { (q : ℕ) → q < length process.now.state.peers → q ≢ process.now.state.me
+        → next_of (peer_at process.now.state q) ≤ result }
     ensures of_one { (result ≡ 0) ⊎ ((q : ℕ) × (result ≡ next_of (peer_at process.now.state q))) }
 {
     let mut most = 0;
@@ -135,7 +140,9 @@ fn all_accepted<F: FrontEnd, A: Allocator + Copy, B: Allocator + Copy>(
 ) -> Result<Vec<u64, B>, AllocError>
     ensures of_all { IfOk result (λ v. length v.items ≡ length process.now.state.peers) }
     ensures few { IfOk result (λ v. length v.items ≤ 255) }
-    ensures accepted { IfOk result (λ v. (q : ℕ) → q < length process.now.state.peers → q ≢ process.now.state.me → slice_get v.items q ≡ Some (peer_at process.now.state q).expected) }
+    ensures accepted { IfOk result
+        (λ v. (q : ℕ) → q < length process.now.state.peers → q ≢ process.now.state.me
+        → slice_get v.items q ≡ Some (peer_at process.now.state q).expected) }
     ensures own { IfOk result (λ v. OwnIsNone process.now.state v.items) }
 {
     let mut counts = Vec::new(alloc);
@@ -168,7 +175,9 @@ impl<A: Allocator + Copy> Told<A> {
 
     /// The state of one of so many processes that the bytes spell, if they spell one.
     pub fn read(alloc: A, bytes: &[u8], processes: u8) -> Result<Option<Told<A>>, AllocError>
-        ensures read { IfOk result (λ o. MatchOption o ((s : Standing) → ¬ SpellsStanding processes bytes.now s) (λ t. SpellsStanding processes bytes.now t)) }
+        ensures read { IfOk result
+            (λ o. MatchOption o ((s : Standing) → ¬ SpellsStanding processes bytes.now s)
+            (λ t. SpellsStanding processes bytes.now t)) }
         ensures memory { OnErr result (HasForm processes bytes.now) }
     {
         if !may_be_state(bytes, processes) {

@@ -1,7 +1,8 @@
 //! How a node goes through a chapter: what is written first, and when the chapter is to end.
 ghost use Rattle.std.specs.Prelude.{◌≡◌, ◌≤◌, length, true, OnErr, OnOk};
 ghost use Rattle.reg_base.specs.declared.limits.TheConstants.{MOST_REGISTERS};
-ghost use Rattle.reg_node.specs.Courses.{course_at_first, is_ending, is_far_ahead, is_full, is_opening, is_quiet, next_opening, own_calls, progress_of};
+ghost use Rattle.reg_node.specs.Courses.{course_at_first, is_ending, is_far_ahead, is_full, is_opening, is_quiet};
+ghost use Rattle.reg_node.specs.Courses.{next_opening, own_calls, progress_of};
 ghost use Rattle.reg_node.specs.Openings.{opening_of as opening};
 
 use crate::logged::LoggedNode;
@@ -65,7 +66,14 @@ impl<A: Allocator + Copy> Model for Course<A> {
 
     ghost Value = { CourseState };
 
-    ghost view = { λ c. record { operations = c.operations; entries = c.entries; ahead = c.ahead; opening = c.opening.items; asked = c.is_asked } };
+    ghost view = { λ c.
+        record {
+          operations = c.operations;
+          entries = c.entries;
+          ahead = c.ahead;
+          opening = c.opening.items;
+          asked = c.is_asked;
+        } };
 }
 
 impl<A: Allocator + Copy> Course<A> {

@@ -3,7 +3,8 @@ ghost use Rattle.std.specs.Prelude.{◌≡◌, ◌≢◌, ◌<◌, ◌≤◌, fa
 ghost use Rattle.reg_process.specs.Process.{State};
 ghost use Rattle.reg_process.specs.declared.steps.Step.TheVariants.{Call, Take, Tick};
 ghost use Rattle.reg_node.specs.LogTexts.{Journal, log_crc};
-ghost use Rattle.reg_node.specs.Logged.{IsSpelled, IsSpelledOn, LoggedHandsOut, LoggedHandsOutNothing, SpellsEntry, SpellsNothing, Writes, WritesNothing};
+ghost use Rattle.reg_node.specs.Logged.{IsSpelled, IsSpelledOn, LoggedHandsOut, LoggedHandsOutNothing, SpellsEntry};
+ghost use Rattle.reg_node.specs.Logged.{SpellsNothing, Writes, WritesNothing};
 ghost use Rattle.reg_node.specs.Logs.{first_state};
 ghost use Rattle.reg_node.specs.Meetings.{Hears, HearsNothing, heard_at_first};
 ghost use Rattle.reg_node.specs.Nodes.{Lives, Past, marked, past_given};
@@ -37,7 +38,8 @@ impl<F: FrontEnd, A: Allocator + Copy> Model for LoggedNode<F, A> {
 
     ghost Value = { LoggedState };
 
-    ghost view = { λ l. record { meeting = l.meeting; process = l.process; names = l.names; crc = l.crc; stopped = l.stopped } };
+    ghost view = { λ l.
+        record { meeting = l.meeting; process = l.process; names = l.names; crc = l.crc; stopped = l.stopped } };
 }
 
 impl<F: FrontEnd, A: Allocator + Copy> LoggedNode<F, A> {
@@ -49,10 +51,18 @@ impl<F: FrontEnd, A: Allocator + Copy> LoggedNode<F, A> {
     ///
     /// Those of `Node::open`.
     pub fn open(alloc: A, read: ReadLog<A>) -> Result<LoggedNode<F, A>, OpenFault>
-        ensures opened { IfOk result (λ l. IsOpened read.log.entries l.meeting.node × (l.process ≡ read.log.id.process) × (l.names ≡ read.log.names) × (l.crc ≡ read.crc) × (l.stopped ≡ false)) }
-        ensures meets { IfOk result (λ l. (l.meeting.heard ≡ heard_at_first read.log.shape.processes read.log.id.process) × (l.meeting.lost ≡ false)) }
-        ensures lives { IfOk result (λ l. Lives F.start (first_state read.log.shape read.log.id.process) (opened_with read.log.entries) l.meeting.node) }
-        ensures spelled { read.crc ≡ log_crc read.log → IfOk result (λ l. IsSpelled F.start (first_state read.log.shape read.log.id.process) read.log (opened_with read.log.entries) l) }
+        ensures opened { IfOk result (λ l. IsOpened read.log.entries l.meeting.node × (l.process ≡ read.log.id.process)
+            × (l.names ≡ read.log.names) × (l.crc ≡ read.crc) × (l.stopped ≡ false)) }
+        ensures meets { IfOk result
+            (λ l. (l.meeting.heard ≡ heard_at_first read.log.shape.processes read.log.id.process)
+            × (l.meeting.lost ≡ false)) }
+        ensures lives { IfOk result
+            (λ l. Lives F.start (first_state read.log.shape read.log.id.process) (opened_with read.log.entries)
+            l.meeting.node) }
+        ensures spelled { read.crc ≡ log_crc read.log
+            → IfOk result
+            (λ l. IsSpelled F.start (first_state read.log.shape read.log.id.process) read.log
+            (opened_with read.log.entries) l) }
         ensures fault { IfErr result (IsOpenFault F.start read.log.shape read.log.id.process read.log.entries) }
     {
         let ReadLog { log, crc, .. } = read;
@@ -97,7 +107,8 @@ impl<F: FrontEnd, A: Allocator + Copy> LoggedNode<F, A> {
 
     /// The bytes of an entry that was made, by which the log grows.
     fn spell(&mut self, made: Result<LogEntry, MeetingFault>) -> Result<Vec<u8, A>, LoggedFault>
-        ensures { MatchResult result (λ v. SpellsEntry self.old made v.items self.new) (λ fault. SpellsNothing self.old made fault self.new) }
+        ensures { MatchResult result (λ v. SpellsEntry self.old made v.items self.new)
+            (λ fault. SpellsNothing self.old made fault self.new) }
     {
         let entry = match made {
             Ok(entry) => entry,
@@ -121,8 +132,11 @@ impl<F: FrontEnd, A: Allocator + Copy> LoggedNode<F, A> {
 
     /// Calls the next operation, as by `MeetingNode::call`, and gives the bytes of the entry.
     pub fn call(&mut self, op: Op) -> Result<Vec<u8, A>, LoggedFault>
-        ensures written { MatchResult result (λ v. Writes F.start self.old (Call op) v.items self.new) (λ fault. WritesNothing F.start self.old (Call op) fault self.new) }
-        ensures spelled { (first : State) (j : Journal) (past : Past) → IsSpelled F.start first j past self.old → MatchResult result (λ v. IsSpelledOn F.start first j past v.items self.new) (λ fault. fault ≢ LoggedFault.Unspelled → IsSpelled F.start first j past self.new) }
+        ensures written { MatchResult result (λ v. Writes F.start self.old (Call op) v.items self.new)
+            (λ fault. WritesNothing F.start self.old (Call op) fault self.new) }
+        ensures spelled { (first : State) (j : Journal) (past : Past) → IsSpelled F.start first j past self.old
+            → MatchResult result (λ v. IsSpelledOn F.start first j past v.items self.new)
+            (λ fault. fault ≢ LoggedFault.Unspelled → IsSpelled F.start first j past self.new) }
     {
         if self.stopped {
             return Err(LoggedFault::Stopped);
@@ -133,8 +147,11 @@ impl<F: FrontEnd, A: Allocator + Copy> LoggedNode<F, A> {
 
     /// Takes a frame, as by `MeetingNode::take`, and gives the bytes of the entry.
     pub fn take(&mut self, from: u8, frame: &Frame) -> Result<Vec<u8, A>, LoggedFault>
-        ensures written { MatchResult result (λ v. Writes F.start self.old (Take from frame.now) v.items self.new) (λ fault. WritesNothing F.start self.old (Take from frame.now) fault self.new) }
-        ensures spelled { (first : State) (j : Journal) (past : Past) → IsSpelled F.start first j past self.old → MatchResult result (λ v. IsSpelledOn F.start first j past v.items self.new) (λ fault. fault ≢ LoggedFault.Unspelled → IsSpelled F.start first j past self.new) }
+        ensures written { MatchResult result (λ v. Writes F.start self.old (Take from frame.now) v.items self.new)
+            (λ fault. WritesNothing F.start self.old (Take from frame.now) fault self.new) }
+        ensures spelled { (first : State) (j : Journal) (past : Past) → IsSpelled F.start first j past self.old
+            → MatchResult result (λ v. IsSpelledOn F.start first j past v.items self.new)
+            (λ fault. fault ≢ LoggedFault.Unspelled → IsSpelled F.start first j past self.new) }
     {
         if self.stopped {
             return Err(LoggedFault::Stopped);
@@ -145,8 +162,11 @@ impl<F: FrontEnd, A: Allocator + Copy> LoggedNode<F, A> {
 
     /// Puts unacknowledged data frames again, as by `MeetingNode::tick`, and gives the bytes of the entry.
     pub fn tick(&mut self) -> Result<Vec<u8, A>, LoggedFault>
-        ensures written { MatchResult result (λ v. Writes F.start self.old Tick v.items self.new) (λ fault. WritesNothing F.start self.old Tick fault self.new) }
-        ensures spelled { (first : State) (j : Journal) (past : Past) → IsSpelled F.start first j past self.old → MatchResult result (λ v. IsSpelledOn F.start first j past v.items self.new) (λ fault. fault ≢ LoggedFault.Unspelled → IsSpelled F.start first j past self.new) }
+        ensures written { MatchResult result (λ v. Writes F.start self.old Tick v.items self.new)
+            (λ fault. WritesNothing F.start self.old Tick fault self.new) }
+        ensures spelled { (first : State) (j : Journal) (past : Past) → IsSpelled F.start first j past self.old
+            → MatchResult result (λ v. IsSpelledOn F.start first j past v.items self.new)
+            (λ fault. fault ≢ LoggedFault.Unspelled → IsSpelled F.start first j past self.new) }
     {
         if self.stopped {
             return Err(LoggedFault::Stopped);
@@ -157,9 +177,11 @@ impl<F: FrontEnd, A: Allocator + Copy> LoggedNode<F, A> {
 
     /// Hears that another process accepted so many bodies, as by `MeetingNode::hear`.
     pub fn hear(&mut self, other: u8, count: u64) -> Result<(), HelloFault>
-        ensures heard { MatchResult result (λ _. Hears self.old.meeting other count self.new.meeting) (λ fault. HearsNothing self.old.meeting other count fault self.new.meeting) }
+        ensures heard { MatchResult result (λ _. Hears self.old.meeting other count self.new.meeting)
+            (λ fault. HearsNothing self.old.meeting other count fault self.new.meeting) }
         ensures rest { self.new ≡ record self.old { meeting = self.new.meeting } }
-        ensures spelled { (first : State) (j : Journal) (past : Past) → IsSpelled F.start first j past self.old → IsSpelled F.start first j past self.new }
+        ensures spelled { (first : State) (j : Journal) (past : Past) → IsSpelled F.start first j past self.old
+            → IsSpelled F.start first j past self.new }
     {
         self.meeting.hear(other, count)
     }
@@ -170,17 +192,23 @@ impl<F: FrontEnd, A: Allocator + Copy> LoggedNode<F, A> {
     ///
     /// `NotLogged`: the log has fewer entries. Nothing has changed.
     pub fn mark_durable(&mut self, count: u64) -> Result<(), NotLogged>
-        ensures marked { OnOk result ((count ≤ self.old.meeting.node.logged) × (self.new ≡ record self.old { meeting = record self.old.meeting { node = marked self.old.meeting.node count } })) }
+        ensures marked { OnOk result
+            ((count ≤ self.old.meeting.node.logged)
+            × (self.new
+            ≡ record self.old { meeting = record self.old.meeting { node = marked self.old.meeting.node count } })) }
         ensures refused { OnErr result ((self.old.meeting.node.logged < count) × (self.new ≡ self.old)) }
-        ensures spelled { (first : State) (j : Journal) (past : Past) → IsSpelled F.start first j past self.old → IsSpelled F.start first j past self.new }
+        ensures spelled { (first : State) (j : Journal) (past : Past) → IsSpelled F.start first j past self.old
+            → IsSpelled F.start first j past self.new }
     {
         self.meeting.mark_durable(count)
     }
 
     /// Hands out what is held first, as by `MeetingNode::hand_out`, unless the node has stopped.
     pub fn hand_out(&mut self) -> Option<Output<A>>
-        ensures due { MatchOption result (LoggedHandsOutNothing self.old self.new) (λ output. LoggedHandsOut self.old output self.new) }
-        ensures spelled { (first : State) (j : Journal) (past : Past) → IsSpelled F.start first j past self.old → IsSpelled F.start first j (past_given past result) self.new }
+        ensures due { MatchOption result (LoggedHandsOutNothing self.old self.new)
+            (λ output. LoggedHandsOut self.old output self.new) }
+        ensures spelled { (first : State) (j : Journal) (past : Past) → IsSpelled F.start first j past self.old
+            → IsSpelled F.start first j (past_given past result) self.new }
     {
         if self.stopped {
             return None;

@@ -1,10 +1,12 @@
 //! A node that meets the others first: each says how many of its bodies it accepted.
-ghost use Rattle.std.specs.Prelude.{◌≡◌, ◌<◌, ◌≤◌, true, false, replicate, slice_set, IfErr, IfOk, MatchOption, MatchResult, OnErr, OnOk};
+ghost use Rattle.std.specs.Prelude.{◌≡◌, ◌<◌, ◌≤◌, true, false, replicate, slice_set, IfErr, IfOk, MatchOption};
+ghost use Rattle.std.specs.Prelude.{MatchResult, OnErr, OnOk};
 ghost use Rattle.reg_process.specs.Faults.{is_cast};
 ghost use Rattle.reg_process.specs.Process.{State, unsettled};
 ghost use Rattle.reg_process.specs.declared.steps.Step.TheVariants.{Call, Take, Tick};
 ghost use Rattle.reg_node.specs.Logs.{first_state};
-ghost use Rattle.reg_node.specs.Meetings.{Hears, HearsNothing, MeetingHandsOut, MeetingHandsOutNothing, MeetingLogs, MeetingLogsNothing, all_heard, heard_at_first};
+ghost use Rattle.reg_node.specs.Meetings.{Hears, HearsNothing, MeetingHandsOut, MeetingHandsOutNothing, MeetingLogs};
+ghost use Rattle.reg_node.specs.Meetings.{MeetingLogsNothing, all_heard, heard_at_first};
 ghost use Rattle.reg_node.specs.Nodes.{Lives, Past, marked, past_given, past_logged};
 ghost use Rattle.reg_node.specs.Opening.{IsOpened, IsOpenFault, opened_with};
 ghost use Rattle.reg_node.specs.Peers.{has_heard};
@@ -80,7 +82,8 @@ impl<F: FrontEnd, A: Allocator + Copy> MeetingNode<F, A> {
         me: u8,
         entries: &[LogEntry],
     ) -> Result<MeetingNode<F, A>, OpenFault>
-        ensures opened { IfOk result (λ m. IsOpened entries.now m.node × (m.heard ≡ heard_at_first shape.processes me) × (m.lost ≡ false)) }
+        ensures opened { IfOk result (λ m. IsOpened entries.now m.node × (m.heard ≡ heard_at_first shape.processes me)
+            × (m.lost ≡ false)) }
         ensures lives { IfOk result (λ m. Lives F.start (first_state shape me) (opened_with entries.now) m.node) }
         ensures fault { IfErr result (IsOpenFault F.start shape me entries.now) }
     {
@@ -127,7 +130,8 @@ impl<F: FrontEnd, A: Allocator + Copy> MeetingNode<F, A> {
 
     /// Hears that another process accepted the first `count` bodies that were queued for it.
     pub fn hear(&mut self, other: u8, count: u64) -> Result<(), HelloFault>
-        ensures heard { MatchResult result (λ _. Hears self.old other count self.new) (λ fault. HearsNothing self.old other count fault self.new) }
+        ensures heard { MatchResult result (λ _. Hears self.old other count self.new)
+            (λ fault. HearsNothing self.old other count fault self.new) }
         ensures node { self.new.node ≡ self.old.node }
     {
         if self.lost {
@@ -154,8 +158,10 @@ impl<F: FrontEnd, A: Allocator + Copy> MeetingNode<F, A> {
 
     /// Calls the next operation, as by `Node::call`, unless it would be cast too early.
     pub fn call(&mut self, op: Op) -> Result<LogEntry, MeetingFault>
-        ensures made { MatchResult result (λ entry. MeetingLogs F.start self.old (Call op) entry self.new) (λ fault. MeetingLogsNothing F.start self.old (Call op) fault self.new) }
-        ensures lives { (first : State) (past : Past) → Lives F.start first past self.old.node → Lives F.start first (past_logged past result) self.new.node }
+        ensures made { MatchResult result (λ entry. MeetingLogs F.start self.old (Call op) entry self.new)
+            (λ fault. MeetingLogsNothing F.start self.old (Call op) fault self.new) }
+        ensures lives { (first : State) (past : Past) → Lives F.start first past self.old.node
+            → Lives F.start first (past_logged past result) self.new.node }
     {
         if self.lost {
             return Err(MeetingFault::LogLost);
@@ -171,8 +177,10 @@ impl<F: FrontEnd, A: Allocator + Copy> MeetingNode<F, A> {
 
     /// Takes a frame, as by `Node::take`.
     pub fn take(&mut self, from: u8, frame: &Frame) -> Result<LogEntry, MeetingFault>
-        ensures made { MatchResult result (λ entry. MeetingLogs F.start self.old (Take from frame.now) entry self.new) (λ fault. MeetingLogsNothing F.start self.old (Take from frame.now) fault self.new) }
-        ensures lives { (first : State) (past : Past) → Lives F.start first past self.old.node → Lives F.start first (past_logged past result) self.new.node }
+        ensures made { MatchResult result (λ entry. MeetingLogs F.start self.old (Take from frame.now) entry self.new)
+            (λ fault. MeetingLogsNothing F.start self.old (Take from frame.now) fault self.new) }
+        ensures lives { (first : State) (past : Past) → Lives F.start first past self.old.node
+            → Lives F.start first (past_logged past result) self.new.node }
     {
         if self.lost {
             return Err(MeetingFault::LogLost);
@@ -185,8 +193,10 @@ impl<F: FrontEnd, A: Allocator + Copy> MeetingNode<F, A> {
 
     /// Puts unacknowledged data frames again, as by `Node::tick`.
     pub fn tick(&mut self) -> Result<LogEntry, MeetingFault>
-        ensures made { MatchResult result (λ entry. MeetingLogs F.start self.old Tick entry self.new) (λ fault. MeetingLogsNothing F.start self.old Tick fault self.new) }
-        ensures lives { (first : State) (past : Past) → Lives F.start first past self.old.node → Lives F.start first (past_logged past result) self.new.node }
+        ensures made { MatchResult result (λ entry. MeetingLogs F.start self.old Tick entry self.new)
+            (λ fault. MeetingLogsNothing F.start self.old Tick fault self.new) }
+        ensures lives { (first : State) (past : Past) → Lives F.start first past self.old.node
+            → Lives F.start first (past_logged past result) self.new.node }
     {
         if self.lost {
             return Err(MeetingFault::LogLost);
@@ -203,17 +213,21 @@ impl<F: FrontEnd, A: Allocator + Copy> MeetingNode<F, A> {
     ///
     /// `NotLogged`: the log has fewer entries. Nothing has changed.
     pub fn mark_durable(&mut self, count: u64) -> Result<(), NotLogged>
-        ensures marked { OnOk result ((count ≤ self.old.node.logged) × (self.new ≡ record self.old { node = marked self.old.node count })) }
+        ensures marked { OnOk result
+            ((count ≤ self.old.node.logged) × (self.new ≡ record self.old { node = marked self.old.node count })) }
         ensures refused { OnErr result ((self.old.node.logged < count) × (self.new ≡ self.old)) }
-        ensures lives { (first : State) (past : Past) → Lives F.start first past self.old.node → Lives F.start first past self.new.node }
+        ensures lives { (first : State) (past : Past) → Lives F.start first past self.old.node
+            → Lives F.start first past self.new.node }
     {
         self.node.mark_durable(count)
     }
 
     /// Hands out what is held first, as by `Node::hand_out`, unless the log was lost.
     pub fn hand_out(&mut self) -> Option<Output<A>>
-        ensures due { MatchOption result (MeetingHandsOutNothing self.old self.new) (λ output. MeetingHandsOut self.old output self.new) }
-        ensures lives { (first : State) (past : Past) → Lives F.start first past self.old.node → Lives F.start first (past_given past result) self.new.node }
+        ensures due { MatchOption result (MeetingHandsOutNothing self.old self.new)
+            (λ output. MeetingHandsOut self.old output self.new) }
+        ensures lives { (first : State) (past : Past) → Lives F.start first past self.old.node
+            → Lives F.start first (past_given past result) self.new.node }
     {
         if self.lost {
             return None;

@@ -15,10 +15,14 @@
 //!
 //! The byte of a greeting is 1 where its sender wants one back, and else 0. The number says how many bodies it accepted
 //! from the receiver.
-ghost use Rattle.std.specs.Prelude.{◌≡◌, ◌≢◌, ◌==◌, ◌+◌, ◌≤◌, ◌∷◌, ◌↔◌, if◌then◌else◌, [], drop, length, slice_index_or, take, true, MatchOption};
+ghost use Rattle.std.specs.Prelude.{◌≡◌, ◌≢◌, ◌==◌, ◌+◌, ◌≤◌, ◌∷◌, ◌↔◌, if◌then◌else◌, [], drop, length};
+ghost use Rattle.std.specs.Prelude.{slice_index_or, take, true, MatchOption};
 ghost use Rattle.std.specs.Int.{w16, w32, to_be_bytes};
 ghost use Rattle.reg_node.specs.Seals.{crc_over};
-ghost use Rattle.reg_node.specs.Messages.{SpellsMessage, SpellsStart, brought as brought_of, differs as differs_of, greeting_bytes, heard_then, is_heard as is_heard_of, is_log as is_log_of, is_of_key as is_of_key_of, is_sender as is_sender_of, met, met_within as met_within_of, names_crc as names_crc_of, start_bytes};
+ghost use Rattle.reg_node.specs.Messages.{SpellsMessage, SpellsStart, brought as brought_of, differs as differs_of};
+ghost use Rattle.reg_node.specs.Messages.{greeting_bytes, heard_then, is_heard as is_heard_of, is_log as is_log_of};
+ghost use Rattle.reg_node.specs.Messages.{is_of_key as is_of_key_of, is_sender as is_sender_of, met};
+ghost use Rattle.reg_node.specs.Messages.{met_within as met_within_of, names_crc as names_crc_of, start_bytes};
 
 use crate::chapters::{bit, number_at};
 use crate::transcripts::seals::{FIRST_CRC, over};
@@ -243,7 +247,8 @@ impl Greeting {
 
     /// The greeting that these bytes spell, if they spell one.
     pub fn read(bytes: &[u8]) -> Option<Greeting>
-        ensures { MatchOption result ((g : Greeting) → bytes.now ≢ greeting_bytes g) (λ g. bytes.now ≡ greeting_bytes g) }
+        ensures { MatchOption result ((g : Greeting) → bytes.now ≢ greeting_bytes g)
+            (λ g. bytes.now ≡ greeting_bytes g) }
     {
         if !may_be_greeting(bytes) {
             return None;

@@ -1,11 +1,13 @@
 //! One node.
-ghost use Rattle.std.specs.Prelude.{◌≡◌, ◌<◌, ◌≤◌, [], false, if◌then◌else◌, length, IfOk, IfErr, IsErrOf, OnErr, OnOk, MatchOption, MatchResult};
+ghost use Rattle.std.specs.Prelude.{◌≡◌, ◌<◌, ◌≤◌, [], false, if◌then◌else◌, length, IfOk, IfErr, IsErrOf, OnErr, OnOk};
+ghost use Rattle.std.specs.Prelude.{MatchOption, MatchResult};
 ghost use Rattle.reg_process.specs.Faults.{NewRefused, StepTakesMemory};
 ghost use Rattle.reg_process.specs.Process.{State};
 ghost use Rattle.reg_process.specs.declared.steps.Step.TheVariants.{Call, Take, Tick};
 ghost use Rattle.reg_node.specs.Logs.{calls_in, first_state, is_call as is_call_of};
 ghost use Rattle.reg_node.specs.Opening.{IsOpened, IsOpenFault, opened_with, unopened_by};
-ghost use Rattle.reg_node.specs.Nodes.{HandsOut, HandsOutNothing, Lives, Logs, LogsNothing, Past, marked, nothing_yet, past_given, past_logged};
+ghost use Rattle.reg_node.specs.Nodes.{HandsOut, HandsOutNothing, Lives, Logs, LogsNothing, Past, marked, nothing_yet};
+ghost use Rattle.reg_node.specs.Nodes.{past_given, past_logged};
 
 use crate::faults::{NodeFault, NotLogged, OpenFault};
 use crate::outputs::Output;
@@ -39,9 +41,11 @@ impl<F: FrontEnd, A: Allocator + Copy> Model for Node<F, A> {
 
     ghost Value = { NodeState };
 
-    ghost view = { λ n. record { process = n.process; logged = n.logged; calls = n.calls; durable = n.durable; held = n.held.items } };
+    ghost view = { λ n.
+        record { process = n.process; logged = n.logged; calls = n.calls; durable = n.durable; held = n.held.items } };
 
-    ghost invariant = { λ n. (n.logged ≤ MOST_EVENTS) × (n.calls ≤ n.logged) × (n.durable ≤ n.logged) × (length n.held.items ≤ n.logged) };
+    ghost invariant = { λ n. (n.logged ≤ MOST_EVENTS) × (n.calls ≤ n.logged) × (n.durable ≤ n.logged)
+        × (length n.held.items ≤ n.logged) };
 }
 
 /// Why no node is opened where there is no process.
@@ -80,7 +84,14 @@ fn count_calls(entries: &[LogEntry]) -> u64
 impl<F: FrontEnd, A: Allocator + Copy> Node<F, A> {
     /// A node whose log is empty.
     pub fn new(alloc: A, shape: Shape, me: u8) -> Result<Node<F, A>, ProcessFault>
-        ensures made { IfOk result (λ n. n ≡ record { process = record { failed = false; state = first_state shape me; room = 0 }; logged = 0; calls = 0; durable = 0; held = [] }) }
+        ensures made { IfOk result (λ n. n
+            ≡ record {
+              process = record { failed = false; state = first_state shape me; room = 0 };
+              logged = 0;
+              calls = 0;
+              durable = 0;
+              held = [];
+            }) }
         ensures lives { IfOk result (Lives F.start (first_state shape me) nothing_yet) }
         ensures fault { IfErr result (λ fault. NewRefused shape.processes me fault) }
     {
@@ -161,9 +172,12 @@ impl<F: FrontEnd, A: Allocator + Copy> Node<F, A> {
 
     /// Makes a step, and hands out its entry for the log alone.
     fn step(&mut self, step: &Step) -> Result<LogEntry, NodeFault>
-        ensures made { MatchResult result (λ entry. Logs F.start self.old step.now entry self.new) (λ fault. LogsNothing F.start self.old step.now fault self.new) }
-        ensures memory { IsErrOf result (NodeFault.Refused ProcessFault.OutOfMemory) → StepTakesMemory F.start self.old.process.state self.old.process.room step.now }
-        ensures lives { (first : State) (past : Past) → Lives F.start first past self.old → Lives F.start first (past_logged past result) self.new }
+        ensures made { MatchResult result (λ entry. Logs F.start self.old step.now entry self.new)
+            (λ fault. LogsNothing F.start self.old step.now fault self.new) }
+        ensures memory { IsErrOf result (NodeFault.Refused ProcessFault.OutOfMemory)
+            → StepTakesMemory F.start self.old.process.state self.old.process.room step.now }
+        ensures lives { (first : State) (past : Past) → Lives F.start first past self.old
+            → Lives F.start first (past_logged past result) self.new }
     {
         if self.logged >= u64::from(MOST_EVENTS) {
             return Err(NodeFault::Full);
@@ -187,18 +201,24 @@ impl<F: FrontEnd, A: Allocator + Copy> Node<F, A> {
     /// Calls the next operation of its process. The entry is for the log alone: its reply is told where it is handed
     /// out.
     pub fn call(&mut self, op: Op) -> Result<LogEntry, NodeFault>
-        ensures made { MatchResult result (λ entry. Logs F.start self.old (Call op) entry self.new) (λ fault. LogsNothing F.start self.old (Call op) fault self.new) }
-        ensures memory { IsErrOf result (NodeFault.Refused ProcessFault.OutOfMemory) → StepTakesMemory F.start self.old.process.state self.old.process.room (Call op) }
-        ensures lives { (first : State) (past : Past) → Lives F.start first past self.old → Lives F.start first (past_logged past result) self.new }
+        ensures made { MatchResult result (λ entry. Logs F.start self.old (Call op) entry self.new)
+            (λ fault. LogsNothing F.start self.old (Call op) fault self.new) }
+        ensures memory { IsErrOf result (NodeFault.Refused ProcessFault.OutOfMemory)
+            → StepTakesMemory F.start self.old.process.state self.old.process.room (Call op) }
+        ensures lives { (first : State) (past : Past) → Lives F.start first past self.old
+            → Lives F.start first (past_logged past result) self.new }
     {
         self.step(&Step::Call { op })
     }
 
     /// Takes a frame that another process put for it. The entry is for the log alone.
     pub fn take(&mut self, from: u8, frame: &Frame) -> Result<LogEntry, NodeFault>
-        ensures made { MatchResult result (λ entry. Logs F.start self.old (Take from frame.now) entry self.new) (λ fault. LogsNothing F.start self.old (Take from frame.now) fault self.new) }
-        ensures memory { IsErrOf result (NodeFault.Refused ProcessFault.OutOfMemory) → StepTakesMemory F.start self.old.process.state self.old.process.room (Take from frame.now) }
-        ensures lives { (first : State) (past : Past) → Lives F.start first past self.old → Lives F.start first (past_logged past result) self.new }
+        ensures made { MatchResult result (λ entry. Logs F.start self.old (Take from frame.now) entry self.new)
+            (λ fault. LogsNothing F.start self.old (Take from frame.now) fault self.new) }
+        ensures memory { IsErrOf result (NodeFault.Refused ProcessFault.OutOfMemory)
+            → StepTakesMemory F.start self.old.process.state self.old.process.room (Take from frame.now) }
+        ensures lives { (first : State) (past : Past) → Lives F.start first past self.old
+            → Lives F.start first (past_logged past result) self.new }
     {
         self.step(&Step::Take {
             from,
@@ -208,9 +228,12 @@ impl<F: FrontEnd, A: Allocator + Copy> Node<F, A> {
 
     /// Puts unacknowledged data frames again, as far as a process does in one tick. The entry is for the log alone.
     pub fn tick(&mut self) -> Result<LogEntry, NodeFault>
-        ensures made { MatchResult result (λ entry. Logs F.start self.old Tick entry self.new) (λ fault. LogsNothing F.start self.old Tick fault self.new) }
-        ensures memory { IsErrOf result (NodeFault.Refused ProcessFault.OutOfMemory) → StepTakesMemory F.start self.old.process.state self.old.process.room Tick }
-        ensures lives { (first : State) (past : Past) → Lives F.start first past self.old → Lives F.start first (past_logged past result) self.new }
+        ensures made { MatchResult result (λ entry. Logs F.start self.old Tick entry self.new)
+            (λ fault. LogsNothing F.start self.old Tick fault self.new) }
+        ensures memory { IsErrOf result (NodeFault.Refused ProcessFault.OutOfMemory)
+            → StepTakesMemory F.start self.old.process.state self.old.process.room Tick }
+        ensures lives { (first : State) (past : Past) → Lives F.start first past self.old
+            → Lives F.start first (past_logged past result) self.new }
     {
         self.step(&Step::Tick)
     }
@@ -224,7 +247,8 @@ impl<F: FrontEnd, A: Allocator + Copy> Node<F, A> {
     pub fn mark_durable(&mut self, count: u64) -> Result<(), NotLogged>
         ensures marked { OnOk result ((count ≤ self.old.logged) × (self.new ≡ marked self.old count)) }
         ensures refused { OnErr result ((self.old.logged < count) × (self.new ≡ self.old)) }
-        ensures lives { (first : State) (past : Past) → Lives F.start first past self.old → Lives F.start first past self.new }
+        ensures lives { (first : State) (past : Past) → Lives F.start first past self.old
+            → Lives F.start first past self.new }
     {
         if self.logged < count {
             return Err(NotLogged);
@@ -236,8 +260,10 @@ impl<F: FrontEnd, A: Allocator + Copy> Node<F, A> {
     /// Hands out what is held first, where its entry is durable: frames to be carried to other processes, and the reply
     /// to be told to the caller. None where no entry whose output is held is durable.
     pub fn hand_out(&mut self) -> Option<Output<A>>
-        ensures due { MatchOption result (HandsOutNothing self.old self.new) (λ output. HandsOut self.old output self.new) }
-        ensures lives { (first : State) (past : Past) → Lives F.start first past self.old → Lives F.start first (past_given past result) self.new }
+        ensures due { MatchOption result (HandsOutNothing self.old self.new)
+            (λ output. HandsOut self.old output self.new) }
+        ensures lives { (first : State) (past : Past) → Lives F.start first past self.old
+            → Lives F.start first (past_given past result) self.new }
     {
         let first_held = self.logged - self.held.len() as u64;
         if first_held < self.durable {

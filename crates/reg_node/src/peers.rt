@@ -1,6 +1,7 @@
 //! What a node watches of its peers: when one is greeted, and when the node ticks.
 ghost use Rattle.std.specs.Prelude.{◌≡◌, IfOk};
-ghost use Rattle.reg_node.specs.Peers.{HearsOf, LooksAt, behind, first_watched, heard_of, is_answered, is_long_at, look_of, looked_at, unheard_beat, watch};
+ghost use Rattle.reg_node.specs.Peers.{HearsOf, LooksAt, behind, first_watched, heard_of, is_answered, is_long_at};
+ghost use Rattle.reg_node.specs.Peers.{look_of, looked_at, unheard_beat, watch};
 
 use crate::meetings::MeetingNode;
 use reg_base::limits::{FRAME_NUMBERS, MOST_RESENT};

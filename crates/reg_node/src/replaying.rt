@@ -51,7 +51,8 @@ pub(crate) fn replay<F: FrontEnd, A: Allocator + Copy>(
     entries: &[LogEntry],
 ) -> Result<(), OpenFault>
     requires { process.old.failed ≡ false }
-    ensures made { OnOk result (AreSteps F.start process.old.state entries.now × IsGoing process.new (state_after F.start process.old.state entries.now)) }
+    ensures made { OnOk result (AreSteps F.start process.old.state entries.now
+        × IsGoing process.new (state_after F.start process.old.state entries.now)) }
     ensures fault { IfErr result (λ fault. IsReplayFault F.start process.old.state entries.now fault) }
 {
     for place in 0..entries.len() {

@@ -1,6 +1,7 @@
 //! The room in a chapter: what ends it, so that it comes to rest within the limits of a run.
 ghost use Rattle.std.specs.Prelude.{◌≡◌, ◌<◌, ◌≤◌, IfErr, IfOk};
-ghost use Rattle.reg_node.specs.Rooms.{HasRoom, IsNoRoom, cost as cost_of, entries_of, least_entries, most_entries, operations_of, round_cost as round_cost_of};
+ghost use Rattle.reg_node.specs.Rooms.{HasRoom, IsNoRoom, cost as cost_of, entries_of, least_entries, most_entries};
+ghost use Rattle.reg_node.specs.Rooms.{operations_of, round_cost as round_cost_of};
 
 use reg_base::Shape;
 use reg_base::limits::{MOST_EVENTS, MOST_OPERATIONS};

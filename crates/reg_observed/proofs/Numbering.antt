@@ -1,5 +1,6 @@
 -- Words under numbers.
-use Rattle.std.proofs.Common.{ℕ, ◌≡◌, List, [], ◌∷◌, ◌++◌, Bool, true, false, map, slice_get, Some, String, string_bytes, if◌then◌else◌, refl, ap, sym, subst, ◌∙◌, append-nil, zero, suc, true≢false}
+use Rattle.std.proofs.Common.{ℕ, ◌≡◌, List, [], ◌∷◌, ◌++◌, Bool, true, false, map, slice_get, Some, String}
+use Rattle.std.proofs.Common.{string_bytes, if◌then◌else◌, refl, ap, sym, subst, ◌∙◌, append-nil, zero, suc, true≢false}
 use Rattle.std.proofs.lemmas.List.{map-append}
 use Rattle.std.proofs.lemmas.Option.{slice_get-map, same_Some}
 use Rattle.reg_checkers.proofs.Places.{at_map}
@@ -12,13 +13,15 @@ use Rattle.reg_observed.specs.Heard.{AreDistinct, Extends}
 
 module _ {Z : Type 0} where
   -- the word that is stored is the word that was given
-  pub stored_here : (ks : List (String Z)) (place : ℕ) (w k : String Z) → slice_get ks place ≡ Some k → string_eq w k ≡ true → slice_get (map string_bytes ks) place ≡ Some (string_bytes w)
+  pub stored_here : (ks : List (String Z)) (place : ℕ) (w k : String Z) → slice_get ks place ≡ Some k
+      → string_eq w k ≡ true → slice_get (map string_bytes ks) place ≡ Some (string_bytes w)
   stored_here ks place w k here same =
       let e : string_bytes w ≡ string_bytes k = (bytes_eq-Decides (string_bytes w) (string_bytes k)).0 same in
       slice_get-map string_bytes ks place ∙ ap (λ o. option_map string_bytes o) here ∙ ap (λ b. Some b) (sym e)
 
   -- a new word comes last, and no other moves
-  pub inserted : (ks ls : List (String Z)) (w : String Z) → ls ≡ insert_key string_eq ks w → Extends (map string_bytes ks) (map string_bytes ls)
+  pub inserted : (ks ls : List (String Z)) (w : String Z) → ls ≡ insert_key string_eq ks w
+      → Extends (map string_bytes ks) (map string_bytes ls)
   inserted ks ls w is = go (list_any (string_eq w) ks) is
     where
       go : (b : Bool) → ls ≡ (if b then ks else ks ++ w ∷ []) → Extends (map string_bytes ks) (map string_bytes ls)

@@ -12,7 +12,8 @@ not_two (a ∷ []) other = refl
 not_two (a ∷ b ∷ []) other = absurd (other refl)
 not_two (a ∷ b ∷ c ∷ rest) other = refl
 
-pub two : (values : List Value) (c d : Value) → length values ≡ 2 → pair_of (view (get_or values 0 c)) (view (get_or values 1 d)) ≡ items_pair (items_view values)
+pub two : (values : List Value) (c d : Value) → length values ≡ 2
+    → pair_of (view (get_or values 0 c)) (view (get_or values 1 d)) ≡ items_pair (items_view values)
 two [] c d is = absurd (omega (arith, is))
 two (a ∷ []) c d is = absurd (omega (arith, is))
 two (a ∷ b ∷ []) c d is = refl
@@ -25,7 +26,8 @@ none_of (a ∷ []) other = refl
 none_of (a ∷ b ∷ []) other = absurd (other refl)
 none_of (a ∷ b ∷ c ∷ rest) other = refl
 
-pub some_of : (values : List Value) (c d : Value) → length values ≡ 2 → two_of (items_view values) ≡ Some (view (get_or values 0 c), view (get_or values 1 d))
+pub some_of : (values : List Value) (c d : Value) → length values ≡ 2
+    → two_of (items_view values) ≡ Some (view (get_or values 0 c), view (get_or values 1 d))
 some_of [] c d is = absurd (omega (arith, is))
 some_of (a ∷ []) c d is = absurd (omega (arith, is))
 some_of (a ∷ b ∷ []) c d is = refl

@@ -8,7 +8,8 @@ pub tested : {X : Type 0} (bytes : List ℕ) (o : Option X) → IsUtf8 bytes →
 tested bytes o text = ap (λ b. if b then o else None) (is_utf8-from_IsUtf8 bytes text)
 
 -- and where nothing is read of a text, nothing is read of the bytes
-pub untested : {X : Type 0} (bytes : List ℕ) (o : Option X) → (IsUtf8 bytes → o ≡ None) → (if is_utf8 bytes then o else None) ≡ None
+pub untested : {X : Type 0} (bytes : List ℕ) (o : Option X) → (IsUtf8 bytes → o ≡ None)
+    → (if is_utf8 bytes then o else None) ≡ None
 untested bytes o none = go (is_utf8 bytes) (λ e. none (IsUtf8-from_is_utf8 bytes e))
   where
     go : (b : Bool) → (b ≡ true → o ≡ None) → (if b then o else None) ≡ None

@@ -20,7 +20,8 @@ use Rattle.reg_observed.specs.Verdicts.{IsJudged}
 -- The text of a report, where one is asked for and there are points; and else one that begins with a word, with lines
 -- for a person.
 abbrev pub IsAnswerWith : {A : Type 0} → Bool → ℕ → List Entry → Option (Vec Point A) → List ℕ → Type 0
-IsAnswerWith true registers entries (Some points) text = (r : Contents) × IsReportOf registers entries points.items r × (text ≡ report_text r)
+IsAnswerWith true registers entries (Some points) text =
+    (r : Contents) × IsReportOf registers entries points.items r × (text ≡ report_text r)
 IsAnswerWith true registers entries None text = Says false text
 IsAnswerWith false registers entries points text = Says (is_some points) text
 

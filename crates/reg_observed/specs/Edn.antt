@@ -1,5 +1,6 @@
 -- What a text of EDN tells. To be believed: promises speak of it.
-use Rattle.std.specs.Prelude.{ℕ, ◌+◌, ◌==◌, ◌&&◌, ◌||◌, Bool, true, false, not, List, [], ◌∷◌, ◌++◌, codes, drop, min, nat_eq, nat_lt, Option, None, Result, Ok, Err, if◌then◌else◌}
+use Rattle.std.specs.Prelude.{ℕ, ◌+◌, ◌==◌, ◌&&◌, ◌||◌, Bool, true, false, not, List, [], ◌∷◌, ◌++◌, codes, drop, min}
+use Rattle.std.specs.Prelude.{nat_eq, nat_lt, Option, None, Result, Ok, Err, if◌then◌else◌}
 use Rattle.std.specs.List.{starts_with}
 use Rattle.reg_observed.specs.declared.edn_bytes.Mode.{Mode}
 use Rattle.reg_observed.specs.declared.edn_bytes.Mode.TheVariants.{Between, Comment}
@@ -85,7 +86,8 @@ is_whole s = is_rest s.mode && (not s.draft.inside && not (is_listed s.draft.lis
 -- what these bytes tell, the first of which stands on the line of this number
 unfoldable pub edn_from : ℕ → Scanned → List ℕ → Tellings
 edn_from line s [] = if is_whole s then Ok [] else Err (line, Unfinished)
-edn_from line s (b ∷ bytes) = after_line line (told_by s (byte_in b s)) (edn_from (line_behind line b) (behind s (byte_in b s)) bytes)
+edn_from line s (b ∷ bytes) =
+    after_line line (told_by s (byte_in b s)) (edn_from (line_behind line b) (behind s (byte_in b s)) bytes)
 
 abbrev pub edn_tells : List ℕ → Tellings
 edn_tells text = edn_from 1 at_start text

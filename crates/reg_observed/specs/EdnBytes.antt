@@ -4,7 +4,8 @@ use Rattle.reg_observed.specs.declared.edn_bytes.Bracket.TheVariants.{Round, Squ
 use Rattle.reg_observed.specs.declared.edn_bytes.Sort.{Sort}
 use Rattle.reg_observed.specs.declared.edn_bytes.Sort.TheVariants as sorts
 use Rattle.reg_observed.specs.declared.edn_bytes.Mode.{Mode}
-use Rattle.reg_observed.specs.declared.edn_bytes.Mode.TheVariants.{Between, Comment, Dispatch, Tag, Character, Word, Quoted, Escaped}
+use Rattle.reg_observed.specs.declared.edn_bytes.Mode.TheVariants.{Between, Comment, Dispatch, Tag, Character, Word}
+use Rattle.reg_observed.specs.declared.edn_bytes.Mode.TheVariants.{Quoted, Escaped}
 use Rattle.reg_observed.specs.declared.edn_bytes.Does.{Does}
 use Rattle.reg_observed.specs.declared.edn_bytes.Does.TheVariants.{Nothing, Keep, Code, EndString, Open, Close, Refuse}
 use Rattle.reg_observed.specs.declared.edn_bytes.Turn.{Turn}

@@ -1,7 +1,8 @@
 -- What stands of an entry of EDN, and of the text around it. To be believed: promises speak of it. An entry is kept in
 -- JSON: its map is an object, a vector or a list is an array, and a nested map or a set is an object with one member,
 -- the array of its forms.
-use Rattle.std.specs.Prelude.{ℕ, ◌-◌, ◌==◌, ◌&&◌, Bool, true, false, not, nat_lt, List, [], ◌∷◌, ◌++◌, length, take, slice_get, Option, Some, None, Result, Ok, Err, codes, if◌then◌else◌}
+use Rattle.std.specs.Prelude.{ℕ, ◌-◌, ◌==◌, ◌&&◌, Bool, true, false, not, nat_lt, List, [], ◌∷◌, ◌++◌, length, take}
+use Rattle.std.specs.Prelude.{slice_get, Option, Some, None, Result, Ok, Err, codes, if◌then◌else◌}
 use Rattle.reg_observed.specs.declared.edn_bytes.Bracket.{Bracket}
 use Rattle.reg_observed.specs.declared.edn_bytes.Bracket.TheVariants.{Round, Square, Curly, Set}
 use Rattle.reg_observed.specs.declared.edn_entries.Listing.{Listing}
@@ -45,11 +46,18 @@ named_next depth named = if depth == 0 then not named else named
 -- one more form, which has this text in JSON
 abbrev pub form_in : List ℕ → Drafted → Result Drafted Why
 form_in text d =
-    if d.inside then Ok (record d { named = named_next (length d.brackets) d.named; fresh = false; json = (d.json ++ separator d) ++ text }) else Err BadEntry
+    if d.inside then Ok
+    (record d {
+      named = named_next (length d.brackets) d.named;
+      fresh = false;
+      json = (d.json ++ separator d) ++ text;
+    }) else
+    Err BadEntry
 
 -- an entry begins
 abbrev pub begun : Listing → Drafted
-begun listing = record { listing = listing; inside = true; brackets = []; named = false; fresh = true; json = codes "{" }
+begun listing =
+    record { listing = listing; inside = true; brackets = []; named = false; fresh = true; json = codes "{" }
 
 -- how a form between brackets begins in JSON, and how it ends
 abbrev pub opening : Bracket → List ℕ
@@ -66,7 +74,13 @@ closing Set = codes "]}"
 
 abbrev pub open_inside : Bracket → Drafted → Result Drafted Why
 open_inside bracket d =
-    if nat_lt (length d.brackets) MOST_OPEN then Ok (record d { brackets = d.brackets ++ bracket ∷ []; fresh = true; json = (d.json ++ separator d) ++ opening bracket }) else Err TooDeep
+    if nat_lt (length d.brackets) MOST_OPEN then Ok
+    (record d {
+      brackets = d.brackets ++ bracket ∷ [];
+      fresh = true;
+      json = (d.json ++ separator d) ++ opening bracket;
+    }) else
+    Err TooDeep
 
 -- outside of entries { begins one, and a first [ the vector in which they stand
 abbrev pub open_outside : Bracket → Listing → Drafted → Result Drafted Why
@@ -81,7 +95,14 @@ open_in bracket d = if d.inside then open_inside bracket d else open_outside bra
 
 abbrev pub close_last : Bracket → Bracket → Drafted → Result Drafted Why
 close_last close opened d =
-    if closes close opened then Ok (record d { brackets = take (length d.brackets - 1) d.brackets; named = named_next (length d.brackets - 1) d.named; fresh = false; json = d.json ++ closing opened }) else Err BadBracket
+    if closes close opened then Ok
+    (record d {
+      brackets = take (length d.brackets - 1) d.brackets;
+      named = named_next (length d.brackets - 1) d.named;
+      fresh = false;
+      json = d.json ++ closing opened;
+    }) else
+    Err BadBracket
 
 abbrev pub end_entry : Bracket → Drafted → Result Drafted Why
 end_entry Curly d = Ok (record d { inside = false; json = d.json ++ codes "}" })
@@ -97,4 +118,6 @@ close_outside _ _ d = Err BadBracket
 
 -- a bracket closes the innermost one of the entry, or where none is open the entry, or outside of entries their vector
 abbrev pub close_in : Bracket → Drafted → Result Drafted Why
-close_in close d = if d.inside then close_inside close (slice_get d.brackets (length d.brackets - 1)) d else close_outside close d.listing d
+close_in close d =
+    if d.inside then close_inside close (slice_get d.brackets (length d.brackets - 1)) d else close_outside close
+    d.listing d

@@ -1,5 +1,6 @@
 -- What an entry of EDN tells. To be believed: promises speak of it.
-use Rattle.std.specs.Prelude.{ℕ, ◌&&◌, ◌||◌, Bool, not, List, codes, Option, Some, None, is_some, is_ok, option_and_then, Result, Ok, Err, if◌then◌else◌}
+use Rattle.std.specs.Prelude.{ℕ, ◌&&◌, ◌||◌, Bool, not, List, codes, Option, Some, None, is_some, is_ok}
+use Rattle.std.specs.Prelude.{option_and_then, Result, Ok, Err, if◌then◌else◌}
 use Rattle.std.specs.Str.{is_utf8}
 use Rattle.serde_json.specs.Data.{Data, Items, no_items, item}
 use Rattle.serde_json.specs.Read.{read}
@@ -24,7 +25,9 @@ unless_values swaps (Some pair) = if swaps && not (is_some (as_array pair.1)) th
 
 -- The key and the value, where the value of an entry with no key is [KEY VALUE], as Jepsen writes independent keys.
 abbrev pub keyed_in : Data → Option (Data × Data)
-keyed_in d = if is_some (get (codes "key") d) then None else unless_values (is_named (codes "f") (codes "cas") d) (option_and_then two_in (get (codes "value") d))
+keyed_in d =
+    if is_some (get (codes "key") d) then None else unless_values (is_named (codes "f") (codes "cas") d)
+    (option_and_then two_in (get (codes "value") d))
 
 abbrev pub told_keyed : Option (Data × Data) → Data → Result Telling Why
 told_keyed None d = told_in d
@@ -32,7 +35,8 @@ told_keyed (Some pair) d = told_at (Some pair.0) (Some pair.1) d
 
 -- a process whose name is no number notes a thing that is no operation
 abbrev pub is_note : Data → Bool
-is_note d = is_some (string_in (codes "process") d) && (is_named (codes "type") (codes "info") d && not (is_ok (act_in d)))
+is_note d =
+    is_some (string_in (codes "process") d) && (is_named (codes "type") (codes "info") d && not (is_ok (act_in d)))
 
 -- What is no call: what Jepsen's nemesis does, and such notes.
 abbrev pub is_aside : Data → Bool

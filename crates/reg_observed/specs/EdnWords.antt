@@ -1,5 +1,6 @@
 -- What words of EDN are in JSON. To be believed: promises speak of it.
-use Rattle.std.specs.Prelude.{ℕ, ◌+◌, ◌-◌, ◌/◌, ◌%◌, ◌==◌, ◌&&◌, ◌||◌, Bool, not, List, [], ◌∷◌, ◌++◌, codes, drop, length, nat_eq, nat_le, nat_lt, if◌then◌else◌}
+use Rattle.std.specs.Prelude.{ℕ, ◌+◌, ◌-◌, ◌/◌, ◌%◌, ◌==◌, ◌&&◌, ◌||◌, Bool, not, List, [], ◌∷◌, ◌++◌, codes, drop}
+use Rattle.std.specs.Prelude.{length, nat_eq, nat_le, nat_lt, if◌then◌else◌}
 use Rattle.std.specs.List.{list_all, starts_with}
 use Rattle.std.specs.Str.{bytes_eq}
 
@@ -8,7 +9,9 @@ is_digit b = nat_le 48 b && nat_le b 57
 
 -- digits, with no 0 before another
 abbrev pub is_natural : List ℕ → Bool
-is_natural word = not (length word == 0) && ((length word == 1 || not (starts_with nat_eq word (codes "0"))) && list_all is_digit word)
+is_natural word =
+    not (length word == 0) &&
+    ((length word == 1 || not (starts_with nat_eq word (codes "0"))) && list_all is_digit word)
 
 abbrev pub without_minus : List ℕ → List ℕ
 without_minus word = if starts_with nat_eq word (codes "-") then drop 1 word else word

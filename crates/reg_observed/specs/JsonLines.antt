@@ -1,5 +1,6 @@
 -- What a line of JSON tells. To be believed: promises speak of it.
-use Rattle.std.specs.Prelude.{ℕ, ◌||◌, [], ◌∷◌, Bool, false, List, String, codes, string_bytes, Option, Some, None, is_some, option_and_then, Result, Ok, Err, if◌then◌else◌}
+use Rattle.std.specs.Prelude.{ℕ, ◌||◌, [], ◌∷◌, Bool, false, List, String, codes, string_bytes, Option, Some, None}
+use Rattle.std.specs.Prelude.{is_some, option_and_then, Result, Ok, Err, if◌then◌else◌}
 use Rattle.std.specs.declared.alloc.Global.{Global}
 use Rattle.std.specs.Str.{bytes_eq, is_utf8}
 use Rattle.serde_json.specs.Data.{Data, Items, no_items, item}
@@ -9,12 +10,15 @@ use Rattle.serde_json.specs.Written.{compact_text}
 use Rattle.reg_observed.specs.declared.events.Moment.{Moment}
 use Rattle.reg_judge.specs.declared.rulings.rows.Act.{Act}
 use Rattle.reg_observed.specs.declared.faults.Why.{Why}
-use Rattle.reg_observed.specs.declared.faults.Why.TheVariants.{Form, BadProcess, BadType, BadFunction, BadKey, BadValue, BadPair, BadFirst}
+use Rattle.reg_observed.specs.declared.faults.Why.TheVariants.{Form, BadProcess, BadType, BadFunction, BadKey, BadValue}
+use Rattle.reg_observed.specs.declared.faults.Why.TheVariants.{BadPair, BadFirst}
 use Rattle.reg_observed.specs.Told.{Telling, is_compare_and_swap, moment_named, moment_of, act_named, with_value, ◌>>=◌}
 
 -- a string, or an integer of 64 bits
 abbrev pub is_word : Data → Bool
-is_word d = is_some (as_str d) || is_some (option_and_then as_u64 (as_number d)) || is_some (option_and_then as_i64 (as_number d))
+is_word d =
+    is_some (as_str d) || is_some (option_and_then as_u64 (as_number d)) || is_some
+    (option_and_then as_i64 (as_number d))
 
 -- the text of the value, if it is a word
 abbrev pub word_of : Why → Option Data → Result (List ℕ) Why
@@ -109,7 +113,14 @@ told_at key value d = do
   act ← act_in d
   key ← word_or_null_of BadKey key
   values ← values_of act value
-  with_value (record { process = process; moment = moment_of moment act (says_unequal d); act = act; key = key; expected = values.0; value = values.1 })
+  with_value (record {
+    process = process;
+    moment = moment_of moment act (says_unequal d);
+    act = act;
+    key = key;
+    expected = values.0;
+    value = values.1;
+  })
 
 -- the event that the value tells of
 abbrev pub told_in : Data → Result Telling Why

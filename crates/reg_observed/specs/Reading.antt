@@ -36,4 +36,5 @@ AreEvents v tellings events = AllZip (Speaks v) tellings events
 -- One more line was heard: it tells nothing, and nothing changes; or it tells of this call, and its event comes last.
 pub data Hears (old new : Heard) (number : ℕ) : Option Telling → Type 0 where
   Nothing : new ≡ old → Hears old new number None
-  Call : {told : Telling} (e : Event) → Widens old.words new.words → Speaks new.words (number, told) e → new.events.items ≡ old.events.items ++ e ∷ [] → Hears old new number (Some told)
+  Call : {told : Telling} (e : Event) → Widens old.words new.words → Speaks new.words (number, told) e
+      → new.events.items ≡ old.events.items ++ e ∷ [] → Hears old new number (Some told)

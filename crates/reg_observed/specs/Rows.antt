@@ -1,5 +1,6 @@
 -- The calls and answers that make a history. To be believed: promises speak of it.
-use Rattle.std.specs.Prelude.{ℕ, ◌+◌, ◌&&◌, ◌||◌, nat_eq, Bool, true, false, not, List, [], ◌∷◌, Option, Some, None, option_map, if◌then◌else◌}
+use Rattle.std.specs.Prelude.{ℕ, ◌+◌, ◌&&◌, ◌||◌, nat_eq, Bool, true, false, not, List, [], ◌∷◌, Option, Some, None}
+use Rattle.std.specs.Prelude.{option_map, if◌then◌else◌}
 use Rattle.std.specs.List.{find}
 use Rattle.reg_base.specs.declared.memory.Answer.{Answer as Reply}
 use Rattle.reg_base.specs.declared.memory.Answer.TheVariants.{Done, Value}
@@ -53,7 +54,9 @@ abbrev pub answer_in : ℕ → Event → Reply
 answer_in first event = answer_to event.act (numbered first event.value)
 
 abbrev pub step_at : Moment → ℕ → Event → Option Moment → Option Step
-step_at Invoke first event next = if counts event next then Some (Call event.act (numbered first event.expected) (numbered first event.value)) else None
+step_at Invoke first event next =
+    if counts event next then Some (Call event.act (numbered first event.expected) (numbered first event.value)) else
+    None
 step_at Ok first event next = Some (Answer (answer_in first event))
 step_at Fail first event next = None
 step_at Unequal first event next = Some (Answer replies.Unequal)
@@ -64,7 +67,9 @@ abbrev pub step_of : ℕ → Event → Option Moment → Option Step
 step_of first event next = step_at event.moment first event next
 
 abbrev pub row_of : ℕ → ℕ → Event → Option Moment → Option Row
-row_of first at event next = option_map (λ step. record { at = at; process = event.process; key = event.key; step = step }) (step_of first event next)
+row_of first at event next =
+    option_map (λ step. record { at = at; process = event.process; key = event.key; step = step })
+    (step_of first event next)
 
 abbrev pub row_before : Option Row → List Row → List Row
 row_before None rows = rows
@@ -73,7 +78,8 @@ row_before (Some row) rows = row ∷ rows
 -- the calls and answers of these events, the first of which has this number
 unfoldable pub rows_from : ℕ → ℕ → List Event → List Row
 rows_from first at [] = []
-rows_from first at (event ∷ events) = row_before (row_of first at event (next_of event.process events)) (rows_from first (at + 1) events)
+rows_from first at (event ∷ events) =
+    row_before (row_of first at event (next_of event.process events)) (rows_from first (at + 1) events)
 
 -- the answer tells of this value
 abbrev pub answers_this : ℕ → Event → Bool

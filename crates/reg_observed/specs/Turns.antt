@@ -1,5 +1,6 @@
 -- Calls and answers in turn. To be believed: promises speak of it.
-use Rattle.std.specs.Prelude.{ℕ, ◌&&◌, ◌==◌, Bool, true, false, List, [], ◌∷◌, replicate, get_or, slice_set, Option, Some, None, if◌then◌else◌}
+use Rattle.std.specs.Prelude.{ℕ, ◌&&◌, ◌==◌, Bool, true, false, List, [], ◌∷◌, replicate, get_or, slice_set, Option}
+use Rattle.std.specs.Prelude.{Some, None, if◌then◌else◌}
 use Rattle.reg_observed.specs.declared.events.Event.{Event}
 use Rattle.reg_observed.specs.declared.events.Moment.{Moment}
 use Rattle.reg_observed.specs.declared.events.Moment.TheVariants.{Invoke, Ok, Fail, Unequal, Info}
@@ -58,7 +59,8 @@ found_or event None others = others
 unfoldable pub first_wrong : List (Option Event) → List Event → Option (ℕ × Why)
 first_wrong running [] = None
 first_wrong running (event ∷ events) =
-    found_or event (wrong_turn event (get_or running event.process None)) (first_wrong (slice_set running event.process (running_after event)) events)
+    found_or event (wrong_turn event (get_or running event.process None))
+    (first_wrong (slice_set running event.process (running_after event)) events)
 
 abbrev pub none_running : ℕ → List (Option Event)
 none_running processes = replicate processes None

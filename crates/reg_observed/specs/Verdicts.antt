@@ -1,5 +1,6 @@
 -- What is found out of a history. To be believed: promises speak of it.
-use Rattle.std.specs.Prelude.{ℕ, ◌≡◌, ◌⊎◌, List, length, max, slice_get, Option, Some, None, Result, Ok, Err, codes, if◌then◌else◌, Vec, ⊤}
+use Rattle.std.specs.Prelude.{ℕ, ◌≡◌, ◌⊎◌, List, length, max, slice_get, Option, Some, None, Result, Ok, Err, codes}
+use Rattle.std.specs.Prelude.{if◌then◌else◌, Vec, ⊤}
 use Rattle.std.specs.List.{list_any}
 use Rattle.reg_checkers.specs.declared.entries.Entry.{Entry}
 use Rattle.reg_checkers.specs.declared.entries.Point.{Point}
@@ -25,7 +26,8 @@ use Rattle.reg_observed.specs.Turns.{first_wrong, none_running}
 -- the number of null where some answer tells of it, or a compare-and-swap expects it, and else that of 0
 abbrev pub IsUsualFirst : List (List ℕ) → List Event → ℕ → Type 0
 IsUsualFirst values events first =
-    (null : ℕ) × (zero_ : ℕ) × (slice_get values null ≡ Some (codes "null")) × (slice_get values zero_ ≡ Some (codes "0")) × (first ≡ (if list_any (speaks_of null) events then null else zero_))
+    (null : ℕ) × (zero_ : ℕ) × (slice_get values null ≡ Some (codes "null"))
+    × (slice_get values zero_ ≡ Some (codes "0")) × (first ≡ (if list_any (speaks_of null) events then null else zero_))
 
 -- the number of a word, if there is one
 abbrev pub IsNumberOf : List (List ℕ) → Result (List ℕ) Why → ℕ → Type 0
@@ -43,7 +45,9 @@ registers_for keys = max keys 1
 
 -- what is found out of a history of the rows under the numbers of their processes, if there is one
 abbrev pub IsSerialOf : ℕ → ℕ → List Row → Serial → Type 0
-IsSerialOf processes registers rows serial = (serial ≡ Unjudged) ⊎ ((entries : List Entry) × IsStood Own processes registers rows entries × RulesSerial registers entries serial)
+IsSerialOf processes registers rows serial =
+    (serial ≡ Unjudged)
+    ⊎ ((entries : List Entry) × IsStood Own processes registers rows entries × RulesSerial registers entries serial)
 
 -- a point order, or that there is none
 abbrev pub AreSought : {A : Type 0} → ℕ → List Entry → Option (Vec Point A) → Type 0
@@ -76,4 +80,5 @@ IsHeard heard = (told : List (ℕ × Telling)) × AreEvents heard.words told hea
 pub record IsJudged {A : Type 0} (asked : Option (List ℕ)) (heard : Heard) (v : Verdict A) : Type 0 where
   pub turns : first_wrong (none_running (length heard.words.processes)) heard.events.items ≡ None
   pub first : IsFirst asked heard.words.values heard.events.items v.first
-  pub judged : AreJudged (length heard.words.processes) (length heard.words.keys) (rows_from v.first 0 heard.events.items) v
+  pub judged : AreJudged (length heard.words.processes) (length heard.words.keys)
+      (rows_from v.first 0 heard.events.items) v

@@ -88,7 +88,8 @@ pub(crate) fn answer_of(
 
 /// Writes an answer, to the last byte.
 pub(crate) fn write_of<W: Write>(writer: &mut W, answer: &Answer) -> Result<(), Fault>
-    ensures { MatchResult result (λ _. Appends (W.contents writer.old) (W.contents writer.new) (answer_text answer.now)) (λ f. f ≡ Fault.Output) }
+    ensures { MatchResult result (λ _. Appends (W.contents writer.old) (W.contents writer.new) (answer_text answer.now))
+        (λ f. f ≡ Fault.Output) }
 {
     match answer {
         Answer::Text(text) => write_answer(writer, text.as_bytes()),

@@ -84,7 +84,8 @@ fn answer_lines<W: Write>(
     text: &str,
     writer: &mut W,
 ) -> Result<bool, CommandFault>
-    ensures ok { IfOk result (λ found. IsJudgedText flags.entry found (Appends (W.contents writer.old) (W.contents writer.new)) text.now) }
+    ensures ok { IfOk result
+        (λ found. IsJudgedText flags.entry found (Appends (W.contents writer.old) (W.contents writer.new)) text.now) }
     ensures silent { IfErr result (λ f. f ≢ CommandFault.Command Fault.Output → writer.new ≡ writer.old) }
 {
     let judged = judged(global, flags, text)?;
@@ -99,7 +100,9 @@ fn answer_report<W: Write>(
     text: String,
     writer: &mut W,
 ) -> Result<bool, CommandFault>
-    ensures ok { IfOk result (λ found. IsJudgedAs Kind.Report flags.entry found (Appends (W.contents writer.old) (W.contents writer.new)) (string_bytes text)) }
+    ensures ok { IfOk result
+        (λ found. IsJudgedAs Kind.Report flags.entry found (Appends (W.contents writer.old) (W.contents writer.new))
+        (string_bytes text)) }
     ensures silent { IfErr result (λ f. f ≢ CommandFault.Command Fault.Output → writer.new ≡ writer.old) }
 {
     if flags.first.is_some() {
@@ -118,7 +121,9 @@ fn answer<W: Write>(
     text: String,
     writer: &mut W,
 ) -> Result<bool, CommandFault>
-    ensures ok { IfOk result (λ found. IsAnyJudged flags.entry found (Appends (W.contents writer.old) (W.contents writer.new)) (string_bytes text)) }
+    ensures ok { IfOk result
+        (λ found. IsAnyJudged flags.entry found (Appends (W.contents writer.old) (W.contents writer.new))
+        (string_bytes text)) }
     ensures silent { IfErr result (λ f. f ≢ CommandFault.Command Fault.Output → writer.new ≡ writer.old) }
 {
     match kind_of(text.as_bytes()) {
@@ -133,7 +138,9 @@ fn obey<R: Read, W: Write>(
     reader: &mut R,
     writer: &mut W,
 ) -> Result<bool, CommandFault>
-    ensures ok { IfOk result (λ found. IfSome (R.remaining reader.old) (IsAnyJudged flags.entry found (Appends (W.contents writer.old) (W.contents writer.new)))) }
+    ensures ok { IfOk result
+        (λ found. IfSome (R.remaining reader.old)
+        (IsAnyJudged flags.entry found (Appends (W.contents writer.old) (W.contents writer.new)))) }
     ensures within { OnOk result (IfSome (R.remaining reader.old) (λ xs. length xs ≤ LONGEST_INPUT)) }
     ensures silent { IfErr result (λ f. f ≢ CommandFault.Command Fault.Output → writer.new ≡ writer.old) }
 {
@@ -181,8 +188,13 @@ pub fn judge_text<R: Read, W: Write, E: Write>(
 ) -> u8
     ensures range { result ≤ 1 }
     ensures within { result ≡ 0 → IfSome (R.remaining reader.old) (λ xs. length xs ≤ LONGEST_INPUT) }
-    ensures found { result ≡ 0 → IfSome (R.remaining reader.old) (IsAnyJudged flags.entry true (Appends (W.contents writer.old) (W.contents writer.new))) }
-    ensures none { result ≡ 1 → (IfSome (R.remaining reader.old) (IsAnyJudged flags.entry false (Appends (W.contents writer.old) (W.contents writer.new))) × (errors.new ≡ errors.old))
+    ensures found { result ≡ 0
+        → IfSome (R.remaining reader.old)
+        (IsAnyJudged flags.entry true (Appends (W.contents writer.old) (W.contents writer.new))) }
+    ensures none { result ≡ 1
+        → (IfSome (R.remaining reader.old)
+        (IsAnyJudged flags.entry false (Appends (W.contents writer.old) (W.contents writer.new)))
+        × (errors.new ≡ errors.old))
         ⊎ ((f : AnyFault) × (f ≢ CommandFault.Command Fault.Output → writer.new ≡ writer.old)) }
     ensures quiet { result ≡ 0 → errors.new ≡ errors.old }
 {

@@ -1,6 +1,10 @@
 //! Reading a history of EDN.
 ghost use Rattle.std.specs.Prelude.{◌≡◌, ◌⊎◌, ℕ, [], List, Ok, Err, IfOk, IfErr, OnOk};
-ghost use Rattle.reg_observed.specs.Edn.{at_start, begins_edn as begins_edn_in, begins_form as begins_form_in, behind, behind_blanks as behind_blanks_of, byte_does, byte_in, edn_tells, end_word as end_word_in, is_blank as is_blank_byte, is_listed as is_listed_at, is_rest as is_rest_at, is_whole as is_whole_in, line_behind as line_behind_byte, told_by, word_in};
+ghost use Rattle.reg_observed.specs.Edn.{at_start, begins_edn as begins_edn_in, begins_form as begins_form_in, behind};
+ghost use Rattle.reg_observed.specs.Edn.{behind_blanks as behind_blanks_of, byte_does, byte_in, edn_tells};
+ghost use Rattle.reg_observed.specs.Edn.{end_word as end_word_in, is_blank as is_blank_byte, is_listed as is_listed_at};
+ghost use Rattle.reg_observed.specs.Edn.{is_rest as is_rest_at, is_whole as is_whole_in};
+ghost use Rattle.reg_observed.specs.Edn.{line_behind as line_behind_byte, told_by, word_in};
 ghost use Rattle.reg_observed.specs.EdnWords.{json_text};
 ghost use Rattle.reg_observed.specs.Reading.{AreEvents};
 ghost use Rattle.reg_observed.specs.Told.{Gives, Telling};
@@ -149,7 +153,9 @@ fn line_behind(line: u32, byte: u8) -> u32
 fn tell(global: Global, line: u32, scan: &mut Scan, byte: u8) -> Result<Option<Told>, ReadFault>
     ensures told { IfOk result (λ o. told_by scan.old (byte_in byte scan.old) ≡ Ok o) }
     ensures behind { OnOk result (scan.new ≡ behind scan.old (byte_in byte scan.old)) }
-    ensures why { IfErr result (λ f. (f ≡ ReadFault.OutOfMemory) ⊎ ((why : AnyWhy) × (f ≡ ReadFault.Line line why) × (told_by scan.old (byte_in byte scan.old) ≡ Err why))) }
+    ensures why { IfErr result
+        (λ f. (f ≡ ReadFault.OutOfMemory)
+        ⊎ ((why : AnyWhy) × (f ≡ ReadFault.Line line why) × (told_by scan.old (byte_in byte scan.old) ≡ Err why))) }
 {
     match scan.tell(global, byte) {
         Ok(told) => Ok(told),
@@ -161,8 +167,12 @@ fn tell(global: Global, line: u32, scan: &mut Scan, byte: u8) -> Result<Option<T
 /// Adds all that the text tells.
 fn hear(global: Global, text: &[u8], heard: &mut Heard) -> Result<(), ReadFault>
     requires { heard.old.events.items ≡ [] }
-    ensures read { OnOk result ((told : List (ℕ × Telling)) × (edn_tells text.now ≡ Ok told) × AreEvents heard.new.words told heard.new.events.items) }
-    ensures refused { IfErr result (λ f. (f ≡ ReadFault.OutOfMemory) ⊎ ((line : ℕ) × (why : AnyWhy) × (f ≡ ReadFault.Line line why) × (edn_tells text.now ≡ Err (line, why)))) }
+    ensures read { OnOk result
+        ((told : List (ℕ × Telling)) × (edn_tells text.now ≡ Ok told)
+        × AreEvents heard.new.words told heard.new.events.items) }
+    ensures refused { IfErr result
+        (λ f. (f ≡ ReadFault.OutOfMemory)
+        ⊎ ((line : ℕ) × (why : AnyWhy) × (f ≡ ReadFault.Line line why) × (edn_tells text.now ≡ Err (line, why)))) }
 {
     let mut scan = Scan::new(global);
     let mut line = 1u32;
@@ -190,8 +200,11 @@ fn hear(global: Global, text: &[u8], heard: &mut Heard) -> Result<(), ReadFault>
 ///
 /// `Line` names the first line with which no such text goes on, and why.
 pub fn read_edn(global: Global, text: &str) -> Result<Heard, ReadFault>
-    ensures read { IfOk result (λ h. (told : List (ℕ × Telling)) × (edn_tells text.now ≡ Ok told) × AreEvents h.words told h.events.items) }
-    ensures refused { IfErr result (λ f. (f ≡ ReadFault.OutOfMemory) ⊎ ((line : ℕ) × (why : AnyWhy) × (f ≡ ReadFault.Line line why) × (edn_tells text.now ≡ Err (line, why)))) }
+    ensures read { IfOk result
+        (λ h. (told : List (ℕ × Telling)) × (edn_tells text.now ≡ Ok told) × AreEvents h.words told h.events.items) }
+    ensures refused { IfErr result
+        (λ f. (f ≡ ReadFault.OutOfMemory)
+        ⊎ ((line : ℕ) × (why : AnyWhy) × (f ≡ ReadFault.Line line why) × (edn_tells text.now ≡ Err (line, why)))) }
 {
     let mut heard = Heard::new(global);
     hear(global, text.as_bytes(), &mut heard)?;

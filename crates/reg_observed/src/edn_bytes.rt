@@ -1,6 +1,8 @@
 //! What each byte of a text of EDN does, by where it stands.
 ghost use Rattle.std.specs.Prelude.{◌≡◌, false};
-ghost use Rattle.reg_observed.specs.EdnBytes.{behind_hash as behind_hash_of, between as between_of, in_string as in_string_of, in_tag as in_tag_of, in_word as in_word_of, sort_of as sort_of_byte, turn_at as turn_at_byte};
+ghost use Rattle.reg_observed.specs.EdnBytes.{behind_hash as behind_hash_of, between as between_of};
+ghost use Rattle.reg_observed.specs.EdnBytes.{in_string as in_string_of, in_tag as in_tag_of, in_word as in_word_of};
+ghost use Rattle.reg_observed.specs.EdnBytes.{sort_of as sort_of_byte, turn_at as turn_at_byte};
 
 /// A kind of brackets. `Set` are those of a set, of which only the first differs from `Curly`.
 #[derive(Clone, Copy, PartialEq, Eq)]

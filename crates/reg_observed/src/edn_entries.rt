@@ -1,6 +1,10 @@
 //! What stands of an entry of EDN, as JSON, and of the text around it.
 ghost use Rattle.std.specs.Prelude.{◌≡◌, [], Ok, true, false};
-ghost use Rattle.reg_observed.specs.EdnEntries.{begun, close_in, close_last as close_last_in, close_outside as close_outside_of, closes, closing as closing_of, end_entry as end_entry_of, form_in, named_next, opening as opening_of, open_in, open_inside as open_inside_of, open_outside as open_outside_of, separator as separator_of};
+ghost use Rattle.reg_observed.specs.EdnEntries.{begun, close_in, close_last as close_last_in};
+ghost use Rattle.reg_observed.specs.EdnEntries.{close_outside as close_outside_of, closes, closing as closing_of};
+ghost use Rattle.reg_observed.specs.EdnEntries.{end_entry as end_entry_of, form_in, named_next, opening as opening_of};
+ghost use Rattle.reg_observed.specs.EdnEntries.{open_in, open_inside as open_inside_of};
+ghost use Rattle.reg_observed.specs.EdnEntries.{open_outside as open_outside_of, separator as separator_of};
 ghost use Rattle.reg_observed.specs.Told.{Gives};
 
 use crate::edn_bytes::Bracket;
@@ -45,7 +49,15 @@ impl Model for Draft {
 
     ghost Value = { Drafted };
 
-    ghost view = { λ d. record { listing = d.listing; inside = d.inside; brackets = d.brackets.items; named = d.named; fresh = d.fresh; json = d.json.items } };
+    ghost view = { λ d.
+        record {
+          listing = d.listing;
+          inside = d.inside;
+          brackets = d.brackets.items;
+          named = d.named;
+          fresh = d.fresh;
+          json = d.json.items;
+        } };
 }
 
 /// Whether a bracket closes one that is open.
@@ -84,7 +96,15 @@ fn closing(bracket: Bracket) -> &'static [u8]
 impl Draft {
     /// Nothing was read yet.
     pub(crate) fn new(global: Global) -> Draft
-        ensures { result ≡ record { listing = Listing.Fresh; inside = false; brackets = []; named = false; fresh = true; json = [] } }
+        ensures { result
+            ≡ record {
+              listing = Listing.Fresh;
+              inside = false;
+              brackets = [];
+              named = false;
+              fresh = true;
+              json = [];
+            } }
     {
         Draft {
             listing: Listing::Fresh,

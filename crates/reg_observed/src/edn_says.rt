@@ -3,7 +3,8 @@ ghost use Rattle.std.specs.Prelude.{◌≡◌, codes, option_and_then, option_ma
 ghost use Rattle.serde_json.specs.Find.{get};
 ghost use Rattle.serde_json.specs.View.{items_view, view};
 ghost use Rattle.reg_observed.specs.Told.{Gives};
-ghost use Rattle.reg_observed.specs.EdnSays.{entry_in, entry_says, is_aside as is_aside_in, is_note as is_note_in, keyed_in, told_keyed, two_in, two_of};
+ghost use Rattle.reg_observed.specs.EdnSays.{entry_in, entry_says, is_aside as is_aside_in, is_note as is_note_in};
+ghost use Rattle.reg_observed.specs.EdnSays.{keyed_in, told_keyed, two_in, two_of};
 
 use crate::faults::{Untold, Why};
 use crate::json_lines::{act, is_text, says, told, told_at};
@@ -33,7 +34,8 @@ fn two_elements(items: &[Value]) -> Option<Keyed<'_>>
 
 /// The two elements of the member `value`, where it is an array of two.
 fn pair_of(value: &Value) -> Option<Keyed<'_>>
-    ensures { option_map (λ k. (view k.key.now, view k.value.now)) result ≡ option_and_then two_in (get (codes "value") (view value.now)) }
+    ensures { option_map (λ k. (view k.key.now, view k.value.now)) result
+        ≡ option_and_then two_in (get (codes "value") (view value.now)) }
 {
     two_elements(value.get("value")?.as_array()?)
 }

@@ -1,7 +1,9 @@
 //! What words of EDN are in JSON.
 ghost use Rattle.std.specs.Prelude.{◌≡◌, ◌<◌, ◌/◌, ◌%◌, IfOk, OnOk};
 ghost use Rattle.std.specs.List.{list_all};
-ghost use Rattle.reg_observed.specs.EdnWords.{hex_digit, is_digit as is_decimal, is_integer as is_integer_word, is_natural as is_natural_word, json_byte, json_text, json_word, without_minus as without_minus_of};
+ghost use Rattle.reg_observed.specs.EdnWords.{hex_digit, is_digit as is_decimal, is_integer as is_integer_word};
+ghost use Rattle.reg_observed.specs.EdnWords.{is_natural as is_natural_word, json_byte, json_text, json_word};
+ghost use Rattle.reg_observed.specs.EdnWords.{without_minus as without_minus_of};
 
 use std::alloc::{AllocError, Global};
 

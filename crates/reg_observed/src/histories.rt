@@ -57,7 +57,9 @@ pub(crate) fn history_in<A: Allocator + Copy>(
     heard: &Heard,
     rows: &[Row],
 ) -> Result<History<A>, JudgeFault>
-    ensures stands { IfOk result (λ h. IsStood Naming.Any (length heard.now.words.processes) (registers_for (length heard.now.words.keys)) rows.now h.entries) }
+    ensures stands { IfOk result
+        (λ h. IsStood Naming.Any (length heard.now.words.processes) (registers_for (length heard.now.words.keys))
+        rows.now h.entries) }
     ensures registers { IfOk result (λ h. h.shape.registers ≡ registers_for (length heard.now.words.keys)) }
 {
     let shape = shape_of(heard.words.keys.count())?;

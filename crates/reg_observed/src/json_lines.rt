@@ -1,11 +1,16 @@
 //! A line of JSON, and the event that it tells of.
-ghost use Rattle.std.specs.Prelude.{◌≡◌, codes, option_map, option_and_then, string_bytes, IfOk, IsUtf8, Ok, Some, is_some};
+ghost use Rattle.std.specs.Prelude.{◌≡◌, codes, option_map, option_and_then, string_bytes, IfOk, IsUtf8, Ok, Some};
+ghost use Rattle.std.specs.Prelude.{is_some};
 ghost use Rattle.std.specs.Str.{bytes_eq};
 ghost use Rattle.serde_json.specs.Find.{as_str};
 ghost use Rattle.serde_json.specs.View.{items_view, view};
 ghost use Rattle.serde_json.specs.Written.{compact_text};
-ghost use Rattle.reg_observed.specs.Told.{Gives, act_named, failed_as, has_no_value, moment_named, moment_of as moment_of_line};
-ghost use Rattle.reg_observed.specs.JsonLines.{act_in, both_texts, call_in, items_pair, line_says, is_named, is_nemesis, is_word, moment_in, one_value, pair_of, string_in, told_at as told_at_key, told_in, value_pair, value_said, values_of, word_in, word_or_null_of};
+ghost use Rattle.reg_observed.specs.Told.{Gives, act_named, failed_as, has_no_value, moment_named};
+ghost use Rattle.reg_observed.specs.Told.{moment_of as moment_of_line};
+ghost use Rattle.reg_observed.specs.JsonLines.{act_in, both_texts, call_in, items_pair, line_says, is_named};
+ghost use Rattle.reg_observed.specs.JsonLines.{is_nemesis, is_word, moment_in, one_value, pair_of, string_in};
+ghost use Rattle.reg_observed.specs.JsonLines.{told_at as told_at_key, told_in, value_pair, value_said, values_of};
+ghost use Rattle.reg_observed.specs.JsonLines.{word_in, word_or_null_of};
 
 use crate::events::Moment;
 use crate::faults::{Untold, Why};
@@ -253,7 +258,9 @@ pub(crate) fn told_at(
     key: Option<&Value>,
     said: Option<&Value>,
 ) -> Result<Told, Untold>
-    ensures { Gives (λ t. t) result (told_at_key (option_map (λ v. view v.now) key.entry) (option_map (λ v. view v.now) said.entry) (view value.now)) }
+    ensures { Gives (λ t. t) result
+        (told_at_key (option_map (λ v. view v.now) key.entry) (option_map (λ v. view v.now) said.entry)
+        (view value.now)) }
 {
     let process = word(global, value, "process", Why::BadProcess)?;
     let moment = moment(value)?;

@@ -47,8 +47,12 @@ fn own_history<A: Allocator + Copy>(
     heard: &Heard,
     rows: &[Row],
 ) -> Result<Option<History<A>>, JudgeFault>
-    ensures stands { IfOk result (λ o. IfSome o (λ h. IsStood Naming.Own (length heard.now.words.processes) (registers_for (length heard.now.words.keys)) rows.now h.entries)) }
-    ensures registers { IfOk result (λ o. IfSome o (λ h. h.shape.registers ≡ registers_for (length heard.now.words.keys))) }
+    ensures stands { IfOk result
+        (λ o. IfSome o
+        (λ h. IsStood Naming.Own (length heard.now.words.processes) (registers_for (length heard.now.words.keys))
+        rows.now h.entries)) }
+    ensures registers { IfOk result
+        (λ o. IfSome o (λ h. h.shape.registers ≡ registers_for (length heard.now.words.keys))) }
 {
     let shape = shape_of(heard.words.keys.count())?;
     let processes = heard.words.processes.count();
@@ -65,7 +69,8 @@ fn serial_of<A: Allocator + Copy>(
     heard: &Heard,
     rows: &[Row],
 ) -> Result<Serial, JudgeFault>
-    ensures { IfOk result (IsSerialOf (length heard.now.words.processes) (registers_for (length heard.now.words.keys)) rows.now) }
+    ensures { IfOk result
+        (IsSerialOf (length heard.now.words.processes) (registers_for (length heard.now.words.keys)) rows.now) }
 {
     let history = own_history(alloc, heard, rows)?;
     match history {
@@ -76,7 +81,8 @@ fn serial_of<A: Allocator + Copy>(
 
 /// What is found out of each key.
 fn rulings_of(global: Global, heard: &Heard, rows: &[Row]) -> Result<Vec<Ruling>, JudgeFault>
-    ensures { IfOk result (λ v. AreRuled (length heard.now.words.processes) (length heard.now.words.keys) rows.now v.items) }
+    ensures { IfOk result
+        (λ v. AreRuled (length heard.now.words.processes) (length heard.now.words.keys) rows.now v.items) }
 {
     let count = heard.words.keys.count();
     if count > MOST_REGISTERS as usize {
@@ -150,7 +156,8 @@ fn judge_rows<A: Allocator + Copy>(
 /// The calls and answers of the events, where each process is in turn.
 fn rows_in_turn(global: Global, heard: &Heard, first: u32) -> Result<Vec<Row>, JudgeFault>
     requires { IsHeard heard.now }
-    ensures turns { OnOk result (first_wrong (none_running (length heard.now.words.processes)) heard.now.events.items ≡ None) }
+    ensures turns { OnOk result
+        (first_wrong (none_running (length heard.now.words.processes)) heard.now.events.items ≡ None) }
     ensures rows { IfOk result (λ v. v.items ≡ rows_from first 0 heard.now.events.items) }
 {
     if heard.events.len() > MOST_EVENTS as usize {
@@ -181,7 +188,9 @@ pub fn judge<A: Allocator + Copy>(
 ) -> Result<Verdict<A>, JudgeFault>
     requires { IsHeard heard.old }
     ensures judged { IfOk result (IsJudged (option_copied asked.entry) heard.new) }
-    ensures told { OnOk result ((told : List (ℕ × Telling)) → AreEvents heard.old.words told heard.old.events.items → AreEvents heard.new.words told heard.new.events.items) }
+    ensures told { OnOk result
+        ((told : List (ℕ × Telling)) → AreEvents heard.old.words told heard.old.events.items
+        → AreEvents heard.new.words told heard.new.events.items) }
 {
     let first = first_value(global, &mut heard.words.values, &heard.events, asked)?;
     let rows = rows_in_turn(global, heard, first)?;

@@ -10,5 +10,7 @@ use std::alloc::Allocator;
 
 /// A point order is found exactly where what is found out of each key is that it is linearizable, if there is a key.
 pub fn keys_agree_with_the_whole<A: Allocator + Copy>(verdict: &Verdict<A>)
-    ensures { (processes keys : ℕ) (rows : List Row) → 0 < keys → AreJudged processes keys rows verdict.now → (is_some verdict.now.points ≡ true) ↔ ((key : ℕ) (ruling : Ruling) → slice_get verdict.now.keys.items key ≡ Some ruling → ruling ≡ Linearizable) }
+    ensures { (processes keys : ℕ) (rows : List Row) → 0 < keys → AreJudged processes keys rows verdict.now
+        → (is_some verdict.now.points ≡ true)
+        ↔ ((key : ℕ) (ruling : Ruling) → slice_get verdict.now.keys.items key ≡ Some ruling → ruling ≡ Linearizable) }
 {}

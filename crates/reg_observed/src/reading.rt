@@ -35,7 +35,9 @@ pub(crate) fn add(heard: &mut Heard, number: u32, told: Option<Told>) -> Result<
 /// What the line of this number tells, None where it tells of no call.
 fn tell(global: Global, number: u32, line: &[u8]) -> Result<Option<Told>, ReadFault>
     ensures told { IfOk result (λ o. line_says line.now ≡ Ok o) }
-    ensures why { IfErr result (λ f. (f ≡ ReadFault.OutOfMemory) ⊎ ((why : AnyWhy) × (f ≡ ReadFault.Line number why) × (line_says line.now ≡ Err why))) }
+    ensures why { IfErr result
+        (λ f. (f ≡ ReadFault.OutOfMemory)
+        ⊎ ((why : AnyWhy) × (f ≡ ReadFault.Line number why) × (line_says line.now ≡ Err why))) }
 {
     match read_line(global, line) {
         Ok(told) => Ok(told),
@@ -47,8 +49,13 @@ fn tell(global: Global, number: u32, line: &[u8]) -> Result<Option<Told>, ReadFa
 /// Adds all that the lines tell.
 fn hear(global: Global, lines: &mut Lines<'_>, heard: &mut Heard) -> Result<(), ReadFault>
     requires { heard.old.events.items ≡ [] }
-    ensures read { OnOk result ((told : List (ℕ × Telling)) × (lines_tell 1 lines.old.left ≡ Ok told) × AreEvents heard.new.words told heard.new.events.items) }
-    ensures refused { IfErr result (λ f. (f ≡ ReadFault.OutOfMemory) ⊎ ((f ≡ ReadFault.TooLong) × (MOST_EVENTS < length lines.old.left)) ⊎ ((line : ℕ) × (why : AnyWhy) × (f ≡ ReadFault.Line line why) × (lines_tell 1 lines.old.left ≡ Err (line, why)))) }
+    ensures read { OnOk result
+        ((told : List (ℕ × Telling)) × (lines_tell 1 lines.old.left ≡ Ok told)
+        × AreEvents heard.new.words told heard.new.events.items) }
+    ensures refused { IfErr result
+        (λ f. (f ≡ ReadFault.OutOfMemory) ⊎ ((f ≡ ReadFault.TooLong) × (MOST_EVENTS < length lines.old.left))
+        ⊎ ((line : ℕ) × (why : AnyWhy) × (f ≡ ReadFault.Line line why)
+        × (lines_tell 1 lines.old.left ≡ Err (line, why)))) }
 {
     for place in 0..MOST_EVENTS {
         let Some(line) = lines.next() else {
@@ -71,8 +78,13 @@ fn hear(global: Global, lines: &mut Lines<'_>, heard: &mut Heard) -> Result<(), 
 ///
 /// `Line` names the first line that is refused, and why; `TooLong` is told of more than `limits::MOST_EVENTS` lines.
 pub fn read_json_lines(global: Global, text: &str) -> Result<Heard, ReadFault>
-    ensures read { IfOk result (λ h. (told : List (ℕ × Telling)) × (lines_tell 1 (lines_of text.now) ≡ Ok told) × AreEvents h.words told h.events.items) }
-    ensures refused { IfErr result (λ f. (f ≡ ReadFault.OutOfMemory) ⊎ ((f ≡ ReadFault.TooLong) × (MOST_EVENTS < length (lines_of text.now))) ⊎ ((line : ℕ) × (why : AnyWhy) × (f ≡ ReadFault.Line line why) × (lines_tell 1 (lines_of text.now) ≡ Err (line, why)))) }
+    ensures read { IfOk result
+        (λ h. (told : List (ℕ × Telling)) × (lines_tell 1 (lines_of text.now) ≡ Ok told)
+        × AreEvents h.words told h.events.items) }
+    ensures refused { IfErr result
+        (λ f. (f ≡ ReadFault.OutOfMemory) ⊎ ((f ≡ ReadFault.TooLong) × (MOST_EVENTS < length (lines_of text.now)))
+        ⊎ ((line : ℕ) × (why : AnyWhy) × (f ≡ ReadFault.Line line why)
+        × (lines_tell 1 (lines_of text.now) ≡ Err (line, why)))) }
 {
     let mut heard = Heard::new(global);
     let mut lines = Lines::new(text.as_bytes());
@@ -87,8 +99,12 @@ pub fn read_json_lines(global: Global, text: &str) -> Result<Heard, ReadFault>
 /// `Line` names the first line that is refused, and why; `TooLong` is told of more than `limits::MOST_EVENTS` lines of
 /// JSON.
 pub fn read_history(global: Global, text: &str) -> Result<Heard, ReadFault>
-    ensures read { IfOk result (λ h. (told : List (ℕ × Telling)) × (text_tells text.now ≡ Ok told) × AreEvents h.words told h.events.items) }
-    ensures refused { IfErr result (λ f. (f ≡ ReadFault.OutOfMemory) ⊎ ((f ≡ ReadFault.TooLong) × (begins_edn_in text.now ≡ false) × (MOST_EVENTS < length (lines_of text.now))) ⊎ ((line : ℕ) × (why : AnyWhy) × (f ≡ ReadFault.Line line why) × (text_tells text.now ≡ Err (line, why)))) }
+    ensures read { IfOk result
+        (λ h. (told : List (ℕ × Telling)) × (text_tells text.now ≡ Ok told) × AreEvents h.words told h.events.items) }
+    ensures refused { IfErr result
+        (λ f. (f ≡ ReadFault.OutOfMemory)
+        ⊎ ((f ≡ ReadFault.TooLong) × (begins_edn_in text.now ≡ false) × (MOST_EVENTS < length (lines_of text.now)))
+        ⊎ ((line : ℕ) × (why : AnyWhy) × (f ≡ ReadFault.Line line why) × (text_tells text.now ≡ Err (line, why)))) }
 {
     if begins_edn(text.as_bytes()) {
         read_edn(global, text)

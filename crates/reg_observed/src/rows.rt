@@ -1,6 +1,7 @@
 //! The calls and answers that make a history: of each event what it means, by how its call ends.
 ghost use Rattle.std.specs.Prelude.{◌≡◌, ◌<◌, ◌≤◌, ℕ, [], IfOk, OnOk, Some, length, reverse, slice_get};
-ghost use Rattle.reg_observed.specs.Rows.{answer_in, counts, numbered, row_before, row_of as row_of_event, rows_from, step_of as step_of_event};
+ghost use Rattle.reg_observed.specs.Rows.{answer_in, counts, numbered, row_before, row_of as row_of_event, rows_from};
+ghost use Rattle.reg_observed.specs.Rows.{step_of as step_of_event};
 ghost use Rattle.reg_observed.specs.declared.events.Event.{Event as AnyEvent};
 
 use crate::events::{Event, Moment};

@@ -21,5 +21,13 @@ impl Model for Told {
 
     ghost Value = { Telling };
 
-    ghost view = { λ t. record { process = string_bytes t.process; moment = t.moment; act = t.act; key = string_bytes t.key; expected = string_bytes t.expected; value = string_bytes t.value } };
+    ghost view = { λ t.
+        record {
+          process = string_bytes t.process;
+          moment = t.moment;
+          act = t.act;
+          key = string_bytes t.key;
+          expected = string_bytes t.expected;
+          value = string_bytes t.value;
+        } };
 }

@@ -53,7 +53,10 @@ pub(crate) fn check_turns(
 ) -> Result<(), ReadFault>
     requires { (k : ℕ) (e : AnyEvent) → slice_get events.now k ≡ Some e → e.process < processes }
     ensures right { OnOk result (first_wrong (none_running processes) events.now ≡ None) }
-    ensures wrong { IfErr result (λ f. (f ≡ ReadFault.OutOfMemory) ⊎ ((line : ℕ) × (why : AnyWhy) × (f ≡ ReadFault.Line line why) × (first_wrong (none_running processes) events.now ≡ Some (line, why)))) }
+    ensures wrong { IfErr result
+        (λ f. (f ≡ ReadFault.OutOfMemory)
+        ⊎ ((line : ℕ) × (why : AnyWhy) × (f ≡ ReadFault.Line line why)
+        × (first_wrong (none_running processes) events.now ≡ Some (line, why)))) }
 {
     let mut running = vec![in global; None; processes]?;
     for event in events {

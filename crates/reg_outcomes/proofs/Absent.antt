@@ -1,5 +1,6 @@
 -- Outcomes that no play had.
-use Rattle.std.proofs.Common.{◌≡◌, ℕ, ◌+◌, ◌≤◌, true, false, List, [], ◌∷◌, ◌++◌, Option, Some, None, refl, sym, ◌∙◌, subst, arith, length-append}
+use Rattle.std.proofs.Common.{◌≡◌, ℕ, ◌+◌, ◌≤◌, true, false, List, [], ◌∷◌, ◌++◌, Option, Some, None, refl, sym, ◌∙◌}
+use Rattle.std.proofs.Common.{subst, arith, length-append}
 use Rattle.std.specs.Option.{is_some}
 use Rattle.std.specs.BTreeMap.{BTreeMap, get}
 use Rattle.reg_base.specs.declared.memory.Op.{Op}
@@ -33,7 +34,8 @@ module _ {K : Type 0} (items : K → List ToldAnswer) (plays : List Seen) (told 
 
 module _ (plays : List Seen) (others : List Interleaving) (i : Interleaving) where
   -- one outcome more
-  pub absent_more : (n : ℕ) → ¬ WasDrawn plays i → CountsUndrawn plays others n → CountsUndrawn plays (others ++ i ∷ []) (n + 1)
+  pub absent_more : (n : ℕ) → ¬ WasDrawn plays i → CountsUndrawn plays others n
+      → CountsUndrawn plays (others ++ i ∷ []) (n + 1)
   absent_more n never (those, are, e) = (those ++ i ∷ [], those_more i never are, (let l = length-append those (i ∷ []) in omega (arith, e, l)))
 
   pub absent_same : (n : ℕ) → WasDrawn plays i → CountsUndrawn plays others n → CountsUndrawn plays (others ++ i ∷ []) n
@@ -47,7 +49,9 @@ module _ (given scripts : List (List Op)) (held registers : ℕ) (same : given �
   by_names : (o : Option ℕ) → TellsUndrawn given held plays o → TellsUndrawn scripts registers plays o
   by_names o told = subst (λ s. TellsUndrawn s registers plays o) same (subst (λ n. TellsUndrawn given n plays o) as_many told)
 
-  pub tells_few : (stages n : ℕ) (found listed : List Interleaving) → CountsStages given held stages → stages ≤ MOST_COUNTED_STAGES → AreAll given held found → listed ≡ found → CountsUndrawn plays listed n → TellsUndrawn scripts registers plays (Some n)
+  pub tells_few : (stages n : ℕ) (found listed : List Interleaving) → CountsStages given held stages
+      → stages ≤ MOST_COUNTED_STAGES → AreAll given held found → listed ≡ found → CountsUndrawn plays listed n
+      → TellsUndrawn scripts registers plays (Some n)
   tells_few stages n found listed counts few all is counted = by_names (Some n) (stages, counts, few, found, all, subst (λ l. CountsUndrawn plays l n) is counted)
 
   pub tells_many : HasMoreStages given held MOST_COUNTED_STAGES → TellsUndrawn scripts registers plays None

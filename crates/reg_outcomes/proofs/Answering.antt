@@ -1,5 +1,6 @@
 -- Scripts are used up where each of their operations is answered.
-use Rattle.std.proofs.Common.{◌≡◌, inl, inr, ℕ, ◌<◌, ◌≤◌, ◌-◌, ◌↔◌, List, length, Option, Some, None, refl, ap, sym, ◌∙◌, arith, take_all}
+use Rattle.std.proofs.Common.{◌≡◌, inl, inr, ℕ, ◌<◌, ◌≤◌, ◌-◌, ◌↔◌, List, length, Option, Some, None, refl, ap, sym}
+use Rattle.std.proofs.Common.{◌∙◌, arith, take_all}
 use Rattle.std.proofs.lemmas.Bool.{cases_lt}
 use Rattle.std.proofs.lemmas.List.{length-map}
 use Rattle.reg_base.specs.declared.memory.Op.{Op}
@@ -83,7 +84,9 @@ module _ (start : Op → ℕ → Start) (scripts : List (List Op)) (registers : 
   pub used_up : UsesUp start scripts registers events
   used_up = record { accepted = accepted; called = all_called; idle = idle }
 
-pub used_where_answered : (start : Op → ℕ → Start) (scripts : List (List Op)) (registers : ℕ) (events : List Event) → KeepsLaws start → (whole start (length scripts) registers events).accepted ≡ events → ((p : ℕ) → p < length scripts → FollowsScript scripts events p)
+pub used_where_answered : (start : Op → ℕ → Start) (scripts : List (List Op)) (registers : ℕ) (events : List Event)
+    → KeepsLaws start → (whole start (length scripts) registers events).accepted ≡ events
+    → ((p : ℕ) → p < length scripts → FollowsScript scripts events p)
     → UsesUp start scripts registers events ↔ AllAnswered scripts (whole start (length scripts) registers events).history
 used_where_answered start scripts registers events laws accepted follows =
     (λ used. (has_scripts start scripts registers laws events used).finished, λ all. used_up start scripts registers laws events accepted follows all)

@@ -1,5 +1,6 @@
 -- The outcomes that a layer tells, and their list.
-use Rattle.std.proofs.Common.{◌≡◌, ◌⊎◌, inl, inr, ℕ, zero, suc, ◌<◌, List, [], ◌∷◌, ◌++◌, map, get_or, refl, ap, ap₂, sym, ◌∙◌, subst}
+use Rattle.std.proofs.Common.{◌≡◌, ◌⊎◌, inl, inr, ℕ, zero, suc, ◌<◌, List, [], ◌∷◌, ◌++◌, map, get_or, refl, ap, ap₂}
+use Rattle.std.proofs.Common.{sym, ◌∙◌, subst}
 use Rattle.std.specs.declared.cmp.Ordering.TheVariants.{Less}
 use Rattle.std.specs.Cmp.Lexicographic.{slice_cmp}
 use Rattle.std.specs.List.Sorted.{IsStrictlySortedBy}
@@ -34,7 +35,8 @@ in_at read [] k x at = absurd cc
 in_at read (y ∷ xs) zero x at = inl (ap read (sym (same_Some y x at)))
 in_at read (y ∷ xs) (suc k) x at = inr (in_at read xs k x at)
 
-at_in : {X Y : Type 0} (read : X → Y) (xs : List X) (y : Y) → In y (map read xs) → (k : ℕ) × (x : X) × IsAt xs k x × (y ≡ read x)
+at_in : {X Y : Type 0} (read : X → Y) (xs : List X) (y : Y) → In y (map read xs)
+    → (k : ℕ) × (x : X) × IsAt xs k x × (y ≡ read x)
 at_in read [] y h = absurd h
 at_in read (x ∷ xs) y (inl e) = (0, x, refl, e)
 at_in read (x ∷ xs) y (inr h) = let there = at_in read xs y h in (suc there.0, there.1, there.2, there.3)

@@ -1,5 +1,6 @@
 -- Combinations of values, and those that no outcome has.
-use Rattle.std.proofs.Common.{◌≡◌, ◌⊎◌, inl, inr, ℕ, zero, suc, ◌+◌, ◌<◌, ◌≤◌, List, [], ◌∷◌, ◌++◌, length, map, take, drop, get_or, refl, ap, sym, ◌∙◌, subst, arith, length-append}
+use Rattle.std.proofs.Common.{◌≡◌, ◌⊎◌, inl, inr, ℕ, zero, suc, ◌+◌, ◌<◌, ◌≤◌, List, [], ◌∷◌, ◌++◌, length, map, take}
+use Rattle.std.proofs.Common.{drop, get_or, refl, ap, sym, ◌∙◌, subst, arith, length-append}
 use Rattle.std.proofs.lemmas.Bool.{cases_eq}
 use Rattle.std.proofs.lemmas.List.{length-map, length-drop, take_more}
 use Rattle.std.proofs.Math.Seq.{take-append_seam}
@@ -11,7 +12,8 @@ use Rattle.reg_checkers.proofs.Places.{IsAt-map, at_map}
 use Rattle.reg_outcomes.specs.declared.told.ToldAnswer.{ToldAnswer}
 use Rattle.reg_outcomes.specs.Interleavings.{Interleaving}
 use Rattle.reg_outcomes.specs.Nevers.{AreOver, IsNever, StandsAt, tells}
-use Rattle.reg_outcomes.specs.Combining.{AreCombinations, AreOnce, AreValuesAt, IsCombination, IsLonger, IsLongerOf, cut_all}
+use Rattle.reg_outcomes.specs.Combining.{AreCombinations, AreOnce, AreValuesAt, IsCombination, IsLonger, IsLongerOf}
+use Rattle.reg_outcomes.specs.Combining.{cut_all}
 use Rattle.reg_outcomes.proofs.Growing.{IsCut, at_in, in_at, is_cut, same_place}
 use Rattle.reg_outcomes.proofs.Stepping.{in_cases as in_one, in_more}
 
@@ -57,7 +59,8 @@ module _ (outcomes : List (List ToldAnswer)) where
       nothing [] e = refl
       nothing (v ∷ c) e = absurd (omega (arith, e))
 
-  pub is_longer : (k : ℕ) (values c to : List ToldAnswer) → AreValuesAt outcomes k values → IsCombination outcomes k c → IsLonger values c to → IsCombination outcomes (k + 1) to
+  pub is_longer : (k : ℕ) (values c to : List ToldAnswer) → AreValuesAt outcomes k values → IsCombination outcomes k c
+      → IsLonger values c to → IsCombination outcomes (k + 1) to
   is_longer k values c to are is (v, there, e) = subst (λ t. IsCombination outcomes (k + 1) t) (sym e) (record {
     count = (let a = length-append c (v ∷ []) in let b = is.count in omega (arith, a, b));
     each = λ j w at. elim (at_split c (v ∷ []) j w at) [ inl front ↦ is.each j w front | inr behind ↦ last j w behind ];
@@ -68,7 +71,8 @@ module _ (outcomes : List (List ToldAnswer)) where
       last j w (suc i, at, same) = absurd cc
 
   -- the combinations with one place more
-  pub next_all : (k : ℕ) (values : List ToldAnswer) (list next : List (List ToldAnswer)) → AreValuesAt outcomes k values → AreCombinations outcomes k list
+  pub next_all : (k : ℕ) (values : List ToldAnswer) (list next : List (List ToldAnswer)) → AreValuesAt outcomes k values
+      → AreCombinations outcomes k list
       → ((c : List ToldAnswer) → In c next → IsLongerOf values list c) → ((c : List ToldAnswer) → IsLongerOf values list c → In c next) → AreOnce next → AreCombinations outcomes (k + 1) next
   next_all k values list next are all only added once = record {
     only = λ c h. let from = only c h in is_longer k values from.0 c are (all.only from.0 from.1) from.2;
@@ -138,7 +142,8 @@ pub record AreFirstValues (outcomes : List (List ToldAnswer)) (k n : ℕ) (value
 
 module _ (outcomes : List (List ToldAnswer)) (k n : ℕ) (values : List ToldAnswer) where
   -- the next outcome has no new one
-  pub none_new : (o : List ToldAnswer) → IsAt outcomes n o → ((v : ToldAnswer) → IsAt o k v → In v values) → AreFirstValues outcomes k n values → AreFirstValues outcomes k (n + 1) values
+  pub none_new : (o : List ToldAnswer) → IsAt outcomes n o → ((v : ToldAnswer) → IsAt o k v → In v values)
+      → AreFirstValues outcomes k n values → AreFirstValues outcomes k (n + 1) values
   none_new o at there are = record {
     only = are.only;
     all = λ i p v lt here stands. elim (cases_eq i n) [
@@ -148,7 +153,8 @@ module _ (outcomes : List (List ToldAnswer)) (k n : ℕ) (values : List ToldAnsw
   }
 
   -- or this one
-  pub one_new : (o : List ToldAnswer) (w : ToldAnswer) → IsAt outcomes n o → IsAt o k w → AreFirstValues outcomes k n values → AreFirstValues outcomes k (n + 1) (values ++ w ∷ [])
+  pub one_new : (o : List ToldAnswer) (w : ToldAnswer) → IsAt outcomes n o → IsAt o k w
+      → AreFirstValues outcomes k n values → AreFirstValues outcomes k (n + 1) (values ++ w ∷ [])
   one_new o w at stands are = none_new-at (record {
     only = λ v h. elim (in_cases v values (w ∷ []) h) [
       | inl old ↦ are.only v old
@@ -175,27 +181,33 @@ module _ (outcomes : List (List ToldAnswer)) (k n : ℕ) (values : List ToldAnsw
   }
 
 -- one value more
-pub longer_more : (values c to : List ToldAnswer) (n : ℕ) (d : ToldAnswer) → n < length values → IsLonger (take n values) c to ⊎ (to ≡ c ++ get_or values n d ∷ []) → IsLonger (take (n + 1) values) c to
+pub longer_more : (values c to : List ToldAnswer) (n : ℕ) (d : ToldAnswer) → n < length values
+    → IsLonger (take n values) c to ⊎ (to ≡ c ++ get_or values n d ∷ []) → IsLonger (take (n + 1) values) c to
 longer_more values c to n d lt (inl (v, there, e)) = (v, subst (λ l. In v l) (sym (take_more values n d lt)) (in_left v (take n values) (get_or values n d ∷ []) there), e)
 longer_more values c to n d lt (inr e) = (get_or values n d, subst (λ l. In (get_or values n d) l) (sym (take_more values n d lt)) (in_right (get_or values n d) (take n values) (get_or values n d ∷ []) (inl refl)), e)
 
-pub longer_cases : (values c to : List ToldAnswer) (n : ℕ) (d : ToldAnswer) → n < length values → IsLonger (take (n + 1) values) c to → IsLonger (take n values) c to ⊎ (to ≡ c ++ get_or values n d ∷ [])
-longer_cases values c to n d lt (v, there, e) = elim (in_cases v (take n values) (get_or values n d ∷ []) (subst (λ l. In v l) (take_more values n d lt) there)) [
-  | inl old ↦ inl (v, old, e)
-  | inr new ↦ elim new [ inl same ↦ inr (e ∙ ap (λ w. c ++ w ∷ []) same) | inr none ↦ absurd none ]
-]
+pub longer_cases : (values c to : List ToldAnswer) (n : ℕ) (d : ToldAnswer) → n < length values
+    → IsLonger (take (n + 1) values) c to → IsLonger (take n values) c to ⊎ (to ≡ c ++ get_or values n d ∷ [])
+longer_cases values c to n d lt (v, there, e) =
+    elim (in_cases v (take n values) (get_or values n d ∷ []) (subst (λ l. In v l) (take_more values n d lt) there)) [
+      | inl old ↦ inl (v, old, e)
+      | inr new ↦ elim new [ inl same ↦ inr (e ∙ ap (λ w. c ++ w ∷ []) same) | inr none ↦ absurd none ]
+    ]
 
 module _ {K : Type 0} (read : K → List ToldAnswer) (values : List ToldAnswer) (xs : List K) (x : K) (to : List ToldAnswer) where
-  pub longer_of_more : IsLongerOf values (map read xs) to ⊎ IsLonger values (read x) to → IsLongerOf values (map read (xs ++ x ∷ [])) to
+  pub longer_of_more : IsLongerOf values (map read xs) to ⊎ IsLonger values (read x) to
+      → IsLongerOf values (map read (xs ++ x ∷ [])) to
   longer_of_more (inl (c, there, longer)) = (c, in_more read xs x c (inl there), longer)
   longer_of_more (inr longer) = (read x, in_more read xs x (read x) (inr refl), longer)
 
-  pub longer_of_cases : IsLongerOf values (map read (xs ++ x ∷ [])) to → IsLongerOf values (map read xs) to ⊎ IsLonger values (read x) to
+  pub longer_of_cases : IsLongerOf values (map read (xs ++ x ∷ [])) to
+      → IsLongerOf values (map read xs) to ⊎ IsLonger values (read x) to
   longer_of_cases (c, there, longer) = elim (in_more_cases c there) [ inl old ↦ inl (c, old, longer) | inr e ↦ inr (subst (λ d. IsLonger values d to) e longer) ]
     where
       in_more_cases : (c : List ToldAnswer) → In c (map read (xs ++ x ∷ [])) → In c (map read xs) ⊎ (c ≡ read x)
       in_more_cases c h = in_one read xs x c h
 
 -- what the n-th outcome tells
-pub at_told : (outcomes : List Interleaving) (n : ℕ) (item : Interleaving) (told : List ToldAnswer) → n < length outcomes → item ≡ get_or outcomes n item → item.told ≡ told → IsAt (tells outcomes) n told
+pub at_told : (outcomes : List Interleaving) (n : ℕ) (item : Interleaving) (told : List ToldAnswer)
+    → n < length outcomes → item ≡ get_or outcomes n item → item.told ≡ told → IsAt (tells outcomes) n told
 at_told outcomes n item told lt is same = subst (λ t. IsAt (tells outcomes) n t) same (IsAt-map (λ i. i.told) outcomes n item (slice_get_read outcomes (length outcomes) n item refl lt is))

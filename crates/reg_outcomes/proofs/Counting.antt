@@ -1,5 +1,6 @@
 -- What is told of one play more.
-use Rattle.std.proofs.Common.{◌≡◌, ◌≢◌, ◌⊎◌, inl, inr, ℕ, zero, suc, ◌+◌, ◌<◌, ◌≤◌, Bool, true, false, cond, List, [], ◌∷◌, ◌++◌, length, Option, Some, None, refl, ap, sym, ◌∙◌, subst, arith, length-append}
+use Rattle.std.proofs.Common.{◌≡◌, ◌≢◌, ◌⊎◌, inl, inr, ℕ, zero, suc, ◌+◌, ◌<◌, ◌≤◌, Bool, true, false, cond, List, []}
+use Rattle.std.proofs.Common.{◌∷◌, ◌++◌, length, Option, Some, None, refl, ap, sym, ◌∙◌, subst, arith, length-append}
 use Rattle.std.specs.Prelude.{IfSome, ◌↔◌, ◌^◌, ◌-◌, not}
 use Rattle.std.specs.Bool.{then_some}
 use Rattle.std.specs.BTreeMap.{BTreeMap, get, Updates, is_at}
@@ -60,12 +61,14 @@ module _ (kind : Bool) (plays : List Seen) (s : Seen) where
     | inr (k_is, is_new) ↦ other (sym (ap (λ (y : Seen). y.linearizable) is_new) ∙ same)
   ]
 
-  pub first_joined : (o : Option ℕ) (such : Bool) → (such ≡ true) ↔ (s.linearizable ≡ kind) → IsFirst kind plays o → IsFirst kind (plays ++ s ∷ []) (option_or o (then_some such s.seed))
+  pub first_joined : (o : Option ℕ) (such : Bool) → (such ≡ true) ↔ (s.linearizable ≡ kind) → IsFirst kind plays o
+      → IsFirst kind (plays ++ s ∷ []) (option_or o (then_some such s.seed))
   first_joined None true is none = first_now (is.0 refl) none
   first_joined None false is none = first_not (λ e. false≢true (is.1 e)) none
   first_joined (Some seed) such is first = first_kept seed first
 
-pub first_tally : (s : Seen) (in_time late : Option ℕ) → IsFirst true (s ∷ []) in_time → IsFirst false (s ∷ []) late → IsTally (s ∷ []) (record { count = 1; events = s.events; seed = s.seed; in_time = in_time; late = late })
+pub first_tally : (s : Seen) (in_time late : Option ℕ) → IsFirst true (s ∷ []) in_time → IsFirst false (s ∷ []) late
+    → IsTally (s ∷ []) (record { count = 1; events = s.events; seed = s.seed; in_time = in_time; late = late })
 first_tally s in_time late first other = record {
   count = refl;
   shortest = (0, s, refl, refl, refl);
@@ -78,17 +81,20 @@ first_tally s in_time late first other = record {
     least zero x h = let e : s ≡ x = same_Some s x h in inr (ap (λ (y : Seen). y.events) e, (let q = ap (λ (y : Seen). y.seed) e in omega (arith, q)))
     least (suc k) x h = absurd cc
 
-below : (s : Seen) (t : Tally) (x : Seen) → IsShorter s t → IsNoShorter t x → (s.events < x.events) ⊎ ((s.events ≡ x.events) × (s.seed ≤ x.seed))
+below : (s : Seen) (t : Tally) (x : Seen) → IsShorter s t → IsNoShorter t x
+    → (s.events < x.events) ⊎ ((s.events ≡ x.events) × (s.seed ≤ x.seed))
 below s t x (inl a) (inl b) = inl (omega arith)
 below s t x (inl a) (inr b) = let e = b.0 in inl (omega (arith, e))
 below s t x (inr a) (inl b) = let e = a.0 in inl (omega (arith, e))
-below s t x (inr a) (inr b) = let e = a.0 in let f = b.0 in let g = a.1 in let h = b.1 in inr (omega (arith, e, f), omega (arith, g, h))
+below s t x (inr a) (inr b) =
+    let e = a.0 in let f = b.0 in let g = a.1 in let h = b.1 in inr (omega (arith, e, f), omega (arith, g, h))
 
 module _ (plays : List Seen) (s : Seen) (t : Tally) (told : IsTally plays t) where
   one_more : length (plays ++ s ∷ []) ≡ length plays + 1
   one_more = length-append plays (s ∷ [])
 
-  pub joined_tally : (events seed : ℕ) (in_time late : Option ℕ) → IsShortest s t events seed → IsFirst true (plays ++ s ∷ []) in_time → IsFirst false (plays ++ s ∷ []) late
+  pub joined_tally : (events seed : ℕ) (in_time late : Option ℕ) → IsShortest s t events seed
+      → IsFirst true (plays ++ s ∷ []) in_time → IsFirst false (plays ++ s ∷ []) late
       → IsTally (plays ++ s ∷ []) (record { count = t.count + 1; events = events; seed = seed; in_time = in_time; late = late })
   joined_tally events seed in_time late (inl (shorter, e, f)) first other = record {
     count = (let a = told.count in omega (arith, a, one_more));
@@ -118,15 +124,19 @@ module _ (plays : List Seen) (s : Seen) (t : Tally) (told : IsTally plays t) whe
       moved x (inr b) = let p = b.0 in let q = b.1 in inr (e ∙ p, omega (arith, f, q))
 
 -- what is told of the plays with an outcome, where one more has it
-pub told_first : (plays : List Seen) (s : Seen) (v : Tally) → s.is_finished ≡ true → TellsOf plays s.outcome None → IsTally (s ∷ []) v → IsTallyOf (plays ++ s ∷ []) s.outcome v
+pub told_first : (plays : List Seen) (s : Seen) (v : Tally) → s.is_finished ≡ true → TellsOf plays s.outcome None
+    → IsTally (s ∷ []) v → IsTallyOf (plays ++ s ∷ []) s.outcome v
 told_first plays s v done none tally =
     (s ∷ [], those_more s (record { finished = done; same = refl }) (no_those plays (λ k x h p. none k x h p.finished p.same)), tally)
 
-pub told_more : (plays : List Seen) (s : Seen) (t v : Tally) → s.is_finished ≡ true → IsTallyOf plays s.outcome t → ((those : List Seen) → IsTally those t → IsTally (those ++ s ∷ []) v) → IsTallyOf (plays ++ s ∷ []) s.outcome v
-told_more plays s t v done (those, are, tally) more = (those ++ s ∷ [], those_more s (record { finished = done; same = refl }) are, more those tally)
+pub told_more : (plays : List Seen) (s : Seen) (t v : Tally) → s.is_finished ≡ true → IsTallyOf plays s.outcome t
+    → ((those : List Seen) → IsTally those t → IsTally (those ++ s ∷ []) v) → IsTallyOf (plays ++ s ∷ []) s.outcome v
+told_more plays s t v done (those, are, tally) more =
+    (those ++ s ∷ [], those_more s (record { finished = done; same = refl }) are, more those tally)
 
 -- and where it has another, or isn't finished
-pub told_still : (plays : List Seen) (s : Seen) (outcome : List ToldAnswer) (o : Option Tally) → ¬ HasOutcome outcome s → TellsOf plays outcome o → TellsOf (plays ++ s ∷ []) outcome o
+pub told_still : (plays : List Seen) (s : Seen) (outcome : List ToldAnswer) (o : Option Tally) → ¬ HasOutcome outcome s
+    → TellsOf plays outcome o → TellsOf (plays ++ s ∷ []) outcome o
 told_still plays s outcome None other none = λ k x h done same. elim (at_cases plays s k x h) [
   | inl old ↦ none k x old done same
   | inr new ↦ other (subst (λ (y : Seen). HasOutcome outcome y) (sym new) (record { finished = done; same = same }))
@@ -135,7 +145,8 @@ told_still plays s outcome (Some t) other (those, are, tally) = (those, those_sa
 
 module _ {K : Type 0} (items : K → List ToldAnswer) where
   -- the map after the play was counted
-  pub tells_next : (plays : List Seen) (told new : BTreeMap K Tally) (key : K) (s : Seen) (v : Tally) → s.is_finished ≡ true → items key ≡ s.outcome → Updates (key_cmp items) told new key (Some v)
+  pub tells_next : (plays : List Seen) (told new : BTreeMap K Tally) (key : K) (s : Seen) (v : Tally)
+      → s.is_finished ≡ true → items key ≡ s.outcome → Updates (key_cmp items) told new key (Some v)
       → IsTallyOf (plays ++ s ∷ []) s.outcome v → ((q : K) → TellsOf plays (items q) (get (key_cmp items) told q)) → (q : K) → TellsOf (plays ++ s ∷ []) (items q) (get (key_cmp items) new q)
   tells_next plays told new key s v done is updates tally tells q = elim (cases_Bool (is_at (key_cmp items key) q)) [
     | inl at ↦
@@ -148,7 +159,8 @@ module _ {K : Type 0} (items : K → List ToldAnswer) where
         (told_still plays s (items q) (get (key_cmp items) told q) (λ h. false≢true (sym at ∙ tied_keys (items key) (items q) (is ∙ h.same))) (tells q))
   ]
 
-  pub known_next : (plays : List Seen) (key : K) (s : Seen) → items key ≡ s.outcome → ((k : ℕ) (x : Seen) → IsAt plays k x → x.is_finished ≡ true → (q : K) × (items q ≡ x.outcome))
+  pub known_next : (plays : List Seen) (key : K) (s : Seen) → items key ≡ s.outcome
+      → ((k : ℕ) (x : Seen) → IsAt plays k x → x.is_finished ≡ true → (q : K) × (items q ≡ x.outcome))
       → (k : ℕ) (x : Seen) → IsAt (plays ++ s ∷ []) k x → x.is_finished ≡ true → (q : K) × (items q ≡ x.outcome)
   known_next plays key s is known k x h done = elim (at_cases plays s k x h) [
     | inl old ↦ known k x old done
@@ -156,7 +168,8 @@ module _ {K : Type 0} (items : K → List ToldAnswer) where
   ]
 
   -- a finished play was counted
-  pub counted_next : (plays : List Seen) (told new : BTreeMap K Tally) (unfinished : ℕ) (key : K) (s : Seen) (v : Tally) → s.is_finished ≡ true → items key ≡ s.outcome → Updates (key_cmp items) told new key (Some v)
+  pub counted_next : (plays : List Seen) (told new : BTreeMap K Tally) (unfinished : ℕ) (key : K) (s : Seen) (v : Tally)
+      → s.is_finished ≡ true → items key ≡ s.outcome → Updates (key_cmp items) told new key (Some v)
       → (TellsOf plays s.outcome (get (key_cmp items) told key) → IsTallyOf (plays ++ s ∷ []) s.outcome v) → IsCounted items plays told unfinished → IsCounted items (plays ++ s ∷ []) new unfinished
   counted_next plays told new unfinished key s v done is updates tally counted = record {
     tells = tells_next plays told new key s v done is updates (tally (subst (λ l. TellsOf plays l (get (key_cmp items) told key)) is (counted.tells key))) counted.tells;
@@ -165,7 +178,8 @@ module _ {K : Type 0} (items : K → List ToldAnswer) where
   }
 
   -- one that is not finished was
-  pub counted_other : (plays : List Seen) (told : BTreeMap K Tally) (unfinished : ℕ) (s : Seen) → s.is_finished ≡ false → IsCounted items plays told unfinished → IsCounted items (plays ++ s ∷ []) told (unfinished + 1)
+  pub counted_other : (plays : List Seen) (told : BTreeMap K Tally) (unfinished : ℕ) (s : Seen) → s.is_finished ≡ false
+      → IsCounted items plays told unfinished → IsCounted items (plays ++ s ∷ []) told (unfinished + 1)
   counted_other plays told unfinished s undone counted = record {
     tells = λ q. told_still plays s (items q) (get (key_cmp items) told q) (λ h. false≢true (sym undone ∙ h.finished)) (counted.tells q);
     known = λ k x h done. elim (at_cases plays s k x h) [
@@ -176,7 +190,8 @@ module _ {K : Type 0} (items : K → List ToldAnswer) where
   }
 
   -- no play was
-  pub counted_none : (told : BTreeMap K Tally) → ((q : K) → get (key_cmp items) told q ≡ None) → IsCounted items [] told 0
+  pub counted_none : (told : BTreeMap K Tally) → ((q : K) → get (key_cmp items) told q ≡ None)
+      → IsCounted items [] told 0
   counted_none told empty = record {
     tells = λ q. subst (λ o. TellsOf [] (items q) o) (sym (empty q)) (λ k s h done same. absurd cc);
     known = λ k s h done. absurd cc;
@@ -184,7 +199,8 @@ module _ {K : Type 0} (items : K → List ToldAnswer) where
   }
 
   -- the counts are no more than the plays
-  pub has_room : (plays : List Seen) (told : BTreeMap K Tally) (unfinished : ℕ) → length plays < 2 ^ 32 - 1 → IsCounted items plays told unfinished → HasRoom items told
+  pub has_room : (plays : List Seen) (told : BTreeMap K Tally) (unfinished : ℕ) → length plays < 2 ^ 32 - 1
+      → IsCounted items plays told unfinished → HasRoom items told
   has_room plays told unfinished few counted q = go (get (key_cmp items) told q) (counted.tells q)
     where
       go : (o : Option Tally) → TellsOf plays (items q) o → IfSome o (λ t. t.count < 2 ^ 32 - 1)

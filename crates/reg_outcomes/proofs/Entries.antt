@@ -1,5 +1,6 @@
 -- The entries of a map with one key more.
-use Rattle.std.proofs.Common.{◌≡◌, ◌≢◌, ◌⊎◌, inl, inr, ℕ, ◌≤◌, Bool, true, false, cond, List, [], ◌∷◌, length, map, Option, Some, None, refl, ap, sym, ◌∙◌, subst, arith}
+use Rattle.std.proofs.Common.{◌≡◌, ◌≢◌, ◌⊎◌, inl, inr, ℕ, ◌≤◌, Bool, true, false, cond, List, [], ◌∷◌, length, map}
+use Rattle.std.proofs.Common.{Option, Some, None, refl, ap, sym, ◌∙◌, subst, arith}
 use Rattle.std.specs.Option.{is_some}
 use Rattle.std.specs.declared.cmp.Ordering.{Ordering}
 use Rattle.std.specs.declared.cmp.Ordering.TheVariants.{Less, Equal, Greater}
@@ -73,12 +74,14 @@ module _ {K V Key : Type 0} (key_of : K → Key) (turns_of : V → List ℕ) (cm
   found_at true k e es same some rest = (read e, inl refl, sym (exact (key_of k) (key_of e.0) (equal_is (by_key k e.0) same)))
   found_at false k e es same some rest = let g = rest some in (g.0, inr g.1, g.2)
 
-  pub found : (k : K) (es : List (K × V)) → is_some (lookup (is_at (by_key k)) es) ≡ true → (g : Key × List ℕ) × In g (map read es) × (g.0 ≡ key_of k)
+  pub found : (k : K) (es : List (K × V)) → is_some (lookup (is_at (by_key k)) es) ≡ true
+      → (g : Key × List ℕ) × In g (map read es) × (g.0 ≡ key_of k)
   found k [] some = absurd cc
   found k (e ∷ es) some = found_at (is_eq (by_key k e.0)) k e es refl some (found k es)
 
   -- the key was there
-  pub adds_there : (k : K) (turns : List ℕ) (es : List (K × V)) → is_some (lookup (is_at (by_key k)) es) ≡ true → Adds (λ f. f ≡ (key_of k, turns)) (map read es) (map read es)
+  pub adds_there : (k : K) (turns : List ℕ) (es : List (K × V)) → is_some (lookup (is_at (by_key k)) es) ≡ true
+      → Adds (λ f. f ≡ (key_of k, turns)) (map read es) (map read es)
   adds_there k turns es some = record {
     kept = λ f h. h;
     only = λ f h. inl h;
@@ -86,7 +89,9 @@ module _ {K V Key : Type 0} (key_of : K → Key) (turns_of : V → List ℕ) (cm
   }
 
   -- it was put
-  pub adds_put : (k : K) (v : V) (turns : List ℕ) (es now : List (K × V)) → turns_of v ≡ turns → is_some (lookup (is_at (by_key k)) es) ≡ false → now ≡ insert_entry by_key es k v → Adds (λ f. f ≡ (key_of k, turns)) (map read es) (map read now)
+  pub adds_put : (k : K) (v : V) (turns : List ℕ) (es now : List (K × V)) → turns_of v ≡ turns
+      → is_some (lookup (is_at (by_key k)) es) ≡ false → now ≡ insert_entry by_key es k v
+      → Adds (λ f. f ≡ (key_of k, turns)) (map read es) (map read now)
   adds_put k v turns es now same none is =
       let absent : lookup (is_at (by_key k)) es ≡ None = none_of (lookup (is_at (by_key k)) es) none in
       let entry : read (k, v) ≡ (key_of k, turns) = ap (λ t. (key_of k, t)) same in
@@ -123,7 +128,9 @@ module _ {K V Key : Type 0} (key_of : K → Key) (turns_of : V → List ℕ) (cm
   apart (e ∷ es) ordered = (λ g h. below e.0 es g (sorted_head by_key e.0 (keys_of es) ordered) h, apart es (sorted_tail by_key e.0 (keys_of es) ordered))
 
   -- there is no room for it
-  pub overflows : (limit : ℕ) (k : K) (turns : List ℕ) (es : List (K × V)) → limit ≤ length es → is_some (lookup (is_at (by_key k)) es) ≡ false → IsStrictlySortedBy by_key (keys_of es) → Overflows limit (λ f. f ≡ (key_of k, turns)) (map read es)
+  pub overflows : (limit : ℕ) (k : K) (turns : List ℕ) (es : List (K × V)) → limit ≤ length es
+      → is_some (lookup (is_at (by_key k)) es) ≡ false → IsStrictlySortedBy by_key (keys_of es)
+      → Overflows limit (λ f. f ≡ (key_of k, turns)) (map read es)
   overflows limit k turns es full none ordered = record {
     found = (key_of k, turns) ∷ map read es;
     more = (let l = length-map es read in omega (arith, l));

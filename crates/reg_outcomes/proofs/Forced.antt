@@ -1,5 +1,6 @@
 -- What comes before what in each serial order of a history.
-use Rattle.std.proofs.Common.{◌≡◌, ◌≢◌, inl, inr, ℕ, zero, suc, ◌+◌, ◌<◌, ◌≤◌, List, [], ◌∷◌, length, replicate, take, Some, refl, ap, sym, ◌∙◌, subst, arith, add-one}
+use Rattle.std.proofs.Common.{◌≡◌, ◌≢◌, inl, inr, ℕ, zero, suc, ◌+◌, ◌<◌, ◌≤◌, List, [], ◌∷◌, length, replicate, take}
+use Rattle.std.proofs.Common.{Some, refl, ap, sym, ◌∙◌, subst, arith, add-one}
 use Rattle.std.specs.Prelude.{slice_index}
 use Rattle.std.proofs.lemmas.Bool.{cases_eq, cases_lt, cases_order}
 use Rattle.std.proofs.lemmas.List.{length-replicate}
@@ -29,11 +30,14 @@ long_after [] m = refl
 long_after (op ∷ ops) m = long_after ops (after op m) ∙ length-after op m
 
 -- the memory after one operation more
-memory_at : (registers : ℕ) (ops : List Op) (k : ℕ) (op : Op) → IsAt ops k op → memory registers (take (k + 1) ops) ≡ after op (memory registers (take k ops))
-memory_at registers ops k op here = ap (memory registers) (first_and_next ops k op here) ∙ memory-append (take k ops) (op ∷ []) (replicate registers 0)
+memory_at : (registers : ℕ) (ops : List Op) (k : ℕ) (op : Op) → IsAt ops k op
+    → memory registers (take (k + 1) ops) ≡ after op (memory registers (take k ops))
+memory_at registers ops k op here =
+    ap (memory registers) (first_and_next ops k op here) ∙ memory-append (take k ops) (op ∷ []) (replicate registers 0)
 
 -- a value that is not there, and that no operation leaves, doesn't come
-still_other : (registers r v : ℕ) (ops : List Op) (from : ℕ) → slice_index (memory registers (take from ops)) r ≢ v → (to : ℕ) → from ≤ to → to ≤ length ops
+still_other : (registers r v : ℕ) (ops : List Op) (from : ℕ) → slice_index (memory registers (take from ops)) r ≢ v
+    → (to : ℕ) → from ≤ to → to ≤ length ops
     → ((k : ℕ) (op : Op) → from ≤ k → k < to → IsAt ops k op → register_of op ≡ r → made_of op ≡ Some v → ⊥) → slice_index (memory registers (take to ops)) r ≢ v
 still_other registers r v ops from other zero le end never =
     let same : from ≡ 0 = omega (arith, le) in
@@ -99,7 +103,8 @@ module _ (s : Sought) (good : IsHistory s.shape.processes s.shape.registers s.en
   finished id value asker = (asker.3, asker.2, asker.5)
 
   -- the only operation that may leave a value comes before each that finds it, if the value isn't the first one
-  pub source_first : (id w : OpId) (value : ℕ × ℕ) → IsAsker h (id.process, value) id.number → IsOnlyMaker h value w → value.1 ≢ 0 → Comes s w id
+  pub source_first : (id w : OpId) (value : ℕ × ℕ) → IsAsker h (id.process, value) id.number → IsOnlyMaker h value w
+      → value.1 ≢ 0 → Comes s w id
   source_first id w value asker only not_first ids i j serial at_w at_id = elim (cases_lt i j) [
     | inl less ↦ less
     | inr past ↦ absurd (not_found ids serial id value j at_id asker 0 (omega arith) (λ is. not_first (sym is ∙ none_at_first s.shape.registers value.0))
@@ -107,7 +112,8 @@ module _ (s : Sought) (good : IsHistory s.shape.processes s.shape.registers s.en
   ]
 
   -- what overwrites the register before a reader comes before the source
-  pub before_source : (id w other : OpId) (value : ℕ × ℕ) → IsAsker h (id.process, value) id.number → IsOnlyMaker h value w → Overwrites h other value → Comes s other id → Comes s other w
+  pub before_source : (id w other : OpId) (value : ℕ × ℕ) → IsAsker h (id.process, value) id.number
+      → IsOnlyMaker h value w → Overwrites h other value → Comes s other id → Comes s other w
   before_source id w other value asker only over comes ids i j serial at_other at_w =
       let there = serial.selection.finished id (finished id value asker) in
       let early = comes ids i there.0 serial at_other there.1 in
@@ -118,7 +124,8 @@ module _ (s : Sought) (good : IsHistory s.shape.processes s.shape.registers s.en
       ]
 
   -- what overwrites the register after all that may leave the value comes after each that finds it
-  pub behind_reader : (id other : OpId) (value : ℕ × ℕ) → IsAsker h (id.process, value) id.number → Overwrites h other value → other ≢ id → ((x : OpId) → IsMaker h value x → Comes s x other) → Comes s id other
+  pub behind_reader : (id other : OpId) (value : ℕ × ℕ) → IsAsker h (id.process, value) id.number
+      → Overwrites h other value → other ≢ id → ((x : OpId) → IsMaker h value x → Comes s x other) → Comes s id other
   behind_reader id other value asker over apart behind ids i j serial at_id at_other = elim (cases_order i j) [
     | inl same ↦ absurd (apart (same_at ids j other id at_other (subst (λ (k : ℕ). IsAt ids k id) same at_id)))
     | inr q ↦ elim q [
@@ -141,7 +148,8 @@ comes_through s a b c fin first then ids i j serial at_a at_c =
     omega (arith, less, more)
 
 -- none comes before itself
-pub none_where_torn : (s : Sought) (a : OpId) → IsFinished s.entries a → Comes s a a → (ids : List OpId) → ¬ IsSerial s.shape.registers s.entries ids
+pub none_where_torn : (s : Sought) (a : OpId) → IsFinished s.entries a → Comes s a a → (ids : List OpId)
+    → ¬ IsSerial s.shape.registers s.entries ids
 none_where_torn s a fin comes ids serial =
     let there = serial.selection.finished a fin in
     let less = comes ids there.0 there.0 serial there.1 there.1 in

@@ -1,5 +1,6 @@
 -- Sets that grow, and lists that are cut out of them.
-use Rattle.std.proofs.Common.{◌≡◌, ◌≢◌, ◌⊎◌, inl, inr, ℕ, zero, suc, ◌+◌, ◌≤◌, Bool, true, false, List, [], ◌∷◌, length, map, cond, Some, refl, ap, sym, ◌∙◌, subst, arith}
+use Rattle.std.proofs.Common.{◌≡◌, ◌≢◌, ◌⊎◌, inl, inr, ℕ, zero, suc, ◌+◌, ◌≤◌, Bool, true, false, List, [], ◌∷◌, length}
+use Rattle.std.proofs.Common.{map, cond, Some, refl, ap, sym, ◌∙◌, subst, arith}
 use Rattle.std.specs.declared.cmp.Ordering.{Ordering}
 use Rattle.std.specs.declared.cmp.Ordering.TheVariants.{Less, Equal, Greater}
 use Rattle.std.specs.Ordering.{is_eq, match_ordering}
@@ -23,7 +24,8 @@ module _ {X : Type 0} where
   grows_none P old none = record { kept = λ x h. h; only = λ x h. inl h; added = λ x p. absurd (none x p) }
 
   -- first those of P, and then those of Q
-  pub grows_then : (P Q R : X → Type 0) (a b c : List X) → ((x : X) → P x ⊎ Q x → R x) → ((x : X) → R x → P x ⊎ Q x) → Grows P a b → Grows Q b c → Grows R a c
+  pub grows_then : (P Q R : X → Type 0) (a b c : List X) → ((x : X) → P x ⊎ Q x → R x) → ((x : X) → R x → P x ⊎ Q x)
+      → Grows P a b → Grows Q b c → Grows R a c
   grows_then P Q R a b c to from first second = record {
     kept = λ x h. second.kept x (first.kept x h);
     only = λ x h. elim (second.only x h) [ inl old ↦ elim (first.only x old) [ inl o ↦ inl o | inr p ↦ inr (to x (inl p)) ] | inr q ↦ inr (to x (inr q)) ];
@@ -86,11 +88,13 @@ module _ {K : Type 0} (read : K → List ToldAnswer) where
   new k (x ∷ xs) = new_at (by k x) k x xs refl (new k xs)
 
   -- one key was put where there was none
-  pub put_first : (k : K) (told : List ToldAnswer) (old now : List K) → read k ≡ told → old ≡ [] → now ≡ insert_key by old k → map read now ≡ told ∷ []
+  pub put_first : (k : K) (told : List ToldAnswer) (old now : List K) → read k ≡ told → old ≡ []
+      → now ≡ insert_key by old k → map read now ≡ told ∷ []
   put_first k told old now same none is = ap (map read) (is ∙ ap (λ ks. insert_key by ks k) none) ∙ ap (λ t. t ∷ []) same
 
   -- one key was put
-  pub grows_put : (k : K) (told : List ToldAnswer) (old now : List K) → read k ≡ told → now ≡ insert_key by old k → Grows (λ y. y ≡ told) (map read old) (map read now)
+  pub grows_put : (k : K) (told : List ToldAnswer) (old now : List K) → read k ≡ told → now ≡ insert_key by old k
+      → Grows (λ y. y ≡ told) (map read old) (map read now)
   grows_put k told old now same is = subst (λ l. Grows (λ y. y ≡ told) (map read old) (map read l)) (sym is) (record {
     kept = λ y h. kept k old y h;
     only = λ y h. elim (only k old y h) [ inl o ↦ inl o | inr e ↦ inr (e ∙ same) ];

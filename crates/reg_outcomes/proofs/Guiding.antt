@@ -1,5 +1,6 @@
 -- What has to come before an operation need not be placed after it.
-use Rattle.std.proofs.Common.{inl, inr, ℕ, ◌<◌, ◌≤◌, List, [], ◌∷◌, ◌++◌, length, refl, sym, subst, arith, length-append}
+use Rattle.std.proofs.Common.{inl, inr, ℕ, ◌<◌, ◌≤◌, List, [], ◌∷◌, ◌++◌, length, refl, sym, subst, arith}
+use Rattle.std.proofs.Common.{length-append}
 use Rattle.std.specs.Prelude.{slice_index}
 use Rattle.reg_base.specs.declared.memory.OpId.{OpId}
 use Rattle.reg_checkers.specs.declared.entries.Entry.{Entry}
@@ -53,7 +54,9 @@ module _ (kind : OrderKind) (n registers : ℕ) (h : List Entry) where
       }
 
 -- where a finished operation that is not placed has to come before another, that one leads to no order
-pub blocked : (s : Sought) → IsHistory s.shape.processes s.shape.registers s.entries → (ids : List OpId) (here t : Stage) (p : ℕ) → Places s.kind s.shape.processes s.shape.registers s.entries ids here → IsBlocked s here.next (op_of p (slice_index here.next p)) → IsPlaced s.kind s.entries p here t
+pub blocked : (s : Sought) → IsHistory s.shape.processes s.shape.registers s.entries
+    → (ids : List OpId) (here t : Stage) (p : ℕ) → Places s.kind s.shape.processes s.shape.registers s.entries ids here
+    → IsBlocked s here.next (op_of p (slice_index here.next p)) → IsPlaced s.kind s.entries p here t
     → ¬ Goes s.kind s.entries t
 blocked s good ids here t p places is step go =
     let id : OpId = op_of p (slice_index here.next p) in
@@ -70,13 +73,16 @@ blocked s good ids here t p places is step go =
 
 module _ (s : Sought) (good : IsHistory s.shape.processes s.shape.registers s.entries) (steps : List Step) (here : Stage) (path : IsPath s.kind s.shape.processes s.shape.registers s.entries steps here) (was tried : ℕ) (most : was ≤ tried) (are : AreTried s.kind s.entries here tried) where
   -- a choice that is blocked is tried
-  pub passed_by : (c : Choice) → IsChoice s.kind s.shape.processes s.shape.registers s.entries tried here c → IsBlocked s here.next (op_of c.process (slice_index here.next c.process)) → (was ≤ c.tried) × AreTried s.kind s.entries here c.tried
+  pub passed_by : (c : Choice) → IsChoice s.kind s.shape.processes s.shape.registers s.entries tried here c
+      → IsBlocked s here.next (op_of c.process (slice_index here.next c.process))
+      → (was ≤ c.tried) × AreTried s.kind s.entries here c.tried
   passed_by c is blocks =
       let more = is.more in
       (omega (arith, most, more), is.rest are (blocked s good (ids_of steps) here (placed_after c.process c.op here) c.process (places_of s.kind s.shape.processes s.shape.registers s.entries steps here path) blocks is.placed))
 
   -- one of the rest is the next choice
-  pub choice_beyond : (c : Choice) → IsChoice s.kind s.shape.processes s.shape.registers s.entries tried here c → IsChoice s.kind s.shape.processes s.shape.registers s.entries was here c
+  pub choice_beyond : (c : Choice) → IsChoice s.kind s.shape.processes s.shape.registers s.entries tried here c
+      → IsChoice s.kind s.shape.processes s.shape.registers s.entries was here c
   choice_beyond c is =
       let more = is.more in
       record { process = is.process; register = is.register; more = omega (arith, most, more); top = is.top; placed = is.placed; rest = λ before none. is.rest are none }

@@ -1,5 +1,7 @@
 -- Whether an order keeps real time, entry by entry.
-use Rattle.std.proofs.Common.{◌≡◌, ◌≢◌, ◌⊎◌, inl, inr, ℕ, zero, suc, ◌+◌, ◌<◌, ◌≤◌, Bool, true, false, cond, max, List, [], ◌∷◌, ◌++◌, length, take, Option, Some, None, get_or, refl, ap, sym, ◌∙◌, subst, arith, length-take}
+use Rattle.std.proofs.Common.{◌≡◌, ◌≢◌, ◌⊎◌, inl, inr, ℕ, zero, suc, ◌+◌, ◌<◌, ◌≤◌, Bool, true, false, cond, max, List}
+use Rattle.std.proofs.Common.{[], ◌∷◌, ◌++◌, length, take, Option, Some, None, get_or, refl, ap, sym, ◌∙◌, subst, arith}
+use Rattle.std.proofs.Common.{length-take}
 use Rattle.std.specs.Prelude.{nat_lt, IfSome, ◌^◌, ◌-◌}
 use Rattle.std.specs.declared.cmp.Ordering.{Ordering}
 use Rattle.std.specs.declared.cmp.Ordering.TheVariants.{Less, Equal, Greater}
@@ -35,12 +37,16 @@ equal_is a b h = ap (λ (p : ℕ × ℕ). record { process = p.0; number = p.1 }
     tied Equal h = refl
     tied Greater h = absurd cc
 
-place_still : (ids : List OpId) (x id : OpId) (o : Option ℕ) → id ≢ x → IsPlaceOf ids id o → IsPlaceOf (ids ++ x ∷ []) id o
-place_still ids x id None other none = λ k h. elim (at_cases ids x k id h) [ inl old ↦ none k old | inr new ↦ other (sym new) ]
+place_still : (ids : List OpId) (x id : OpId) (o : Option ℕ) → id ≢ x → IsPlaceOf ids id o
+    → IsPlaceOf (ids ++ x ∷ []) id o
+place_still ids x id None other none =
+    λ k h. elim (at_cases ids x k id h) [ inl old ↦ none k old | inr new ↦ other (sym new) ]
 place_still ids x id (Some place) other at = at_front ids (x ∷ []) place id at
 
 -- one operation more has its place
-pub place_next : (ids : List OpId) (x : OpId) (old new : BTreeMap OpId ℕ) → Updates id_cmp old new x (Some (length ids)) → ((id : OpId) → IsPlaceOf ids id (get id_cmp old id)) → (id : OpId) → IsPlaceOf (ids ++ x ∷ []) id (get id_cmp new id)
+pub place_next : (ids : List OpId) (x : OpId) (old new : BTreeMap OpId ℕ) → Updates id_cmp old new x (Some (length ids))
+    → ((id : OpId) → IsPlaceOf ids id (get id_cmp old id)) → (id : OpId)
+    → IsPlaceOf (ids ++ x ∷ []) id (get id_cmp new id)
 place_next ids x old new updates places id = elim (cases_Bool (is_at (id_cmp x) id)) [
   | inl at ↦
       let same : x ≡ id = equal_is x id at in
@@ -52,7 +58,9 @@ place_next ids x old new updates places id = elim (cases_Bool (is_at (id_cmp x) 
       (place_still ids x id (get id_cmp old id) (λ e. false≢true (sym at ∙ (ap (λ y. is_eq (id_cmp x y)) e ∙ ap is_eq (tied_itself ids_total x)))) (places id))
 ]
 
-pub place_step : (order : List OpId) (n : ℕ) (x : OpId) (old new : BTreeMap OpId ℕ) → Updates id_cmp old new x (Some n) → IsAt order n x → ((id : OpId) → IsPlaceOf (take n order) id (get id_cmp old id)) → (id : OpId) → IsPlaceOf (take (n + 1) order) id (get id_cmp new id)
+pub place_step : (order : List OpId) (n : ℕ) (x : OpId) (old new : BTreeMap OpId ℕ) → Updates id_cmp old new x (Some n)
+    → IsAt order n x → ((id : OpId) → IsPlaceOf (take n order) id (get id_cmp old id)) → (id : OpId)
+    → IsPlaceOf (take (n + 1) order) id (get id_cmp new id)
 place_step order n x old new updates here places id =
     let lt : n < length order = slice_get_within order n x here in
     let many : n ≡ length (take n order) = omega (arith, length-take n order, lt) in
@@ -160,7 +168,8 @@ at_get (x ∷ xs) (suc k) d lt = at_get xs k d (omega arith)
 
 -- a call that stands before what was answered earlier
 module _ (n registers : ℕ) (h : List Entry) (good : IsHistory n registers h) (ids : List OpId) where
-  pub late : (m : ℕ) (e : Entry) (place : OpId → Option ℕ) (bound : ℕ) → ((id : OpId) → IsPlaceOf ids id (place id)) → IsInTime (take m h) ids bound → IsAt h m e → None ≡ bound_next place bound e → ¬ KeepsRealTime h ids
+  pub late : (m : ℕ) (e : Entry) (place : OpId → Option ℕ) (bound : ℕ) → ((id : OpId) → IsPlaceOf ids id (place id))
+      → IsInTime (take m h) ids bound → IsAt h m e → None ≡ bound_next place bound e → ¬ KeepsRealTime h ids
   late m (Answered at id answer) place bound places told here is keeps = absurd cc
   late m (Called at id op) place bound places told here is keeps = go (place id) (places id) is
     where
@@ -184,7 +193,9 @@ module _ (n registers : ℕ) (h : List Entry) (good : IsHistory n registers h) (
           some e = absurd cc
 
   -- one entry more
-  pub in_time_step : (m : ℕ) (e : Entry) (place : OpId → Option ℕ) (bound next : ℕ) → IsDistinct ids → ((id : OpId) → IsPlaceOf ids id (place id)) → IsInTime (take m h) ids bound → Some next ≡ bound_next place bound e → IsAt h m e
+  pub in_time_step : (m : ℕ) (e : Entry) (place : OpId → Option ℕ) (bound next : ℕ) → IsDistinct ids
+      → ((id : OpId) → IsPlaceOf ids id (place id)) → IsInTime (take m h) ids bound
+      → Some next ≡ bound_next place bound e → IsAt h m e
       → IsInTime (take (m + 1) h) ids next
   in_time_step m e place bound next distinct places told is here =
       subst (λ (es : List Entry). IsInTime es ids next) (sym (take_at h m e here)) (in_time_next (take m h) ids distinct place places bound told e next is)
@@ -201,7 +212,8 @@ module _ (n registers : ℕ) (h : List Entry) (good : IsHistory n registers h) (
       apart e = absurd cc
 
 -- places are within their type
-pub few_places : (ids : List OpId) (o : Option ℕ) (id : OpId) → length ids < 2 ^ 64 → IsPlaceOf ids id o → IfSome o (λ place. place < 2 ^ 64 - 1)
+pub few_places : (ids : List OpId) (o : Option ℕ) (id : OpId) → length ids < 2 ^ 64 → IsPlaceOf ids id o
+    → IfSome o (λ place. place < 2 ^ 64 - 1)
 few_places ids None id few h = tt
 few_places ids (Some p) id few h = let l : p < length ids = slice_get_within ids p id h in omega (arith, l, few)
 

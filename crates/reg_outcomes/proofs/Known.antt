@@ -1,5 +1,8 @@
 -- What is known to come before each operation of a history, as it grows.
-use Rattle.std.proofs.Common.{◌≡◌, ◌≢◌, inl, inr, ◌⊎◌, ℕ, zero, suc, ◌+◌, ◌*◌, ◌<◌, ◌≤◌, Bool, true, false, cond, List, [], ◌∷◌, ◌++◌, length, get_or, Option, Some, None, IfSome, IsSome, MatchOption, option_and_then, replicate, set, slice_get, Vec, refl, ap, ap₂, sym, ◌∙◌, subst, arith, rules}
+use Rattle.std.proofs.Common.{◌≡◌, ◌≢◌, inl, inr, ◌⊎◌, ℕ, zero, suc, ◌+◌, ◌*◌, ◌<◌, ◌≤◌, Bool, true, false, cond, List}
+use Rattle.std.proofs.Common.{[], ◌∷◌, ◌++◌, length, get_or, Option, Some, None, IfSome, IsSome, MatchOption}
+use Rattle.std.proofs.Common.{option_and_then, replicate, set, slice_get, Vec, refl, ap, ap₂, sym, ◌∙◌, subst, arith}
+use Rattle.std.proofs.Common.{rules}
 use Rattle.std.specs.Prelude.{◌==◌, ◌&&◌, slice_index}
 use Rattle.std.specs.BTreeMap.{Updates, get, is_at}
 use Rattle.std.specs.declared.cmp.Ordering.{Ordering}
@@ -23,7 +26,9 @@ use Rattle.reg_checkers.proofs.Places.{get_set_other, get_set_same, same_at, wit
 use Rattle.reg_outcomes.specs.declared.orders.before.Before.{Before}
 use Rattle.reg_outcomes.specs.declared.orders.sources.Maker.{Maker}
 use Rattle.reg_outcomes.specs.declared.orders.sources.Reader.{Reader}
-use Rattle.reg_outcomes.specs.Forced.{AreCalledTo, AreForced, AreMakers, AreNone, Comes, Counts, Covers, HasMaker, IsCount, IsMaker, IsMakerCalled, IsOnlyMaker, IsReader, Makers, Overwrites, count_at, word_at}
+use Rattle.reg_outcomes.specs.Forced.{AreCalledTo, AreForced, AreMakers, AreNone, Comes, Counts, Covers, HasMaker}
+use Rattle.reg_outcomes.specs.Forced.{IsCount, IsMaker, IsMakerCalled, IsOnlyMaker, IsReader, Makers, Overwrites}
+use Rattle.reg_outcomes.specs.Forced.{count_at, word_at}
 use Rattle.reg_outcomes.specs.Losing.{IsAsker, value_cmp}
 use Rattle.reg_outcomes.specs.Sought.{Sought}
 use Rattle.reg_outcomes.proofs.Elements.{none_at_first}
@@ -31,35 +36,45 @@ use Rattle.reg_outcomes.proofs.Forced.{comes_through, own_comes}
 
 -- each of a list of noughts
 pub noughts : (count : ℕ) (xs : List ℕ) → xs ≡ replicate count 0 → (n k : ℕ) → slice_get xs n ≡ Some k → k ≡ 0
-noughts count xs is n k here = sym (get_or_from_slice_get xs n k 0 here) ∙ ap (λ (l : List ℕ). slice_index l n) is ∙ none_at_first count n
+noughts count xs is n k here =
+    sym (get_or_from_slice_get xs n k 0 here) ∙ ap (λ (l : List ℕ). slice_index l n) is ∙ none_at_first count n
 
 -- a list of which nothing is read but nought, with one more
-none_more : {X : Type 0} (f : X → Option ℕ) (xs : List X) (x : X) (p : ℕ) → ((k : ℕ) → f x ≡ Some k → k ≡ 0) → ((k : ℕ) → option_and_then f (slice_get xs p) ≡ Some k → k ≡ 0)
+none_more : {X : Type 0} (f : X → Option ℕ) (xs : List X) (x : X) (p : ℕ) → ((k : ℕ) → f x ≡ Some k → k ≡ 0)
+    → ((k : ℕ) → option_and_then f (slice_get xs p) ≡ Some k → k ≡ 0)
     → (k : ℕ) → option_and_then f (slice_get (xs ++ x ∷ []) p) ≡ Some k → k ≡ 0
 none_more f [] x zero here all k is = here k is
 none_more f [] x (suc p) here all k is = absurd (none-some k is)
 none_more f (y ∷ ys) x zero here all k is = all k is
 none_more f (y ∷ ys) x (suc p) here all k is = none_more f ys x p here all k is
 
-pub none_pushed : {X : Type 0} (f : X → Option ℕ) (xs ys : List X) (x : X) (p : ℕ) → ys ≡ xs ++ x ∷ [] → ((k : ℕ) → f x ≡ Some k → k ≡ 0) → ((k : ℕ) → option_and_then f (slice_get xs p) ≡ Some k → k ≡ 0)
+pub none_pushed : {X : Type 0} (f : X → Option ℕ) (xs ys : List X) (x : X) (p : ℕ) → ys ≡ xs ++ x ∷ []
+    → ((k : ℕ) → f x ≡ Some k → k ≡ 0) → ((k : ℕ) → option_and_then f (slice_get xs p) ≡ Some k → k ≡ 0)
     → (k : ℕ) → option_and_then f (slice_get ys p) ≡ Some k → k ≡ 0
-none_pushed {X = X} f xs ys x p is here all k read = none_more f xs x p here all k (subst (λ (l : List X). option_and_then f (slice_get l p) ≡ Some k) is read)
+none_pushed {X = X} f xs ys x p is here all k read =
+    none_more f xs x p here all k (subst (λ (l : List X). option_and_then f (slice_get l p) ≡ Some k) is read)
 
 pub none_forced : {A : Type 0} (s : Sought) (before : Before A) → AreNone before.counts.items → AreForced s before
-none_forced s before none id p m k is lt = let e : k ≡ 0 = none id.process (id.number * before.processes + p) k is.1 in absurd (omega (arith, e, lt))
+none_forced s before none id p m k is lt =
+    let e : k ≡ 0 = none id.process (id.number * before.processes + p) k is.1 in absurd (omega (arith, e, lt))
 
-pub is_count : {A : Type 0} (before : Before A) (id : OpId) (p place : ℕ) (o : Option ℕ) → p < before.processes → place ≡ id.number * before.processes + p → o ≡ count_at place id.process before.counts.items → IfSome o (IsCount before id p)
-is_count before id p place (Some k) lt at is = (lt, ap (λ n. count_at n id.process before.counts.items) (sym at) ∙ sym is)
+pub is_count : {A : Type 0} (before : Before A) (id : OpId) (p place : ℕ) (o : Option ℕ) → p < before.processes
+    → place ≡ id.number * before.processes + p → o ≡ count_at place id.process before.counts.items
+    → IfSome o (IsCount before id p)
+is_count before id p place (Some k) lt at is =
+    (lt, ap (λ n. count_at n id.process before.counts.items) (sym at) ∙ sym is)
 is_count before id p place None lt at is = tt
 
 -- where something is read, there is something
-some_within : {X : Type 0} (f : X → Option ℕ) (xs : List X) (k : ℕ) → IsSome (option_and_then f (slice_get xs k)) → k < length xs
+some_within : {X : Type 0} (f : X → Option ℕ) (xs : List X) (k : ℕ) → IsSome (option_and_then f (slice_get xs k))
+    → k < length xs
 some_within f [] k h = search rules
 some_within f (x ∷ xs) zero h = omega arith
 some_within f (x ∷ xs) (suc k) h = omega (arith, some_within f xs k h)
 
 -- the row of a count that is there, and its place in it
-pub row_of_count : {A : Type 0} (rows : Counts A) (q at : ℕ) (row : Vec ℕ A) → row ≡ get_or rows q row → IsSome (count_at at q rows) → (slice_get rows q ≡ Some row) × (at < length row.items)
+pub row_of_count : {A : Type 0} (rows : Counts A) (q at : ℕ) (row : Vec ℕ A) → row ≡ get_or rows q row
+    → IsSome (count_at at q rows) → (slice_get rows q ≡ Some row) × (at < length row.items)
 row_of_count {A = A} rows q at row is some =
     let there : slice_get rows q ≡ Some row = slice_get-get_or rows q row (some_within (word_at at) rows q some) ∙ ap Some (sym is) in
     (there, some_within Some row.items at (and_some (slice_get row.items at) (subst (λ (o : Option (Vec ℕ A)). IsSome (option_and_then (word_at at) o)) there some)))
@@ -69,7 +84,8 @@ row_of_count {A = A} rows q at row is some =
     and_some None h = h
 
 -- one count replaced
-pub count_replaced : {A : Type 0} (rows : Counts A) (q : ℕ) (row new : Vec ℕ A) (at count : ℕ) → slice_get rows q ≡ Some row → new.items ≡ set row.items at count → at < length row.items → (place p k : ℕ)
+pub count_replaced : {A : Type 0} (rows : Counts A) (q : ℕ) (row new : Vec ℕ A) (at count : ℕ)
+    → slice_get rows q ≡ Some row → new.items ≡ set row.items at count → at < length row.items → (place p k : ℕ)
     → count_at place p (set rows q new) ≡ Some k → (count_at place p rows ≡ Some k) ⊎ ((place ≡ at) × (p ≡ q) × (k ≡ count))
 count_replaced rows q row new at count there is inside place p k read = elim (cases_eq p q) [
   | inr other ↦ inl (ap (option_and_then (word_at place)) (sym (get_set_other rows q p new other)) ∙ read)
@@ -83,7 +99,9 @@ count_replaced rows q row new at count there is inside place p k read = elim (ca
 ]
 
 -- a count is one of those before, or the one that was replaced
-pub count_is_one_of : {A : Type 0} (old new : Before A) (id : OpId) (process count q at : ℕ) → new.processes ≡ old.processes → process < old.processes → q ≡ id.process → at ≡ id.number * old.processes + process
+pub count_is_one_of : {A : Type 0} (old new : Before A) (id : OpId) (process count q at : ℕ)
+    → new.processes ≡ old.processes → process < old.processes → q ≡ id.process
+    → at ≡ id.number * old.processes + process
     → ((place p k : ℕ) → count_at place p new.counts.items ≡ Some k → (count_at place p old.counts.items ≡ Some k) ⊎ ((place ≡ at) × (p ≡ q) × (k ≡ count))) → (x : OpId) (p k : ℕ) → IsCount new x p k
     → IsCount old x p k ⊎ ((x ≡ id) × (p ≡ process) × (k ≡ count))
 count_is_one_of old new id process count q at same less own in_place replaced x p k (lt, is) =
@@ -96,14 +114,16 @@ count_is_one_of old new id process count q at same less own in_place replaced x 
           inr (ap₂ op_of (of ∙ own) both.0, both.1, now)
     ]
 
-pub same_counts : {A : Type 0} (old new : Before A) → new.processes ≡ old.processes → new.counts ≡ old.counts → (x : OpId) (p k : ℕ) → IsCount new x p k → IsCount old x p k
+pub same_counts : {A : Type 0} (old new : Before A) → new.processes ≡ old.processes → new.counts ≡ old.counts
+    → (x : OpId) (p k : ℕ) → IsCount new x p k → IsCount old x p k
 same_counts {A = A} old new processes counts x p k (lt, is) = (
   subst (λ (n : ℕ). p < n) processes lt,
   subst (λ (n : ℕ). count_at (x.number * n + p) x.process old.counts.items ≡ Some k) processes (subst (λ (rows : Vec (Vec ℕ A) A). count_at (x.number * new.processes + p) x.process rows.items ≡ Some k) counts is),
 )
 
 -- a count that was raised tells what comes before, too
-pub raised_forced : {A : Type 0} (s : Sought) (old new : Before A) (id : OpId) (process count : ℕ) → ((x : OpId) (p k : ℕ) → IsCount new x p k → IsCount old x p k ⊎ ((x ≡ id) × (p ≡ process) × (k ≡ count)))
+pub raised_forced : {A : Type 0} (s : Sought) (old new : Before A) (id : OpId) (process count : ℕ)
+    → ((x : OpId) (p k : ℕ) → IsCount new x p k → IsCount old x p k ⊎ ((x ≡ id) × (p ≡ process) × (k ≡ count)))
     → AreForced s old → ((m : ℕ) → m < count → Comes s (op_of process m) id) → AreForced s new
 raised_forced s old new id process count one_of forced comes x p m k is lt = elim (one_of x p k is) [
   | inl was ↦ forced x p m k was lt
@@ -111,7 +131,8 @@ raised_forced s old new id process count one_of forced comes x p m k is lt = eli
 ]
 
 -- an operation, and those of its process before it, come before what it comes before
-pub comes_with_own : (s : Sought) (a b : OpId) (n : ℕ) → IsFinished s.entries a → Comes s a b → n ≤ a.number + 1 → (m : ℕ) → m < n → Comes s (op_of a.process m) b
+pub comes_with_own : (s : Sought) (a b : OpId) (n : ℕ) → IsFinished s.entries a → Comes s a b → n ≤ a.number + 1
+    → (m : ℕ) → m < n → Comes s (op_of a.process m) b
 comes_with_own s a b n fin comes le m lt = elim (cases_eq m a.number) [
   | inl same ↦ subst (λ (k : ℕ). Comes s (op_of a.process k) b) (sym same) comes
   | inr other ↦ comes_through s (op_of a.process m) a b fin (own_comes s a.process m a.number (omega (arith, le, lt, other))) comes
@@ -130,7 +151,9 @@ module _ (old new : Makers) (key : ℕ × ℕ) (maker : Maker) (updates : Update
   pub maker_noted : (id : OpId) → Covers maker id → HasMaker new key id
   maker_noted id covers = (maker, updates.1, covers)
 
-  pub maker_kept : (o : Option Maker) → o ≡ get value_cmp old key → IfSome o (λ m. (x : OpId) → Covers m x → Covers maker x) → (q : ℕ × ℕ) (x : OpId) → HasMaker old q x → HasMaker new q x
+  pub maker_kept : (o : Option Maker) → o ≡ get value_cmp old key
+      → IfSome o (λ m. (x : OpId) → Covers m x → Covers maker x) → (q : ℕ × ℕ) (x : OpId) → HasMaker old q x
+      → HasMaker new q x
   maker_kept o is covers q x (m, had, there) = elim (cases_Bool (is_at (value_cmp key) q)) [
     | inl at ↦ (
       maker,
@@ -141,7 +164,8 @@ module _ (old new : Makers) (key : ℕ × ℕ) (maker : Maker) (updates : Update
   ]
 
 -- one entry more
-pub called_more : (h l : List Entry) → l ≡ h → (k : ℕ) (e : Entry) (old new : Makers) → IsAt l k e → IsMakerCalled new e → ((q : ℕ × ℕ) (x : OpId) → HasMaker old q x → HasMaker new q x) → AreCalledTo k h old → AreCalledTo (k + 1) h new
+pub called_more : (h l : List Entry) → l ≡ h → (k : ℕ) (e : Entry) (old new : Makers) → IsAt l k e → IsMakerCalled new e
+    → ((q : ℕ × ℕ) (x : OpId) → HasMaker old q x → HasMaker new q x) → AreCalledTo k h old → AreCalledTo (k + 1) h new
 called_more h l same k e old new here noted kept before j x lt there = elim (cases_eq j k) [
   | inl is ↦ subst (IsMakerCalled new) (same_at h k e x (subst (λ (es : List Entry). IsAt es k e) same here) (subst (λ (i : ℕ). IsAt h i x) is there)) noted
   | inr not ↦ still x (before j x (omega (arith, lt, not)) there)
@@ -156,23 +180,28 @@ all_called h n makers le all value id (at, op, called, own, made) =
     let inside = within h called.0 (Called at id op) called.1 in
     subst (λ (r : ℕ). HasMaker makers (r, value.1) id) own (all called.0 (Called at id op) (omega (arith, inside, le)) called.1 value.1 made)
 
-pub reader_is : (h : List Entry) (makers : Makers) (r : Reader) → AreMakers h makers → IsAsker h (r.id.process, r.value) r.id.number → r.source ≡ get value_cmp makers r.value → IsReader h r
-reader_is h makers r all asker is = record { asker = asker; source = λ id maker. let there = all r.value id maker in (there.0, is ∙ there.1, there.2) }
+pub reader_is : (h : List Entry) (makers : Makers) (r : Reader) → AreMakers h makers
+    → IsAsker h (r.id.process, r.value) r.id.number → r.source ≡ get value_cmp makers r.value → IsReader h r
+reader_is h makers r all asker is =
+    record { asker = asker; source = λ id maker. let there = all r.value id maker in (there.0, is ∙ there.1, there.2) }
 
-pub covered : (h : List Entry) (r : Reader) (m : Maker) → r.source ≡ Some m → IsReader h r → (id : OpId) → IsMaker h r.value id → Covers m id
+pub covered : (h : List Entry) (r : Reader) (m : Maker) → r.source ≡ Some m → IsReader h r → (id : OpId)
+    → IsMaker h r.value id → Covers m id
 covered h r m is reader id maker =
     let there = reader.source id maker in
     let same : there.0 ≡ m = same_Some there.0 m (sym there.1 ∙ is) in
     subst (λ (n : Maker). Covers n id) same there.2
 
-pub only_source : (h : List Entry) (r : Reader) (m : Maker) (o : Option OpId) → r.source ≡ Some m → IsReader h r → IfSome o (λ w. (x : OpId) → Covers m x → x ≡ w) → IfSome o (IsOnlyMaker h r.value)
+pub only_source : (h : List Entry) (r : Reader) (m : Maker) (o : Option OpId) → r.source ≡ Some m → IsReader h r
+    → IfSome o (λ w. (x : OpId) → Covers m x → x ≡ w) → IfSome o (IsOnlyMaker h r.value)
 only_source h r m (Some w) is reader only = λ id maker. only id (covered h r m is reader id maker)
 only_source h r m None is reader only = tt
 
 pub no_maker : (h : List Entry) (r : Reader) → r.source ≡ None → IsReader h r → (id : OpId) → IsMaker h r.value id → ⊥
 no_maker h r is reader id maker = let there = reader.source id maker in none-some there.0 (sym is ∙ there.1)
 
-pub overwrites_is : (h : List Entry) (id : OpId) (value : ℕ × ℕ) (f : Fact) (left : ℕ) → IsFactOf h id f → register_of f.op ≡ value.0
+pub overwrites_is : (h : List Entry) (id : OpId) (value : ℕ × ℕ) (f : Fact) (left : ℕ) → IsFactOf h id f
+    → register_of f.op ≡ value.0
     → ((m : Memory) → register_of f.op < length m → IfSome f.answered (λ given. given.answer ≡ answer_of f.op m) → slice_index (after f.op m) (register_of f.op) ≡ left) → left ≢ value.1 → Overwrites h id value
 overwrites_is h id value f left is own leaves apart = record {
   at = f.called;

@@ -1,5 +1,6 @@
 -- One layer after another.
-use Rattle.std.proofs.Common.{◌≡◌, inl, inr, ℕ, suc, ◌+◌, List, [], ◌∷◌, ◌++◌, length, refl, ap, sym, ◌∙◌, subst, arith, length-append, ◌⊎◌, ◌<◌, ◌≤◌, Some, ◌*◌, ◌-◌}
+use Rattle.std.proofs.Common.{◌≡◌, inl, inr, ℕ, suc, ◌+◌, List, [], ◌∷◌, ◌++◌, length, refl, ap, sym, ◌∙◌, subst, arith}
+use Rattle.std.proofs.Common.{length-append, ◌⊎◌, ◌<◌, ◌≤◌, Some, ◌*◌, ◌-◌}
 use Rattle.std.specs.Prelude.{slice_index, ◌^◌}
 use Rattle.std.proofs.lemmas.Bool.{cases_eq}
 use Rattle.std.proofs.lemmas.List.{length-map}
@@ -12,13 +13,16 @@ use Rattle.reg_checkers.specs.History.{IsAt}
 use Rattle.reg_checkers.proofs.Places.{element_at}
 use Rattle.reg_outcomes.specs.declared.faults.InterleavingFault.{InterleavingFault}
 use Rattle.reg_outcomes.specs.declared.faults.InterleavingFault.TheVariants.{TooManyStages, OutOfMemory}
-use Rattle.reg_outcomes.specs.Interleavings.{IsFault, IsFewFault, Leads, Nothing, Turn, Stage, first_stage, script_of, stage_after, IsWider, ArePlayable}
+use Rattle.reg_outcomes.specs.Interleavings.{IsFault, IsFewFault, Leads, Nothing, Turn, Stage, first_stage, script_of}
+use Rattle.reg_outcomes.specs.Interleavings.{stage_after, IsWider, ArePlayable}
 use Rattle.reg_outcomes.specs.Layers.{Adds, IsLayer, IsNextOf, Refuses, operation_count, AreCounted}
 use Rattle.reg_outcomes.proofs.Leading.{most_operations, no_more_turns}
-use Rattle.reg_outcomes.proofs.Numbering.{as_many_turns, behind, different_both, different_of, in_at, once_of, stages_of}
+use Rattle.reg_outcomes.proofs.Numbering.{as_many_turns, behind, different_both, different_of, in_at, once_of}
+use Rattle.reg_outcomes.proofs.Numbering.{stages_of}
 
 -- a list but for one of its elements
-others : {F : Type 0} (fs : List F) (f : F) → In f fs → (rest : List F) × (length rest + 1 ≡ length fs) × ((g : F) → In g fs → (g ≡ f) ⊎ In g rest)
+others : {F : Type 0} (fs : List F) (f : F) → In f fs
+    → (rest : List F) × (length rest + 1 ≡ length fs) × ((g : F) → In g fs → (g ≡ f) ⊎ In g rest)
 others [] f h = absurd h
 others (x ∷ xs) f (inl e) = (xs, (omega arith), λ g h. elim h [ inl same ↦ inl (same ∙ sym e) | inr other ↦ inr other ])
 others (x ∷ xs) f (inr h) =
@@ -27,7 +31,9 @@ others (x ∷ xs) f (inr h) =
     (x ∷ less.0, omega (arith, count), λ g at. elim at [ inl same ↦ inr (inl same) | inr other ↦ elim (less.2 g other) [ inl e ↦ inl e | inr k ↦ inr (inr k) ] ])
 
 -- no more elements, each once, than those that they are read from
-pub no_more : {X F : Type 0} (read : F → X) (xs : List X) (fs : List F) → ((i j : ℕ) (x : X) → IsAt xs i x → IsAt xs j x → i ≡ j) → ((i : ℕ) (x : X) → IsAt xs i x → (f : F) × In f fs × (read f ≡ x)) → length xs ≤ length fs
+pub no_more : {X F : Type 0} (read : F → X) (xs : List X) (fs : List F)
+    → ((i j : ℕ) (x : X) → IsAt xs i x → IsAt xs j x → i ≡ j)
+    → ((i : ℕ) (x : X) → IsAt xs i x → (f : F) × In f fs × (read f ≡ x)) → length xs ≤ length fs
 no_more read [] fs once found = omega arith
 no_more {X} {F} read (s ∷ ss) fs once found =
     let here = found 0 s refl in
@@ -49,7 +55,8 @@ no_more {X} {F} read (s ∷ ss) fs once found =
     not_first e = omega arith
 
 -- no turn leads to the first stage, and to no other
-pub first_is : (scripts : List (List Op)) (registers : ℕ) → IsLayer scripts registers 0 ((first_stage (length scripts) registers, []) ∷ [])
+pub first_is : (scripts : List (List Op)) (registers : ℕ)
+    → IsLayer scripts registers 0 ((first_stage (length scripts) registers, []) ∷ [])
 first_is scripts registers = record { each = each; all = all }
   where
     start : Stage × List ℕ
@@ -87,13 +94,15 @@ module _ (scripts : List (List Op)) (registers k : ℕ) (layer : List (Stage × 
       let new = adds.added to (entry, found.1, (p, record { op = op; next = there; stage = refl; turns = refl })) in
       (new.0, new.1, subst (λ (x : Stage). new.0.0 ≡ stage_after p op x) same new.2)
 
-  pub next_is : (next : List (Stage × List ℕ)) → Adds (IsNextOf scripts layer) [] next → IsLayer scripts registers (k + 1) next
+  pub next_is : (next : List (Stage × List ℕ)) → Adds (IsNextOf scripts layer) [] next
+      → IsLayer scripts registers (k + 1) next
   next_is next adds = record {
     each = λ f h. elim (adds.only f h) [ inl old ↦ absurd old | inr new ↦ led f new ];
     all = all_next next adds;
   }
 
-  pub is_fault : (limit : ℕ) (fault : InterleavingFault) → Refuses limit (IsNextOf scripts layer) [] fault → IsFault scripts registers limit fault
+  pub is_fault : (limit : ℕ) (fault : InterleavingFault) → Refuses limit (IsNextOf scripts layer) [] fault
+      → IsFault scripts registers limit fault
   is_fault limit TooManyStages over = record {
     turns = k + 1;
     stages = stages_of over.found;
@@ -109,7 +118,8 @@ module _ (scripts : List (List Op)) (registers k : ℕ) (layer : List (Stage × 
   is_fault limit OutOfMemory h = tt
 
   -- the stages so far, and more new ones than are left of the most
-  pub few_fault : (most n : ℕ) (fault : InterleavingFault) → n ≤ most → AreCounted scripts registers k n → Refuses (most - n) (IsNextOf scripts layer) [] fault → IsFewFault scripts registers most fault
+  pub few_fault : (most n : ℕ) (fault : InterleavingFault) → n ≤ most → AreCounted scripts registers k n
+      → Refuses (most - n) (IsNextOf scripts layer) [] fault → IsFewFault scripts registers most fault
   few_fault most n TooManyStages few counted over = record {
     stages = counted.stages ++ stages_of over.found;
     more = (let a = length-append counted.stages (stages_of over.found) in let b = length-map over.found (λ f. f.0) in let c = counted.count in let m = over.more in omega (arith, a, b, c, m, few));
@@ -142,7 +152,9 @@ module _ (scripts : List (List Op)) (registers k : ℕ) (layer : List (Stage × 
       omega (arith, few, most, more)
 
 -- and no turns lead on once all operations are behind
-pub none_wider : (scripts : List (List Op)) (registers limit : ℕ) → ((w : IsWider scripts registers limit) → w.turns ≤ operation_count scripts → ⊥) → IsWider scripts registers limit → ⊥
+pub none_wider : (scripts : List (List Op)) (registers limit : ℕ)
+    → ((w : IsWider scripts registers limit) → w.turns ≤ operation_count scripts → ⊥) → IsWider scripts registers limit
+    → ⊥
 none_wider scripts registers limit narrow w =
     let first = element_at w.stages 0 (let more = w.more in omega (arith, more)) in
     let led = w.led 0 first.0 first.1 in
@@ -150,10 +162,14 @@ none_wider scripts registers limit narrow w =
     let count = led.2 in
     narrow w (omega (arith, few, count))
 
-pub narrow_at_first : (scripts : List (List Op)) (registers limit : ℕ) → 0 < limit → (w : IsWider scripts registers limit) → w.turns ≤ 0 → ⊥
+pub narrow_at_first : (scripts : List (List Op)) (registers limit : ℕ) → 0 < limit
+    → (w : IsWider scripts registers limit) → w.turns ≤ 0 → ⊥
 narrow_at_first scripts registers limit some w e = is_narrow scripts registers 0 ((first_stage (length scripts) registers, []) ∷ []) (first_is scripts registers) limit (omega (arith, some)) w (omega (arith, e))
 
-pub narrow_at_next : (scripts : List (List Op)) (registers limit k : ℕ) (layer : List (Stage × List ℕ)) → IsLayer scripts registers (k + 1) layer → length layer ≤ limit → ((w : IsWider scripts registers limit) → w.turns ≤ k → ⊥) → (w : IsWider scripts registers limit) → w.turns ≤ k + 1 → ⊥
+pub narrow_at_next : (scripts : List (List Op)) (registers limit k : ℕ) (layer : List (Stage × List ℕ))
+    → IsLayer scripts registers (k + 1) layer → length layer ≤ limit
+    → ((w : IsWider scripts registers limit) → w.turns ≤ k → ⊥) → (w : IsWider scripts registers limit)
+    → w.turns ≤ k + 1 → ⊥
 narrow_at_next scripts registers limit k layer is few narrow w le = elim (cases_eq w.turns (k + 1)) [
   | inl e ↦ is_narrow scripts registers (k + 1) layer is limit few w e
   | inr ne ↦ narrow w (omega arith)
@@ -167,7 +183,8 @@ pub record IsOnTheWay (scripts : List (List Op)) (registers limit k : ℕ) (laye
   pub few : n ≤ (k + 1) * limit
 
 -- so the number of stages fits
-pub few_stages : (scripts : List (List Op)) (registers limit k n m : ℕ) → ArePlayable scripts registers → limit < 2 ^ 32 → k < operation_count scripts → n ≤ (k + 1) * limit → m ≤ limit → n + m < 2 ^ 64
+pub few_stages : (scripts : List (List Op)) (registers limit k n m : ℕ) → ArePlayable scripts registers → limit < 2 ^ 32
+    → k < operation_count scripts → n ≤ (k + 1) * limit → m ≤ limit → n + m < 2 ^ 64
 few_stages scripts registers limit k n m playable small lt few more =
     let most = most_operations scripts registers playable in
     let turns : k + 2 ≤ MOST_PROCESSES * MOST_OPERATIONS + 1 = omega (arith, most, lt) in

@@ -1,5 +1,6 @@
 -- A serial order that keeps the real time, and points that were looked for.
-use Rattle.std.proofs.Common.{ℕ, ◌≡◌, ◌↔◌, Bool, true, List, Option, Some, None, Result, Ok, Err, IfErr, Vec, MatchOption, sym, ◌∙◌}
+use Rattle.std.proofs.Common.{ℕ, ◌≡◌, ◌↔◌, Bool, true, List, Option, Some, None, Result, Ok, Err, IfErr, Vec}
+use Rattle.std.proofs.Common.{MatchOption, sym, ◌∙◌}
 use Rattle.std.specs.Option.{is_some}
 use Rattle.std.proofs.lemmas.Bool.{false≢true}
 use Rattle.reg_base.specs.declared.memory.OpId.{OpId}
@@ -12,8 +13,10 @@ use Rattle.reg_outcomes.proofs.Pointing.{has_points}
 use Rattle.reg_world.specs.RealTime.{KeepsRealTime}
 use Rattle.reg_outcomes.specs.Outcomes.{IsLinearizable}
 
-pub in_time_is : (n registers : ℕ) (h : List Entry) → IsHistory n registers h → (ids : List OpId) → IsSerial registers h ids → KeepsRealTime h ids → IsLinearizable registers h
-in_time_is n registers h good ids serial keeps = has_points n registers h good ids (record { serial = serial; time = time })
+pub in_time_is : (n registers : ℕ) (h : List Entry) → IsHistory n registers h → (ids : List OpId)
+    → IsSerial registers h ids → KeepsRealTime h ids → IsLinearizable registers h
+in_time_is n registers h good ids serial keeps =
+    has_points n registers h good ids (record { serial = serial; time = time })
   where
     time : StandsInTime h ids
     time i id other at answered op answer here call ans lt =
@@ -21,7 +24,9 @@ in_time_is n registers h good ids serial keeps = has_points n registers h good i
         (there.0, keeps there.0 i other id there.1 here (answered, at, answer, op, ans, call, lt), there.1)
 
 -- where some were found, or there are none
-pub found_is : {A : Type 0} (registers : ℕ) (h : List Entry) (o : Option (Vec Point A)) (b : Bool) → b ≡ is_some o → MatchOption o ((points : List Point) → ¬ IsPointOrder registers h points) (λ v. IsPointOrder registers h v.items) → (b ≡ true) ↔ IsLinearizable registers h
+pub found_is : {A : Type 0} (registers : ℕ) (h : List Entry) (o : Option (Vec Point A)) (b : Bool) → b ≡ is_some o
+    → MatchOption o ((points : List Point) → ¬ IsPointOrder registers h points) (λ v. IsPointOrder registers h v.items)
+    → (b ≡ true) ↔ IsLinearizable registers h
 found_is registers h None b is none = (λ e. absurd (false≢true (sym is ∙ e)), λ points. absurd (none points.0 points.1))
 found_is registers h (Some v) b is order = (λ e. (v.items, order), λ points. is)
 

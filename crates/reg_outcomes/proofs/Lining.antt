@@ -1,5 +1,6 @@
 -- The lines of a table, from the entries of the map.
-use Rattle.std.proofs.Common.{◌≡◌, inl, inr, ℕ, ◌<◌, true, false, List, [], ◌∷◌, map, Option, Some, None, get_or, refl, ap, sym, ◌∙◌, subst, arith}
+use Rattle.std.proofs.Common.{◌≡◌, inl, inr, ℕ, ◌<◌, true, false, List, [], ◌∷◌, map, Option, Some, None, get_or, refl}
+use Rattle.std.proofs.Common.{ap, sym, ◌∙◌, subst, arith}
 use Rattle.std.specs.BTreeMap.{BTreeMap, get, IsOrdered, is_at}
 use Rattle.std.specs.List.{IsDistinct, AllByRecursion}
 use Rattle.std.specs.List.Sorted.{IsPermutation, IsSorted}
@@ -18,7 +19,8 @@ use Rattle.reg_outcomes.specs.PlayTables.{Seen, Line, IsTallyOf, IsTable, Stands
 use Rattle.reg_outcomes.specs.Counts.{TellsOf, IsCounted, key_cmp, line_cmp, line_of}
 use Rattle.reg_outcomes.proofs.Elements.{has_at}
 use Rattle.reg_outcomes.proofs.Those.{contains_at, at_of}
-use Rattle.reg_outcomes.proofs.Ordering.{keys_total, lines_total, outcome_flips, same_keys, same_outcome, stands_before, tied_keys}
+use Rattle.reg_outcomes.proofs.Ordering.{keys_total, lines_total, outcome_flips, same_keys, same_outcome, stands_before}
+use Rattle.reg_outcomes.proofs.Ordering.{tied_keys}
 
 -- what stands in one order stands in another
 moved : {X : Type 0} (xs ys : List X) (k : ℕ) (x : X) → IsPermutation xs ys → IsAt xs k x → (j : ℕ) × IsAt ys j x

@@ -1,5 +1,6 @@
 -- What is left once the outcomes are cut out, listed.
-use Rattle.std.proofs.Common.{◌≡◌, ℕ, ◌<◌, ◌≤◌, ◌+◌, List, ◌∷◌, length, map, drop, Option, None, Some, Result, Ok, Err, ap, ap₂, sym, ◌∙◌, subst, arith}
+use Rattle.std.proofs.Common.{◌≡◌, ℕ, ◌<◌, ◌≤◌, ◌+◌, List, ◌∷◌, length, map, drop, Option, None, Some, Result, Ok, Err}
+use Rattle.std.proofs.Common.{ap, ap₂, sym, ◌∙◌, subst, arith}
 use Rattle.std.specs.Prelude.{IfOk, MatchOption, OnOk}
 use Rattle.std.specs.Option.{option_map}
 use Rattle.std.specs.declared.cmp.Ordering.{Ordering}
@@ -19,7 +20,8 @@ use Rattle.reg_outcomes.proofs.Combining.{left_never, never_left}
 use Rattle.reg_outcomes.proofs.Growing.{IsCut, at_in, in_at, same_place}
 
 -- the next one of those that are left
-pub next_left : (outcomes : List (List ToldAnswer)) (n : ℕ) (o : List ToldAnswer) → IsAt outcomes n o → drop n outcomes ≡ o ∷ drop (n + 1) outcomes
+pub next_left : (outcomes : List (List ToldAnswer)) (n : ℕ) (o : List ToldAnswer) → IsAt outcomes n o
+    → drop n outcomes ≡ o ∷ drop (n + 1) outcomes
 next_left outcomes n o at = drop_more outcomes n o (slice_get_within outcomes n o at) ∙ ap (λ x. x ∷ drop (n + 1) outcomes) (get_or_from_slice_get outcomes n o o at)
 
 module _ {K : Type 0} (read : K → List ToldAnswer) where
@@ -51,7 +53,10 @@ module _ {K : Type 0} (read : K → List ToldAnswer) where
     )
 
   -- the same of a call
-  pub tells_listed : {X E : Type 0} (outcomes : List (List ToldAnswer)) (first : List ToldAnswer) → IsAt outcomes 0 first → (ks left : List K) → AreCombinations outcomes (length first) (map read ks) → IsCut read outcomes ks left → (items : X → List K) (most : ℕ) (r : Result (Option X) E) → OnOk r (IsStrictlySortedBy by left)
+  pub tells_listed : {X E : Type 0} (outcomes : List (List ToldAnswer)) (first : List ToldAnswer)
+      → IsAt outcomes 0 first → (ks left : List K) → AreCombinations outcomes (length first) (map read ks)
+      → IsCut read outcomes ks left → (items : X → List K) (most : ℕ) (r : Result (Option X) E)
+      → OnOk r (IsStrictlySortedBy by left)
       → IfOk r (λ found. MatchOption found (most < length left) (λ list. (items list ≡ left) × (length left ≤ most))) → IfOk r (λ found. TellsNevers outcomes most (option_map (λ list. map read (items list)) found))
   tells_listed outcomes first at ks left all is items most (Ok found) ordered told = tells_nevers outcomes first at ks left all is ordered items most found told
   tells_listed outcomes first at ks left all is items most (Err e) ordered told = tt

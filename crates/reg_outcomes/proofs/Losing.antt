@@ -1,5 +1,7 @@
 -- Where a value is lost that is needed still, no order goes on.
-use Rattle.std.proofs.Common.{◌≡◌, ◌≢◌, ◌⊎◌, inl, inr, ℕ, ◌+◌, ◌<◌, ◌≤◌, zero, suc, cond, Bool, true, false, List, [], ◌∷◌, length, Option, Some, IfSome, Result, Ok, Err, OnOk, refl, ap, sym, ◌∙◌, subst, arith, get_or-set_same, get_or-set_other}
+use Rattle.std.proofs.Common.{◌≡◌, ◌≢◌, ◌⊎◌, inl, inr, ℕ, ◌+◌, ◌<◌, ◌≤◌, zero, suc, cond, Bool, true, false, List, []}
+use Rattle.std.proofs.Common.{◌∷◌, length, Option, Some, IfSome, Result, Ok, Err, OnOk, refl, ap, sym, ◌∙◌, subst}
+use Rattle.std.proofs.Common.{arith, get_or-set_same, get_or-set_other}
 use Rattle.std.specs.Prelude.{◌==◌, if◌then◌else◌, slice_index, slice_set}
 use Rattle.std.specs.BTreeMap.{Updates, get, is_at}
 use Rattle.std.specs.declared.cmp.Ordering.{Ordering}
@@ -21,7 +23,8 @@ use Rattle.reg_checkers.proofs.Places.{same_at}
 use Rattle.reg_outcomes.specs.declared.orders.kinds.OrderKind.{OrderKind}
 use Rattle.reg_outcomes.specs.declared.orders.uses.Uses.{Uses}
 use Rattle.reg_outcomes.specs.Interleavings.{Stage}
-use Rattle.reg_outcomes.specs.Losing.{AreMakersTo, AreUses, HasNoLater, IsAsker, IsAtLeast, IsLost, IsMakerNoted, Key, Lasts, made_of, use_cmp, value_cmp}
+use Rattle.reg_outcomes.specs.Losing.{AreMakersTo, AreUses, HasNoLater, IsAsker, IsAtLeast, IsLost, IsMakerNoted, Key}
+use Rattle.reg_outcomes.specs.Losing.{Lasts, made_of, use_cmp, value_cmp}
 use Rattle.reg_outcomes.specs.Placing.{IsPlaced}
 use Rattle.reg_outcomes.specs.Walking.{Ends, Goes, On}
 use Rattle.reg_outcomes.proofs.Placed.{in_bounds}
@@ -50,7 +53,8 @@ module _ (old new : Lasts) (key : Key) (number later : ℕ) (updates : Updates u
     | inr not ↦ (last, updates.0 q ∙ ap (λ b. cond b (Some later) (get use_cmp old q)) not ∙ had, less)
   ]
 
-  pub put_only : (later ≡ number) ⊎ (o ≡ Some later) → (q : Key) (v : ℕ) → get use_cmp new q ≡ Some v → (get use_cmp old q ≡ Some v) ⊎ ((q ≡ key) × (v ≡ number))
+  pub put_only : (later ≡ number) ⊎ (o ≡ Some later) → (q : Key) (v : ℕ) → get use_cmp new q ≡ Some v
+      → (get use_cmp old q ≡ Some v) ⊎ ((q ≡ key) × (v ≡ number))
   put_only one_of q v is = elim (cases_Bool (is_at (use_cmp key) q)) [
     | inl at ↦
         let value : v ≡ later = same_Some v later (sym is ∙ updates.0 q ∙ ap (λ b. cond b (Some later) (get use_cmp old q)) at) in
@@ -62,7 +66,10 @@ module _ (old new : Lasts) (key : Key) (number later : ℕ) (updates : Updates u
   ]
 
 -- one that needs a value
-pub asker_noted : {T E : Type 0} (h : List Entry) (old new : Lasts) (key : Key) (number : ℕ) (r : Result T E) → IsAsker h key number → OnOk r ((q : Key) (v : ℕ) → get use_cmp new q ≡ Some v → (get use_cmp old q ≡ Some v) ⊎ ((q ≡ key) × (v ≡ number)))
+pub asker_noted : {T E : Type 0} (h : List Entry) (old new : Lasts) (key : Key) (number : ℕ) (r : Result T E)
+    → IsAsker h key number
+    → OnOk r
+    ((q : Key) (v : ℕ) → get use_cmp new q ≡ Some v → (get use_cmp old q ≡ Some v) ⊎ ((q ≡ key) × (v ≡ number)))
     → OnOk r ((q : Key) (v : ℕ) → get use_cmp new q ≡ Some v → (get use_cmp old q ≡ Some v) ⊎ IsAsker h q v)
 asker_noted h old new key number (Err e) asker only = tt
 asker_noted h old new key number (Ok t) asker only = λ q v is. elim (only q v is) [
@@ -71,7 +78,8 @@ asker_noted h old new key number (Ok t) asker only = λ q v is. elim (only q v i
 ]
 
 -- one entry more
-pub makers_more : (h l : List Entry) → l ≡ h → (k : ℕ) (e : Entry) (old new : Lasts) → IsAt l k e → IsMakerNoted new e → ((q : Key) (v : ℕ) → IsAtLeast old q v → IsAtLeast new q v) → AreMakersTo k h old → AreMakersTo (k + 1) h new
+pub makers_more : (h l : List Entry) → l ≡ h → (k : ℕ) (e : Entry) (old new : Lasts) → IsAt l k e → IsMakerNoted new e
+    → ((q : Key) (v : ℕ) → IsAtLeast old q v → IsAtLeast new q v) → AreMakersTo k h old → AreMakersTo (k + 1) h new
 makers_more h l same k e old new here noted kept before j x lt there = elim (cases_eq j k) [
   | inl is ↦ subst (IsMakerNoted new) (same_at h k e x (subst (λ (es : List Entry). IsAt es k e) same here) (subst (λ (i : ℕ). IsAt h i x) is there)) noted
   | inr not ↦ still x (before j x (omega (arith, lt, not)) there)
@@ -95,7 +103,8 @@ stays_put m q r v u never gone is = elim (cases_eq r q) [
   | inr away ↦ gone (sym (get_or-set_other m q r v 0 away) ∙ is)
 ]
 
-pub stays : (op : Op) (m : List ℕ) (r u : ℕ) → (register_of op ≡ r → made_of op ≡ Some u → ⊥) → slice_index m r ≢ u → slice_index (after op m) r ≢ u
+pub stays : (op : Op) (m : List ℕ) (r u : ℕ) → (register_of op ≡ r → made_of op ≡ Some u → ⊥) → slice_index m r ≢ u
+    → slice_index (after op m) r ≢ u
 stays (Read q) m r u never gone = gone
 stays (Write q v) m r u never gone = stays_put m q r v u (λ a b. never a (ap Some b)) gone
 stays (Swap q v) m r u never gone = stays_put m q r v u (λ a b. never a (ap Some b)) gone

@@ -1,5 +1,6 @@
 -- What the history of a run that uses scripts up has: each operation of a script, and no other, finished.
-use Rattle.std.proofs.Common.{◌≡◌, ℕ, ◌<◌, cond, List, [], ◌∷◌, ◌++◌, map, length, Option, Some, None, refl, ap, ap₂, sym, ◌∙◌, subst, arith, append-nil}
+use Rattle.std.proofs.Common.{◌≡◌, ℕ, ◌<◌, cond, List, [], ◌∷◌, ◌++◌, map, length, Option, Some, None, refl, ap, ap₂}
+use Rattle.std.proofs.Common.{sym, ◌∙◌, subst, arith, append-nil}
 use Rattle.std.specs.Prelude.{◌==◌, ◌&&◌, not, nat_lt, slice_get}
 use Rattle.std.specs.Option.{is_some}
 use Rattle.std.proofs.lemmas.Bool.{cond_both, cond-true, cond-false, eq-eqb, ne_eqb}
@@ -36,7 +37,8 @@ use Rattle.reg_outcomes.specs.Interleavings.{script_of}
 use Rattle.reg_outcomes.proofs.Stepping.{has_script}
 use Rattle.reg_workload.proofs.Scripts.{calls_more}
 
--- Each operation that was called is that of its process's script with its number, and each operation of a script is finished.
+-- Each operation that was called is that of its process's script with its number, and each operation of a script is
+-- finished.
 pub record HasScripts (scripts : List (List Op)) (registers : ℕ) (h : List Entry) : Type 0 where
   pub history : IsHistory (length scripts) registers h
   pub called : (id : OpId) (at : ℕ) (op : Op) → IsCalled h id at op → IsAt (script_of scripts id.process) id.number op

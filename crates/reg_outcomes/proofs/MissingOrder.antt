@@ -33,7 +33,8 @@ at_listed f (suc n) p lt = elim (cases_eq p n) [
 ranked_total : IsTotalOrder ranked_cmp
 ranked_total = then_total (on_total (λ q. q.rank) nat_cmp_total) (then_total (on_total (λ q. q.id.process) nat_cmp_total) (on_total (λ q. q.id.number) nat_cmp_total))
 
-pub serial_order : (start : Op → ℕ → Start) (n registers : ℕ) → KeepsLaws start → (events : List Event) → (ids : List OpId) × IsSerial registers (whole start n registers events).history ids
+pub serial_order : (start : Op → ℕ → Start) (n registers : ℕ) → KeepsLaws start → (events : List Event)
+    → (ids : List OpId) × IsSerial registers (whole start n registers events).history ids
 serial_order start n registers laws events =
     let w : World = whole start n registers events in
     let tallies : List Tally = listed (tally_of w) n in

@@ -1,5 +1,6 @@
 -- Every list has a sorted one of the same elements.
-use Rattle.std.proofs.Common.{◌≡◌, ℕ, zero, suc, ◌+◌, ◌<◌, Bool, true, false, not, cond, List, [], ◌∷◌, length, refl, ap, sym, ◌∙◌, subst, arith}
+use Rattle.std.proofs.Common.{◌≡◌, ℕ, zero, suc, ◌+◌, ◌<◌, Bool, true, false, not, cond, List, [], ◌∷◌, length, refl}
+use Rattle.std.proofs.Common.{ap, sym, ◌∙◌, subst, arith}
 use Rattle.std.specs.Cmp.{IsTotalOrder, IsStrictWeakOrder}
 use Rattle.std.specs.List.{filter}
 use Rattle.std.specs.List.Sorted.{IsSorted, IsSortedBy, IsStable, IsStableBy, ties}
@@ -14,7 +15,8 @@ not_true true e = absurd (false≢true e)
 not_true false e = refl
 
 -- two elements of which a filter keeps one at most may change places
-swapped : {X : Type 0} (a b : Bool) (x y : X) (l : List X) → (a ≡ true → b ≡ true → ⊥) → cond a (x ∷ cond b (y ∷ l) l) (cond b (y ∷ l) l) ≡ cond b (y ∷ cond a (x ∷ l) l) (cond a (x ∷ l) l)
+swapped : {X : Type 0} (a b : Bool) (x y : X) (l : List X) → (a ≡ true → b ≡ true → ⊥)
+    → cond a (x ∷ cond b (y ∷ l) l) (cond b (y ∷ l) l) ≡ cond b (y ∷ cond a (x ∷ l) l) (cond a (x ∷ l) l)
 swapped true true x y l h = absurd (h refl refl)
 swapped true false x y l h = refl
 swapped false true x y l h = refl
@@ -86,7 +88,8 @@ module _ {X : Type 0} (lt : X → X → Bool) (order : IsStrictWeakOrder lt) whe
   is_stable [] z = refl
   is_stable (x ∷ xs) z = kept_in z x (sort xs) ∙ ap (λ l. cond (ties lt z x) (x ∷ l) l) (is_stable xs z)
 
-pub sorted_list : {X : Type 0} (cmp : X → X → Ordering) → IsTotalOrder cmp → (xs : List X) → (ys : List X) × IsSorted cmp ys × IsStable cmp xs ys
+pub sorted_list : {X : Type 0} (cmp : X → X → Ordering) → IsTotalOrder cmp → (xs : List X)
+    → (ys : List X) × IsSorted cmp ys × IsStable cmp xs ys
 sorted_list {X = X} cmp total xs =
     let lt : X → X → Bool = λ x y. is_lt (cmp x y) in
     let order : IsStrictWeakOrder lt = ranks_by total (λ (x : X). x) in

@@ -1,5 +1,6 @@
 -- What a history tells a process: what the operations of the process were answered, by number.
-use Rattle.std.proofs.Common.{◌≡◌, inl, inr, ℕ, zero, suc, ◌+◌, ◌<◌, ◌↔◌, Bool, true, cond, List, [], ◌∷◌, ◌++◌, Some, None, length, take, refl, ap, sym, ◌∙◌, subst, arith, append-nil}
+use Rattle.std.proofs.Common.{◌≡◌, inl, inr, ℕ, zero, suc, ◌+◌, ◌<◌, ◌↔◌, Bool, true, cond, List, [], ◌∷◌, ◌++◌, Some}
+use Rattle.std.proofs.Common.{None, length, take, refl, ap, sym, ◌∙◌, subst, arith, append-nil}
 use Rattle.std.specs.Prelude.{◌==◌, ◌&&◌}
 use Rattle.std.specs.List.{flat_map, range_with_len}
 use Rattle.std.proofs.lemmas.Bool.{cases_eq, cases_order, cond_both, and_parts, and_from, eqb-true, eq-eqb, ne_eqb}
@@ -11,7 +12,8 @@ use Rattle.reg_base.specs.declared.memory.Op.{Op}
 use Rattle.reg_base.specs.declared.memory.OpId.{OpId}
 use Rattle.reg_checkers.specs.declared.entries.Entry.{Entry}
 use Rattle.reg_checkers.specs.declared.entries.Entry.TheVariants.{Called, Answered}
-use Rattle.reg_checkers.specs.History.{IsAt, IsAnswered, IsCalled, IsFinished, WasCalled, MayCall, MayAnswer, IsInPlace, IsHistory}
+use Rattle.reg_checkers.specs.History.{IsAt, IsAnswered, IsCalled, IsFinished, WasCalled, MayCall, MayAnswer, IsInPlace}
+use Rattle.reg_checkers.specs.History.{IsHistory}
 use Rattle.reg_checkers.specs.Progress.{op_of}
 use Rattle.reg_checkers.proofs.Histories.{answer_is}
 use Rattle.reg_checkers.proofs.Noting.{history_front}
@@ -36,10 +38,12 @@ answer_in (Answered at other x ∷ es) id = cond (is_same other id) x (answer_in
 abbrev IsFound : List Entry → OpId → Answer → Type 0
 IsFound es id y = (at : ℕ) × IsAnswered es id at y
 
-found_here : (es : List Entry) (s : ℕ) (other : OpId) (y : Answer) (id : OpId) → other ≡ id → IsFound (Answered s other y ∷ es) id y
+found_here : (es : List Entry) (s : ℕ) (other : OpId) (y : Answer) (id : OpId) → other ≡ id
+    → IsFound (Answered s other y ∷ es) id y
 found_here es s other y id same = subst (λ z. IsFound (Answered s other y ∷ es) z y) same (s, (0, refl))
 
-found_at : (es : List Entry) (k at : ℕ) (id : OpId) (x : Answer) → IsAt es k (Answered at id x) → IsFound es id (answer_in es id)
+found_at : (es : List Entry) (k at : ℕ) (id : OpId) (x : Answer) → IsAt es k (Answered at id x)
+    → IsFound es id (answer_in es id)
 found_at [] k at id x h = absurd cc
 found_at (Called s other op ∷ es) zero at id x h = absurd cc
 found_at (Called s other op ∷ es) (suc k) at id x h = let r = found_at es k at id x h in (r.0, (suc r.1.0, r.1.1))
@@ -71,15 +75,19 @@ Calls h asked = (id : OpId) (at : ℕ) (op : Op) → IsCalled h id at op → ask
 
 -- what the first operations of a process told
 abbrev pub told_first : (OpId → Op) → (OpId → Answer) → ℕ → ℕ → List ToldAnswer
-told_first asked given p count = flat_map (λ m. told_in (asked (op_of p m)) (op_of p m) (given (op_of p m))) (range_with_len 0 count)
+told_first asked given p count =
+    flat_map (λ m. told_in (asked (op_of p m)) (op_of p m) (given (op_of p m))) (range_with_len 0 count)
 
-pub told_one_more : (asked : OpId → Op) (given : OpId → Answer) (p count : ℕ) → told_first asked given p (count + 1) ≡ told_first asked given p count ++ told_in (asked (op_of p count)) (op_of p count) (given (op_of p count))
+pub told_one_more : (asked : OpId → Op) (given : OpId → Answer) (p count : ℕ)
+    → told_first asked given p (count + 1)
+    ≡ told_first asked given p count ++ told_in (asked (op_of p count)) (op_of p count) (given (op_of p count))
 told_one_more asked given p count =
     let tells : ℕ → List ToldAnswer = λ m. told_in (asked (op_of p m)) (op_of p m) (given (op_of p m)) in
     ap (flat_map tells) (range_more 0 count count (omega arith)) ∙ flat_map-append tells (range_with_len 0 count) (count ∷ []) ∙ ap (λ l. flat_map tells (range_with_len 0 count) ++ l) (append-nil (tells count))
 
 -- a process has its answer before it calls again
-earlier_done : (n registers : ℕ) (h : List Entry) → IsHistory n registers h → (id : OpId) (m : ℕ) → WasCalled h id → m < id.number → IsFinished h (op_of id.process m)
+earlier_done : (n registers : ℕ) (h : List Entry) → IsHistory n registers h → (id : OpId) (m : ℕ) → WasCalled h id
+    → m < id.number → IsFinished h (op_of id.process m)
 earlier_done n registers h good id m (at, op, (k, here)) lt =
     let may : MayCall n registers (take k h) at id op = good k (Called at id op) here in
     let fin : IsFinished (take k h) (op_of id.process m) = may.idle (op_of id.process m) refl ((may.next m).0 lt) in
@@ -87,7 +95,9 @@ earlier_done n registers h good id m (at, op, (k, here)) lt =
     (fin.0, fin.1, (fin.2.0, there.1))
 
 -- an answer is to the first operation of its process that has none
-answers_next : (n registers : ℕ) (es : List Entry) → IsHistory n registers es → (at : ℕ) (id : OpId) (x : Answer) → MayAnswer es at id x → (count : ℕ) → ((m : ℕ) → (m < count) ↔ IsFinished es (op_of id.process m)) → id.number ≡ count
+answers_next : (n registers : ℕ) (es : List Entry) → IsHistory n registers es → (at : ℕ) (id : OpId) (x : Answer)
+    → MayAnswer es at id x → (count : ℕ) → ((m : ℕ) → (m < count) ↔ IsFinished es (op_of id.process m))
+    → id.number ≡ count
 answers_next n registers es good at id x may count done = elim (cases_order id.number count) [
   | inl e ↦ e
   | inr q ↦ elim q [
@@ -97,7 +107,8 @@ answers_next n registers es good at id x may count done = elim (cases_order id.n
 ]
 
 -- the last entry is in place after the others, which are a history
-before_last : (n registers : ℕ) (es : List Entry) (e : Entry) → IsHistory n registers (es ++ e ∷ []) → IsHistory n registers es × IsInPlace n registers es e
+before_last : (n registers : ℕ) (es : List Entry) (e : Entry) → IsHistory n registers (es ++ e ∷ [])
+    → IsHistory n registers es × IsInPlace n registers es e
 before_last n registers es e good =
     let front : take (length es) (es ++ e ∷ []) ≡ es = take_at es (e ∷ []) (length es) refl in
     (subst (IsHistory n registers) front (history_front n registers (es ++ e ∷ []) (length es) good), subst (λ (l : List Entry). IsInPlace n registers l e) front (good (length es) e (get_push_same es (length es) e refl)))
@@ -168,8 +179,10 @@ module _ (asked : OpId → Op) (given : OpId → Answer) (p : ℕ) (es : List En
       not_a_call : (s : ℕ) (op : Op) → Called s (op_of p (old.count + 1)) op ≡ Answered at (op_of p old.count) x → ⊥
       not_a_call s op same = cc
 
-pub history_told : (n registers : ℕ) (asked : OpId → Op) (given : OpId → Answer) (p : ℕ) (h : List Entry) → IsHistory n registers h → Calls h asked → Answers h given → IsTold asked given p h
-history_told n registers asked given p h = from_end (λ es. IsHistory n registers es → Calls es asked → Answers es given → IsTold asked given p es) none next h
+pub history_told : (n registers : ℕ) (asked : OpId → Op) (given : OpId → Answer) (p : ℕ) (h : List Entry)
+    → IsHistory n registers h → Calls h asked → Answers h given → IsTold asked given p h
+history_told n registers asked given p h =
+    from_end (λ es. IsHistory n registers es → Calls es asked → Answers es given → IsTold asked given p es) none next h
   where
     none : IsHistory n registers [] → Calls [] asked → Answers [] given → IsTold asked given p []
     none good calls is = record {

@@ -1,5 +1,7 @@
 -- Along a serial order each process does its script, and the turns tell what the history tells.
-use Rattle.std.proofs.Common.{◌≡◌, ◌≢◌, inl, inr, ℕ, zero, suc, ◌+◌, ◌<◌, ◌≤◌, ◌↔◌, cond, List, [], ◌∷◌, ◌++◌, length, map, take, replicate, refl, ap, ap₂, sym, ◌∙◌, subst, arith, append-nil, length-set, ext_get_or, get_or-set_same, get_or-set_other}
+use Rattle.std.proofs.Common.{◌≡◌, ◌≢◌, inl, inr, ℕ, zero, suc, ◌+◌, ◌<◌, ◌≤◌, ◌↔◌, cond, List, [], ◌∷◌, ◌++◌, length}
+use Rattle.std.proofs.Common.{map, take, replicate, refl, ap, ap₂, sym, ◌∙◌, subst, arith, append-nil, length-set}
+use Rattle.std.proofs.Common.{ext_get_or, get_or-set_same, get_or-set_other}
 use Rattle.std.specs.Prelude.{◌==◌, slice_get, slice_index}
 use Rattle.std.specs.Option.{unwrap_or}
 use Rattle.std.specs.List.{flat_map, range_with_len}
@@ -22,16 +24,19 @@ use Rattle.reg_outcomes.specs.Told.{told_in, told_of, outcome_of}
 use Rattle.reg_outcomes.proofs.Elements.{none_at_first, take_at}
 use Rattle.reg_world.proofs.lists.Members.{map_append}
 use Rattle.reg_world.proofs.one_memory.Replicas.{memory-append}
-use Rattle.reg_outcomes.specs.Interleavings.{Leads, Nothing, Turn, Stage, IsInterleaving, first_stage, stage_after, script_of}
+use Rattle.reg_outcomes.specs.Interleavings.{Leads, Nothing, Turn, Stage, IsInterleaving, first_stage, stage_after}
+use Rattle.reg_outcomes.specs.Interleavings.{script_of}
 use Rattle.reg_outcomes.proofs.ByProcess.{told_to, rises, part_after, by_process}
 use Rattle.reg_outcomes.proofs.MissingCalls.{HasScripts}
-use Rattle.reg_outcomes.proofs.MissingTold.{Answers, Calls, IsTold, told_first, told_one_more, answer_in, answers_in, history_told}
+use Rattle.reg_outcomes.proofs.MissingTold.{Answers, Calls, IsTold, told_first, told_one_more, answer_in, answers_in}
+use Rattle.reg_outcomes.proofs.MissingTold.{history_told}
 use Rattle.reg_outcomes.proofs.Stepping.{has_script}
 
 take_next : {X : Type 0} (xs : List X) (k : ℕ) (x : X) → IsAt xs k x → take (suc k) xs ≡ take k xs ++ x ∷ []
 take_next xs k x at = let one : suc k ≡ k + 1 = omega arith in ap (λ n. take n xs) one ∙ take_at xs k x at
 
-pub length_of_script : (scripts : List (List Op)) (p : ℕ) → slice_index (map length scripts) p ≡ length (script_of scripts p)
+pub length_of_script : (scripts : List (List Op)) (p : ℕ)
+    → slice_index (map length scripts) p ≡ length (script_of scripts p)
 length_of_script [] p = refl
 length_of_script (s ∷ ss) zero = refl
 length_of_script (s ∷ ss) (suc p) = length_of_script ss p
@@ -241,7 +246,8 @@ module _ (scripts : List (List Op)) (registers : ℕ) (h : List Entry) (has : Ha
     tells turns leads = by_process scripts registers turns last leads ∙ ap (λ (f : ℕ → List ToldAnswer). flat_map f (range_with_len 0 n)) (λ i p. told_same p i)
 
 -- the turns of a serial order are an interleaving with the outcome of the history
-pub interleaved : (scripts : List (List Op)) (registers : ℕ) (h : List Entry) → HasScripts scripts registers h → (ids : List OpId) → IsSerial registers h ids → (told : List ToldAnswer) → outcome_of (length scripts) h ≡ told
+pub interleaved : (scripts : List (List Op)) (registers : ℕ) (h : List Entry) → HasScripts scripts registers h
+    → (ids : List OpId) → IsSerial registers h ids → (told : List ToldAnswer) → outcome_of (length scripts) h ≡ told
     → (turns : List ℕ) × IsInterleaving scripts registers (record { turns = turns; told = told })
 interleaved scripts registers h has ids serial told is =
     let asked : OpId → Op = λ id. unwrap_or (slice_get (script_of scripts id.process) id.number) (Read 0) in

@@ -1,5 +1,6 @@
 -- The answers to the next operations of processes: where none of these has one, all finished operations are placed.
-use Rattle.std.proofs.Common.{◌≡◌, ◌⊎◌, inl, inr, ℕ, ◌+◌, ◌<◌, ◌≤◌, List, take, Option, Some, None, MatchOption, true, false, refl, sym, ◌∙◌, subst, arith}
+use Rattle.std.proofs.Common.{◌≡◌, ◌⊎◌, inl, inr, ℕ, ◌+◌, ◌<◌, ◌≤◌, List, take, Option, Some, None, MatchOption, true}
+use Rattle.std.proofs.Common.{false, refl, sym, ◌∙◌, subst, arith}
 use Rattle.std.specs.Prelude.{is_some, slice_index}
 use Rattle.std.proofs.lemmas.Bool.{cases_eq, cases_order}
 use Rattle.reg_base.specs.declared.memory.Answer.{Answer}
@@ -61,7 +62,9 @@ module _ (n registers : ℕ) (h : List Entry) (good : IsHistory n registers h) w
       let first = answered_below id.process (slice_index next id.process) id.number t b le answered in
       none id.process (process_within id t b answered) (first.0, first.1, first.2))
 
-  pub placed_before : (next : List ℕ) (at : ℕ) → ((p : ℕ) → p < n → (s : ℕ) (a : Answer) → IsAnswered h (op_of p (slice_index next p)) s a → at ≤ s) → ArePlacedBefore h next at
+  pub placed_before : (next : List ℕ) (at : ℕ)
+      → ((p : ℕ) → p < n → (s : ℕ) (a : Answer) → IsAnswered h (op_of p (slice_index next p)) s a → at ≤ s)
+      → ArePlacedBefore h next at
   placed_before next at none id t b answered lt = placed_or_next next id (λ le.
       let first = answered_below id.process (slice_index next id.process) id.number t b le answered in
       let late = none id.process (process_within id t b answered) first.0 first.1 first.2 in
@@ -86,24 +89,29 @@ module _ (h : List Entry) (id : OpId) where
   has_none (Some r) is e = absurd cc
 
 module _ (h : List Entry) (next : List ℕ) (m : ℕ) where
-  pub none_more : ((p : ℕ) → p < m → ¬ IsFinished h (op_of p (slice_index next p))) → ¬ IsFinished h (op_of m (slice_index next m)) → (p : ℕ) → p < m + 1 → ¬ IsFinished h (op_of p (slice_index next p))
+  pub none_more : ((p : ℕ) → p < m → ¬ IsFinished h (op_of p (slice_index next p)))
+      → ¬ IsFinished h (op_of m (slice_index next m)) → (p : ℕ) → p < m + 1
+      → ¬ IsFinished h (op_of p (slice_index next p))
   none_more before last p lt = elim (below_more p m lt) [ inl less ↦ before p less | inr e ↦ subst (λ q. ¬ IsFinished h (op_of q (slice_index next q))) (sym e) last ]
 
   abbrev NoneBefore : ℕ → ℕ → Type 0
   NoneBefore at p = (s : ℕ) (a : Answer) → IsAnswered h (op_of p (slice_index next p)) s a → at ≤ s
 
-  pub none_before_more : (at : ℕ) → ((p : ℕ) → p < m → NoneBefore at p) → NoneBefore at m → (p : ℕ) → p < m + 1 → NoneBefore at p
+  pub none_before_more : (at : ℕ) → ((p : ℕ) → p < m → NoneBefore at p) → NoneBefore at m → (p : ℕ) → p < m + 1
+      → NoneBefore at p
   none_before_more at before last p lt = elim (below_more p m lt) [ inl less ↦ before p less | inr e ↦ subst (NoneBefore at) (sym e) last ]
 
 module _ (h : List Entry) (next : List ℕ) (p : ℕ) where
   pub incomplete : IsFinished h (op_of p (slice_index next p)) → ¬ IsComplete h next
   incomplete fin all = let bad : slice_index next p < slice_index next p = all (op_of p (slice_index next p)) fin in omega (arith, bad)
 
-  pub not_placed_before : (at s : ℕ) (a : Answer) → IsAnswered h (op_of p (slice_index next p)) s a → s < at → ¬ ArePlacedBefore h next at
+  pub not_placed_before : (at s : ℕ) (a : Answer) → IsAnswered h (op_of p (slice_index next p)) s a → s < at
+      → ¬ ArePlacedBefore h next at
   not_placed_before at s a answered lt all = let bad : slice_index next p < slice_index next p = all (op_of p (slice_index next p)) s a answered lt in omega (arith, bad)
 
 -- what a table says of an operation
-pub fact_found : {A : Type 0} (rows : Rows A) (h : List Entry) (id : OpId) (o : Option Fact) → IsTable h rows → o ≡ cell rows id → MatchOption o (¬ WasCalled h id) (IsFactOf h id)
+pub fact_found : {A : Type 0} (rows : Rows A) (h : List Entry) (id : OpId) (o : Option Fact) → IsTable h rows
+    → o ≡ cell rows id → MatchOption o (¬ WasCalled h id) (IsFactOf h id)
 fact_found rows h id (Some f) table is = table.facts id f (sym is)
 fact_found rows h id None table is = λ was. let there = table.all id was in clash (is ∙ there.1)
   where

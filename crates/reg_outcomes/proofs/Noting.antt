@@ -1,5 +1,6 @@
 -- One stage more that leads to no order.
-use Rattle.std.proofs.Common.{◌≡◌, inl, inr, ℕ, ◌<◌, List, [], length, Some, Result, Ok, Err, OnOk, IfErr, get_or, ap, sym, ◌∙◌, subst}
+use Rattle.std.proofs.Common.{◌≡◌, inl, inr, ℕ, ◌<◌, List, [], length, Some, Result, Ok, Err, OnOk, IfErr, get_or, ap}
+use Rattle.std.proofs.Common.{sym, ◌∙◌, subst}
 use Rattle.std.specs.Prelude.{slice_set}
 use Rattle.std.specs.BTreeMap.{BTreeMap}
 use Rattle.std.proofs.lemmas.Bool.{cases_eq}
@@ -28,10 +29,14 @@ module _ {A : Type 0} (layers : Layers A) (placed : ℕ) (t : Stage) (old : BTre
     | inr away ↦ inl (layer, f, sym (get_set_other layers placed k new away) ∙ at, there, is)
   ]
 
-  pub noted_at : {T E : Type 0} (new : BTreeMap (Held A) (Unit {0})) (r : Result T E) → placed < length layers → old ≡ get_or layers placed old → OnOk r (Adds (λ f. f ≡ (t, [])) (stages_in old) (stages_in new)) → OnOk r (IsNoted placed t layers (slice_set layers placed new))
+  pub noted_at : {T E : Type 0} (new : BTreeMap (Held A) (Unit {0})) (r : Result T E) → placed < length layers
+      → old ≡ get_or layers placed old → OnOk r (Adds (λ f. f ≡ (t, [])) (stages_in old) (stages_in new))
+      → OnOk r (IsNoted placed t layers (slice_set layers placed new))
   noted_at new (Ok v) inside is adds = one_more new inside (is_old inside is) adds
   noted_at new (Err e) inside is adds = tt
 
-  pub refused_at : {T : Type 0} (limit : ℕ) (r : Result T InterleavingFault) → placed < length layers → old ≡ get_or layers placed old → IfErr r (Refuses limit (λ f. f ≡ (t, [])) (stages_in old)) → IfErr r (Overfills limit placed t layers)
+  pub refused_at : {T : Type 0} (limit : ℕ) (r : Result T InterleavingFault) → placed < length layers
+      → old ≡ get_or layers placed old → IfErr r (Refuses limit (λ f. f ≡ (t, [])) (stages_in old))
+      → IfErr r (Overfills limit placed t layers)
   refused_at limit (Ok v) inside is refuses = tt
   refused_at limit (Err e) inside is refuses = (old, is_old inside is, refuses)

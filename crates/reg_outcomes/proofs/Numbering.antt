@@ -1,5 +1,6 @@
 -- How many stages there are.
-use Rattle.std.proofs.Common.{◌≡◌, inl, inr, ℕ, zero, suc, ◌+◌, ◌≤◌, List, [], ◌∷◌, ◌++◌, length, map, Some, refl, ap, sym, ◌∙◌, subst, arith, length-append}
+use Rattle.std.proofs.Common.{◌≡◌, inl, inr, ℕ, zero, suc, ◌+◌, ◌≤◌, List, [], ◌∷◌, ◌++◌, length, map, Some, refl, ap}
+use Rattle.std.proofs.Common.{sym, ◌∙◌, subst, arith, length-append}
 use Rattle.std.proofs.lemmas.Bool.{cases_eq}
 use Rattle.std.proofs.lemmas.List.{length-map}
 use Rattle.std.proofs.lemmas.Option.{same_Some}
@@ -27,9 +28,11 @@ in_stages (g ∷ fs) f (inr h) = inr (in_stages fs f h)
 
 pub different_of : (fs : List (Stage × List ℕ)) → AreApart fs → AreDifferent (stages_of fs)
 different_of [] apart = tt
-different_of (f ∷ fs) apart = (λ t h e. let there = behind fs t h in apart.0 there.0 there.1 (e ∙ sym there.2), different_of fs apart.1)
+different_of (f ∷ fs) apart =
+    (λ t h e. let there = behind fs t h in apart.0 there.0 there.1 (e ∙ sym there.2), different_of fs apart.1)
 
-pub different_both : (ss ts : List Stage) → AreDifferent ss → AreDifferent ts → ((s : Stage) → In s ss → In s ts → ⊥) → AreDifferent (ss ++ ts)
+pub different_both : (ss ts : List Stage) → AreDifferent ss → AreDifferent ts → ((s : Stage) → In s ss → In s ts → ⊥)
+    → AreDifferent (ss ++ ts)
 different_both [] ts a b none = b
 different_both (s ∷ ss) ts a b none = (
   λ t h e. elim (in_cases t ss ts h) [ inl k ↦ a.0 t k e | inr k ↦ none t (inl (sym e)) k ],
@@ -54,8 +57,10 @@ once_of (t ∷ ss) different (suc i) zero s at here = absurd (different.0 s (in_
 once_of (t ∷ ss) different (suc i) (suc j) s at here = ap suc (once_of ss different.1 i j s at here)
 
 -- so many turns lead to a stage, and no other number
-pub as_many_turns : (scripts : List (List Op)) (registers : ℕ) (a b : List ℕ) (s : Stage) → Leads scripts registers a s → Leads scripts registers b s → length a ≡ length b
-as_many_turns scripts registers a b s first second = sym (keeps scripts registers a s first).count ∙ (keeps scripts registers b s second).count
+pub as_many_turns : (scripts : List (List Op)) (registers : ℕ) (a b : List ℕ) (s : Stage) → Leads scripts registers a s
+    → Leads scripts registers b s → length a ≡ length b
+as_many_turns scripts registers a b s first second =
+    sym (keeps scripts registers a s first).count ∙ (keeps scripts registers b s second).count
 
 module _ (scripts : List (List Op)) (registers : ℕ) where
   -- the first layer
@@ -73,7 +78,9 @@ module _ (scripts : List (List Op)) (registers : ℕ) where
       all turns s (Turn {turns = old} p op leads at) le = let l = length-append old (p ∷ []) in absurd (omega (arith, l, le))
 
   -- one layer more
-  pub next_counted : (k n m : ℕ) (layer : List (Stage × List ℕ)) → AreCounted scripts registers k n → IsLayer scripts registers (k + 1) layer → AreApart layer → m ≡ length layer → AreCounted scripts registers (k + 1) (n + m)
+  pub next_counted : (k n m : ℕ) (layer : List (Stage × List ℕ)) → AreCounted scripts registers k n
+      → IsLayer scripts registers (k + 1) layer → AreApart layer → m ≡ length layer
+      → AreCounted scripts registers (k + 1) (n + m)
   next_counted k n m layer old is apart e = record {
     stages = old.stages ++ stages_of layer;
     count = (let a = length-append old.stages (stages_of layer) in let b = length-map layer (λ f. f.0) in let c = old.count in omega (arith, a, b, c, e));
@@ -102,7 +109,8 @@ module _ (scripts : List (List Op)) (registers : ℕ) where
   }
 
   -- and no layer is left
-  pub all_counted : (k n : ℕ) → operation_count scripts ≤ k → AreCounted scripts registers k n → CountsStages scripts registers n
+  pub all_counted : (k n : ℕ) → operation_count scripts ≤ k → AreCounted scripts registers k n
+      → CountsStages scripts registers n
   all_counted k n most counted = record {
     stages = counted.stages;
     count = counted.count;

@@ -19,7 +19,8 @@ use Rattle.reg_outcomes.proofs.ToldOrder.{outcomes_exact, outcomes_total}
 use Rattle.reg_outcomes.specs.PlayTables.{Line, StandsBefore}
 use Rattle.reg_outcomes.specs.Counts.{line_cmp}
 
-pub keys_total : {K : Type 0} (items : K → List ToldAnswer) → IsTotalOrder (λ a b. slice_cmp told_cmp (items a) (items b))
+pub keys_total : {K : Type 0} (items : K → List ToldAnswer)
+    → IsTotalOrder (λ a b. slice_cmp told_cmp (items a) (items b))
 keys_total items = on_total items outcomes_total
 
 -- outcomes that compare alike are one
@@ -39,14 +40,17 @@ equal_back Equal = refl
 equal_back Greater = refl
 
 pub outcome_flips : (a b : Line) → same_outcome a b ≡ same_outcome b a
-outcome_flips a b = ap is_eq (outcomes_total.antisymm a.outcome b.outcome) ∙ equal_back (slice_cmp told_cmp b.outcome a.outcome)
+outcome_flips a b =
+    ap is_eq (outcomes_total.antisymm a.outcome b.outcome) ∙ equal_back (slice_cmp told_cmp b.outcome a.outcome)
 
 pub lines_total : IsTotalOrder line_cmp
-lines_total = then_total (back_total (on_total (λ l. l.tally.count) nat_cmp_total)) (on_total (λ l. l.outcome) outcomes_total)
+lines_total =
+    then_total (back_total (on_total (λ l. l.tally.count) nat_cmp_total)) (on_total (λ l. l.outcome) outcomes_total)
 
 -- a line that is no smaller, with another outcome, stands after
 pub stands_before : (a b : Line) → is_lt (line_cmp b a) ≡ false → same_outcome a b ≡ false → StandsBefore a b
-stands_before a b up apart = go (nat_cmp a.tally.count b.tally.count) refl (slice_cmp told_cmp b.outcome a.outcome) refl up
+stands_before a b up apart =
+    go (nat_cmp a.tally.count b.tally.count) refl (slice_cmp told_cmp b.outcome a.outcome) refl up
   where
     go : (c : Ordering) → c ≡ nat_cmp a.tally.count b.tally.count → (o : Ordering) → o ≡ slice_cmp told_cmp b.outcome a.outcome → is_lt (ordering_then c o) ≡ false → StandsBefore a b
     go Less e o f h = absurd cc
@@ -58,6 +62,8 @@ stands_before a b up apart = go (nat_cmp a.tally.count b.tally.count) refl (slic
     go Equal e Greater f h = inr (ranked a.tally.count b.tally.count Equal e, outcomes_total.antisymm a.outcome b.outcome ∙ ap ordering_reverse (sym f))
 
 -- what a sort by a closure that compares so gives
-pub sorted_by : {X : Type 0} {R : X → X → Ordering} → IsTotalOrder R → {F : Type 0} {g : Mut F (Bor X × (Bor X × Unit {0})) Ordering} {f : F} (xs : List X) → ((lt : X → X → Bool) → IsStrictWeakOrder lt → ComparesAs g lt f → IsSortedBy lt xs)
+pub sorted_by : {X : Type 0} {R : X → X → Ordering} → IsTotalOrder R
+    → {F : Type 0} {g : Mut F (Bor X × (Bor X × Unit {0})) Ordering} {f : F} (xs : List X)
+    → ((lt : X → X → Bool) → IsStrictWeakOrder lt → ComparesAs g lt f → IsSortedBy lt xs)
     → ((a : Bor X × (Bor X × Unit {0})) (r : Ordering) (f' : F) → Called g f a r f' → (r ≡ R a.0.now a.1.0.now) × (f' ≡ f)) → IsSorted R xs
 sorted_by {R = R} total {g = g} {f = f} xs up h = up (λ x y. is_lt (R x y)) (ranks_by total (λ x. x)) (always_returns_same g (λ a r. is_lt r ≡ is_lt (R a.0.now a.1.0.now)) f (λ a r f' k. (ap is_lt (h a r f' k).0, (h a r f' k).1)))

@@ -27,7 +27,9 @@ module _ (kind : OrderKind) (n registers : ℕ) (h : List Entry) where
       record { next = length-set from.next id.process (slice_index from.next id.process + 1) ∙ before.next; memory = length-after op from.memory ∙ before.memory }
 
   -- where an operation was placed, its process has it as the next one
-  pub placing : (id : OpId) (op : Op) (at : ℕ) (from : Stage) → id.number ≡ slice_index from.next id.process → IsCalled h id at op → MayCome h id op (answer_of op from.memory) → MayFollow kind h from.next id → IsPlaced kind h id.process from (placed_after id.process op from)
+  pub placing : (id : OpId) (op : Op) (at : ℕ) (from : Stage) → id.number ≡ slice_index from.next id.process
+      → IsCalled h id at op → MayCome h id op (answer_of op from.memory) → MayFollow kind h from.next id
+      → IsPlaced kind h id.process from (placed_after id.process op from)
   placing id op at from number called comes follows =
       let name : id ≡ op_of id.process (slice_index from.next id.process) = ap (op_of id.process) number in
       record { op = op; at = at; called = subst (λ i. IsCalled h i at op) name called; comes = subst (λ i. MayCome h i op (answer_of op from.memory)) name comes; follows = subst (λ i. MayFollow kind h from.next i) name follows; stage = refl }
@@ -51,7 +53,9 @@ module _ (kind : OrderKind) (n registers : ℕ) (h : List Entry) where
         subst (λ m. MayCome h (op_of p m) op answer) (sym is) (subst (λ (x : Answer). MayCome h (op_of p (slice_index s.next p)) op x) (sym given) come)
 
 module _ (kind : OrderKind) (h : List Entry) (p number : ℕ) (s : Stage) (is : number ≡ slice_index s.next p) where
-  pub is_placed : (later : Stage) (at : ℕ) (op : Op) (answer : Answer) → answer ≡ answer_of op s.memory → IsCalled h (op_of p number) at op → MayCome h (op_of p number) op answer → MayFollow kind h s.next (op_of p number) → later ≡ placed_after p op s → IsPlaced kind h p s later
+  pub is_placed : (later : Stage) (at : ℕ) (op : Op) (answer : Answer) → answer ≡ answer_of op s.memory
+      → IsCalled h (op_of p number) at op → MayCome h (op_of p number) op answer
+      → MayFollow kind h s.next (op_of p number) → later ≡ placed_after p op s → IsPlaced kind h p s later
   is_placed later at op answer given called comes follows stage = record {
     op = op;
     at = at;
@@ -65,7 +69,9 @@ module _ (kind : OrderKind) (h : List Entry) (p number : ℕ) (s : Stage) (is : 
   not_placed none to step = none (subst (λ m. WasCalled h (op_of p m)) (sym is) (step.at, step.op, step.called))
 
 -- whether an operation may follow, by its call
-pub follows_by_call : (kind : OrderKind) (n registers : ℕ) (h : List Entry) → IsHistory n registers h → (next : List ℕ) (id : OpId) (at : ℕ) (op : Op) → kind ≡ Points → IsCalled h id at op → (b : Bool) → IsTrue b ↔ ArePlacedBefore h next at → IsTrue b ↔ MayFollow kind h next id
+pub follows_by_call : (kind : OrderKind) (n registers : ℕ) (h : List Entry) → IsHistory n registers h
+    → (next : List ℕ) (id : OpId) (at : ℕ) (op : Op) → kind ≡ Points → IsCalled h id at op → (b : Bool)
+    → IsTrue b ↔ ArePlacedBefore h next at → IsTrue b ↔ MayFollow kind h next id
 follows_by_call kind n registers h good next id at op e called b test = (
   λ t. subst (λ k. MayFollow k h next id) (sym e) (λ s o call. subst (ArePlacedBefore h next) (call_is n registers h good id at s op o called call).0 (test.0 t)),
   λ may. test.1 (due (subst (λ k. MayFollow k h next id) e may)),

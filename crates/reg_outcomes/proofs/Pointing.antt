@@ -1,6 +1,8 @@
 -- Points at the latest calls so far: of an order that keeps the real time they are a point order, and each point order
 -- keeps it. So where there is a point order, it is a serial order of fewer stages.
-use Rattle.std.proofs.Common.{◌≡◌, ◌⊎◌, inl, inr, ℕ, zero, suc, ◌+◌, ◌<◌, ◌≤◌, List, [], ◌∷◌, ◌++◌, length, map, max, take, Option, Some, None, Result, Ok, Err, Vec, MatchOption, IfOk, refl, ap, sym, ◌∙◌, subst, arith, length-append}
+use Rattle.std.proofs.Common.{◌≡◌, ◌⊎◌, inl, inr, ℕ, zero, suc, ◌+◌, ◌<◌, ◌≤◌, List, [], ◌∷◌, ◌++◌, length, map, max}
+use Rattle.std.proofs.Common.{take, Option, Some, None, Result, Ok, Err, Vec, MatchOption, IfOk, refl, ap, sym, ◌∙◌}
+use Rattle.std.proofs.Common.{subst, arith, length-append}
 use Rattle.std.proofs.lemmas.Bool.{cases_lt}
 use Rattle.std.proofs.lemmas.List.{take_all}
 use Rattle.reg_base.specs.Shape.{Extent}
@@ -29,11 +31,14 @@ use Rattle.reg_outcomes.specs.Placing.{ArePointsOf, IsOrder, KeepsRealTime}
 use Rattle.reg_outcomes.specs.Sought.{Sought}
 
 -- what is placed for a point order is placed for a serial order too
-places_serially : (n registers : ℕ) (h : List Entry) (ids : List OpId) (s : Stage) → Places Points n registers h ids s → Places Serial n registers h ids s
+places_serially : (n registers : ℕ) (h : List Entry) (ids : List OpId) (s : Stage) → Places Points n registers h ids s
+    → Places Serial n registers h ids s
 places_serially n registers h ids s Nothing = Nothing
-places_serially n registers h ids s (Next {ids = old} {s = from} id op at places number called comes follows) = Next id op at (places_serially n registers h old from places) number called comes tt
+places_serially n registers h ids s (Next {ids = old} {s = from} id op at places number called comes follows) =
+    Next id op at (places_serially n registers h old from places) number called comes tt
 
-pub serial_fault : (n registers : ℕ) (h : List Entry) (limit : ℕ) (fault : InterleavingFault) → IsFindFault Points n registers h limit fault → IsFindFault Serial n registers h limit fault
+pub serial_fault : (n registers : ℕ) (h : List Entry) (limit : ℕ) (fault : InterleavingFault)
+    → IsFindFault Points n registers h limit fault → IsFindFault Serial n registers h limit fault
 serial_fault n registers h limit TooManyStages wide = record {
   placed = wide.placed;
   stages = wide.stages;
@@ -45,13 +50,15 @@ serial_fault n registers h limit OutOfMemory refused = tt
 
 module _ (n registers : ℕ) (h : List Entry) (good : IsHistory n registers h) where
   -- what may stand in an order was called
-  pub stands_called : (ids : List OpId) → IsSerial registers h ids → (k : ℕ) (id : OpId) → IsAt ids k id → WasCalled h id
+  pub stands_called : (ids : List OpId) → IsSerial registers h ids → (k : ℕ) (id : OpId) → IsAt ids k id
+      → WasCalled h id
   stands_called ids serial k id at = elim (serial.selection.known k id at) [
     | inl fin ↦ answered_was_called n registers h good id fin.0 fin.1 fin.2
     | inr call ↦ (call.0, call.1, call.2)
   ]
 
-  pub order_of_points : (ps : List Point) → IsPointOrder registers h ps → IsOrder Points registers h (map (λ p. p.id) ps)
+  pub order_of_points : (ps : List Point) → IsPointOrder registers h ps
+      → IsOrder Points registers h (map (λ p. p.id) ps)
   order_of_points ps order = record { serial = point_order_is_serial n registers h ps good order; time = time }
     where
       time : KeepsRealTime h (map (λ p. p.id) ps)
@@ -63,7 +70,8 @@ module _ (n registers : ℕ) (h : List Entry) (good : IsHistory n registers h) w
           (subst (λ (x : OpId). IsAnswered h x answered answer) (sym q.2) ans) (subst (λ (x : OpId). IsCalled h x at op) (sym p.2) call) lt in
           (there.0, before, there.1)
 
-  pub points_of_order : (ids : List OpId) (ps : List Point) → IsOrder Points registers h ids → ArePointsOf h ids ps → IsPointOrder registers h ps
+  pub points_of_order : (ids : List OpId) (ps : List Point) → IsOrder Points registers h ids → ArePointsOf h ids ps
+      → IsPointOrder registers h ps
   points_of_order ids ps order are = record {
     selection = subst (λ (l : List OpId). IsSelection h l) (sym are.same) order.serial.selection;
     legal = subst (λ (l : List OpId). IsLegal registers h l) (sym are.same) order.serial.legal;
@@ -85,17 +93,20 @@ module _ (n registers : ℕ) (h : List Entry) (good : IsHistory n registers h) w
         | inr le ↦ le
       ]
 
-  pub at_events : (ids : List OpId) (ps : List Point) → ArePointsOf h ids ps → (k : ℕ) (p : Point) → IsAt ps k p → p.at ≤ LAST_EVENT
+  pub at_events : (ids : List OpId) (ps : List Point) → ArePointsOf h ids ps → (k : ℕ) (p : Point) → IsAt ps k p
+      → p.at ≤ LAST_EVENT
   at_events ids ps are k p here = let from = are.call k p here in (good from.5.0 (Called p.at from.1 from.2) from.5.1).event
 
 -- the same of what a search goes by
 module _ (s : Sought) (shape : Extent) (h : List Entry) (good : IsHistory s.shape.processes s.shape.registers s.entries) (same_shape : s.shape ≡ shape) (same_entries : s.entries ≡ h) (same_kind : s.kind ≡ Points) where
-  pub no_points : ((ids : List OpId) → ¬ IsOrder s.kind s.shape.registers s.entries ids) → (ps : List Point) → ¬ IsPointOrder shape.registers h ps
+  pub no_points : ((ids : List OpId) → ¬ IsOrder s.kind s.shape.registers s.entries ids) → (ps : List Point)
+      → ¬ IsPointOrder shape.registers h ps
   no_points none ps order =
       let here = subst (λ (x : Extent). IsPointOrder x.registers s.entries ps) (sym same_shape) (subst (λ (es : List Entry). IsPointOrder shape.registers es ps) (sym same_entries) order) in
       none (map (λ p. p.id) ps) (subst (λ (k : OrderKind). IsOrder k s.shape.registers s.entries (map (λ p. p.id) ps)) (sym same_kind) (order_of_points s.shape.processes s.shape.registers s.entries good ps here))
 
-  pub are_points : (ids : List OpId) (ps : List Point) → IsOrder s.kind s.shape.registers s.entries ids → ArePointsOf s.entries ids ps → IsPointOrder shape.registers h ps
+  pub are_points : (ids : List OpId) (ps : List Point) → IsOrder s.kind s.shape.registers s.entries ids
+      → ArePointsOf s.entries ids ps → IsPointOrder shape.registers h ps
   are_points ids ps order are =
       let here = points_of_order s.shape.processes s.shape.registers s.entries good ids ps (subst (λ (k : OrderKind). IsOrder k s.shape.registers s.entries ids) same_kind order) are in
       subst (λ (es : List Entry). IsPointOrder shape.registers es ps) same_entries (subst (λ (x : Extent). IsPointOrder x.registers s.entries ps) same_shape here)
@@ -105,17 +116,24 @@ abbrev FindsIn : {A E : Type 0} → OrderKind → ℕ → List Entry → Result 
 FindsIn kind registers h r = IfOk r (λ o. MatchOption o ((ids : List OpId) → ¬ IsOrder kind registers h ids) (λ v. IsOrder kind registers h v.items))
 
 -- what a search finds is so of the history that it goes by
-pub found_in : {A E : Type 0} (s : Sought) (kind : OrderKind) (shape : Extent) (h : List Entry) → s.kind ≡ kind → s.shape ≡ shape → s.entries ≡ h → (r : Result (Option (Vec OpId A)) E) → FindsIn s.kind s.shape.registers s.entries r → FindsIn kind shape.registers h r
+pub found_in : {A E : Type 0} (s : Sought) (kind : OrderKind) (shape : Extent) (h : List Entry) → s.kind ≡ kind
+    → s.shape ≡ shape → s.entries ≡ h → (r : Result (Option (Vec OpId A)) E)
+    → FindsIn s.kind s.shape.registers s.entries r → FindsIn kind shape.registers h r
 found_in s kind shape h same_kind same_shape same_entries r found =
     subst (λ (k : OrderKind). FindsIn k shape.registers h r) same_kind (subst (λ (x : Extent). FindsIn s.kind x.registers h r) same_shape (subst (λ (es : List Entry). FindsIn s.kind s.shape.registers es r) same_entries found))
 
 -- an order that need keep no time is a serial order
-pub serially : {A E : Type 0} (registers : ℕ) (h : List Entry) (r : Result (Option (Vec OpId A)) E) → IfOk r (λ o. MatchOption o ((ids : List OpId) → ¬ IsOrder Serial registers h ids) (λ v. IsOrder Serial registers h v.items)) → IfOk r (λ o. MatchOption o ((ids : List OpId) → ¬ IsSerial registers h ids) (λ v. IsSerial registers h v.items))
+pub serially : {A E : Type 0} (registers : ℕ) (h : List Entry) (r : Result (Option (Vec OpId A)) E)
+    → IfOk r
+    (λ o. MatchOption o ((ids : List OpId) → ¬ IsOrder Serial registers h ids)
+    (λ v. IsOrder Serial registers h v.items))
+    → IfOk r (λ o. MatchOption o ((ids : List OpId) → ¬ IsSerial registers h ids) (λ v. IsSerial registers h v.items))
 serially registers h (Ok None) none = λ ids serial. none ids (record { serial = serial; time = tt })
 serially registers h (Ok (Some v)) order = order.serial
 serially registers h (Err e) refused = tt
 
-pub if_none : {X : Type 0} (o : Option X) (P : Type 0) (Q : X → Type 0) → ((x : X) → o ≡ Some x → ⊥) → MatchOption o P Q → P
+pub if_none : {X : Type 0} (o : Option X) (P : Type 0) (Q : X → Type 0) → ((x : X) → o ≡ Some x → ⊥) → MatchOption o P Q
+    → P
 if_none None P Q never h = h
 if_none (Some x) P Q never h = absurd (never x refl)
 
@@ -124,7 +142,8 @@ pub record IsPointing (h : List Entry) (ids : List OpId) (k at : ℕ) (ps : List
   pub same : map (λ p. p.id) ps ≡ take k ids
   pub count : length ps ≡ k
   pub late : (i : ℕ) (p : Point) (t : ℕ) (op : Op) → IsAt ps i p → IsCalled h p.id t op → t ≤ p.at
-  pub call : (i : ℕ) (p : Point) → IsAt ps i p → (j : ℕ) × (id : OpId) × (op : Op) × (j ≤ i) × IsAt ids j id × IsCalled h id p.at op
+  pub call : (i : ℕ) (p : Point) → IsAt ps i p
+      → (j : ℕ) × (id : OpId) × (op : Op) × (j ≤ i) × IsAt ids j id × IsCalled h id p.at op
   pub rising : (i j : ℕ) (p q : Point) → IsAt ps i p → IsAt ps j q → i < j → p.at ≤ q.at
   pub below : (i : ℕ) (p : Point) → IsAt ps i p → p.at ≤ at
   pub last : (at ≡ 0) ⊎ ((j : ℕ) × (id : OpId) × (op : Op) × (j < k) × IsAt ids j id × IsCalled h id at op)
@@ -209,8 +228,10 @@ module _ (n registers : ℕ) (h : List Entry) (good : IsHistory n registers h) (
           go (inr (i_is, is)) (inl b) = let inside = within ps j q b in absurd (omega (arith, inside, i_is, lt))
           go (inr (i_is, is)) (inr (j_is, other)) = absurd (omega (arith, i_is, j_is, lt))
 
-pub pointed : (h : List Entry) (ids : List OpId) (k at : ℕ) (ps : List Point) → length ids ≤ k → IsPointing h ids k at ps → ArePointsOf h ids ps
-pointed h ids k at ps le is = record { same = is.same ∙ take_all k ids le; late = is.late; call = is.call; rising = is.rising }
+pub pointed : (h : List Entry) (ids : List OpId) (k at : ℕ) (ps : List Point) → length ids ≤ k
+    → IsPointing h ids k at ps → ArePointsOf h ids ps
+pointed h ids k at ps le is =
+    record { same = is.same ∙ take_all k ids le; late = is.late; call = is.call; rising = is.rising }
 
 -- so an order that keeps the real time has points
 module _ (n registers : ℕ) (h : List Entry) (good : IsHistory n registers h) (ids : List OpId) (order : IsOrder Points registers h ids) where

@@ -1,5 +1,6 @@
 -- A search for an order: what each turn leaves as it was, and that it ends.
-use Rattle.std.proofs.Common.{◌≡◌, inl, inr, ℕ, zero, suc, ◌+◌, ◌-◌, ◌*◌, ◌<◌, ◌≤◌, List, [], ◌∷◌, ◌++◌, length, refl, ap, sym, ◌∙◌, subst, arith, length-append}
+use Rattle.std.proofs.Common.{◌≡◌, inl, inr, ℕ, zero, suc, ◌+◌, ◌-◌, ◌*◌, ◌<◌, ◌≤◌, List, [], ◌∷◌, ◌++◌, length, refl}
+use Rattle.std.proofs.Common.{ap, sym, ◌∙◌, subst, arith, length-append}
 use Rattle.std.proofs.Math.Nat.{mul-le-mul_right, suc-mul}
 use Rattle.std.specs.Prelude.{slice_index}
 use Rattle.std.specs.Int.{bit_at}
@@ -26,7 +27,8 @@ use Rattle.reg_outcomes.specs.Layers.{stage_of}
 use Rattle.reg_outcomes.specs.Placing.{HasRoomFor, IsComplete, IsOrder}
 use Rattle.reg_outcomes.specs.Searching.{IsNextChoice, IsSearch, IsTurned, left, left_of, weight}
 use Rattle.reg_outcomes.specs.Sought.{Sought}
-use Rattle.reg_outcomes.specs.Walking.{AreTried, FitsIn, Goes, HasFailed, IsNoted, IsPath, Layers, Longer, NotesNone, Overfills, Start, ids_of, stage_before, step_of}
+use Rattle.reg_outcomes.specs.Walking.{AreTried, FitsIn, Goes, HasFailed, IsNoted, IsPath, Layers, Longer, NotesNone}
+use Rattle.reg_outcomes.specs.Walking.{Overfills, Start, ids_of, stage_before, step_of}
 use Rattle.reg_outcomes.proofs.Numbering.{behind, different_of, in_at, once_of, stages_of}
 use Rattle.reg_outcomes.proofs.Placed.{in_bounds, room}
 use Rattle.reg_outcomes.proofs.Serial.{serial_is, time_of}
@@ -44,7 +46,8 @@ fewer d a b less =
     let some = heavy d in
     omega (arith, most, one, some)
 
-pub left_more : (d : ℕ) (steps : List Step) (x : Step) (tried : ℕ) → length steps < d → tried < x.tried → x.tried ≤ 18446744073709551616 → left d (steps ++ x ∷ []) 0 < left d steps tried
+pub left_more : (d : ℕ) (steps : List Step) (x : Step) (tried : ℕ) → length steps < d → tried < x.tried
+    → x.tried ≤ 18446744073709551616 → left d (steps ++ x ∷ []) 0 < left d steps tried
 left_more zero steps x tried inside less top = absurd (omega (arith, inside))
 left_more (suc d) [] x tried inside less top =
     let e : suc d - 1 ≡ d = omega arith in
@@ -60,13 +63,16 @@ some_left d tried =
     let some = heavy d in
     omega (arith, most, some)
 
-pub left_back : (d : ℕ) (steps : List Step) (x : Step) (tried : ℕ) → left d steps x.tried < left d (steps ++ x ∷ []) tried
+pub left_back : (d : ℕ) (steps : List Step) (x : Step) (tried : ℕ)
+    → left d steps x.tried < left d (steps ++ x ∷ []) tried
 left_back d [] x tried = let some = some_left (d - 1) tried in omega (arith, some)
 left_back d (y ∷ steps) x tried = let rest = left_back (d - 1) steps x tried in omega (arith, rest)
 
-start_is : (kind : OrderKind) (n registers : ℕ) (h : List Entry) (steps : List Step) (t : Stage) → IsPath kind n registers h steps t → steps ≡ [] → t ≡ first_stage n registers
+start_is : (kind : OrderKind) (n registers : ℕ) (h : List Entry) (steps : List Step) (t : Stage)
+    → IsPath kind n registers h steps t → steps ≡ [] → t ≡ first_stage n registers
 start_is kind n registers h steps t Start e = refl
-start_is kind n registers h steps t (Longer {steps = old} {s = from} c path known placed tried) e = let l = length-append old (step_of c from ∷ []) in let none = ap length e in absurd (omega (arith, l, none))
+start_is kind n registers h steps t (Longer {steps = old} {s = from} c path known placed tried) e =
+    let l = length-append old (step_of c from ∷ []) in let none = ap length e in absurd (omega (arith, l, none))
 
 module _ (s : Sought) where
   abbrev n : ℕ

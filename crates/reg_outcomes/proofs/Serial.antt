@@ -1,5 +1,7 @@
 -- Operations placed with all finished ones are an order, and each order can be placed.
-use Rattle.std.proofs.Common.{◌≡◌, ◌≢◌, ◌⊎◌, inl, inr, ℕ, zero, suc, ◌+◌, ◌<◌, ◌≤◌, true, List, [], ◌∷◌, ◌++◌, length, take, replicate, refl, ap, sym, ◌∙◌, subst, arith, get_or-set_same, get_or-set_other, add-one}
+use Rattle.std.proofs.Common.{◌≡◌, ◌≢◌, ◌⊎◌, inl, inr, ℕ, zero, suc, ◌+◌, ◌<◌, ◌≤◌, true, List, [], ◌∷◌, ◌++◌, length}
+use Rattle.std.proofs.Common.{take, replicate, refl, ap, sym, ◌∙◌, subst, arith, get_or-set_same, get_or-set_other}
+use Rattle.std.proofs.Common.{add-one}
 use Rattle.std.specs.Prelude.{slice_index, slice_set}
 use Rattle.std.specs.List.{AllZip}
 use Rattle.std.proofs.lemmas.Bool.{cases_eq, cases_order}
@@ -40,7 +42,8 @@ as_long R [] (y ∷ ys) all = absurd all
 as_long R (x ∷ xs) [] all = absurd all
 as_long R (x ∷ xs) (y ∷ ys) all = ap suc (as_long R xs ys all.1)
 
-zip_first : {X Y : Type 0} (R : X → Y → Type 0) (k : ℕ) (xs : List X) (ys : List Y) → AllZip R xs ys → AllZip R (take k xs) (take k ys)
+zip_first : {X Y : Type 0} (R : X → Y → Type 0) (k : ℕ) (xs : List X) (ys : List Y) → AllZip R xs ys
+    → AllZip R (take k xs) (take k ys)
 zip_first R zero xs ys all = tt
 zip_first R (suc k) [] [] all = tt
 zip_first R (suc k) [] (y ∷ ys) all = absurd all
@@ -157,7 +160,8 @@ pub record IsSound (registers : ℕ) (h : List Entry) (ids : List OpId) (s : Sta
   pub ops : List Op
   pub called : AreCalled h ids ops
   pub memory_is : s.memory ≡ memory registers ops
-  pub right : (k : ℕ) (id : OpId) (op : Op) (at : ℕ) (answer : Answer) → IsAt ids k id → IsAt ops k op → IsAnswered h id at answer → answer ≡ answer_of op (memory registers (take k ops))
+  pub right : (k : ℕ) (id : OpId) (op : Op) (at : ℕ) (answer : Answer) → IsAt ids k id → IsAt ops k op
+      → IsAnswered h id at answer → answer ≡ answer_of op (memory registers (take k ops))
   pub stand : (k : ℕ) (id : OpId) → IsAt ids k id → MayStand h id
 
 module _ (kind : OrderKind) (n registers : ℕ) (h : List Entry) where
@@ -225,12 +229,14 @@ module _ (n registers : ℕ) (h : List Entry) (good : IsHistory n registers h) w
         (there.0, omega (arith, inside, last), place_first old (x ∷ []) there.0 other there.1)
   ]
 
-  pub time_of : (kind : OrderKind) (ids : List OpId) (s : Stage) → Places kind n registers h ids s → KeepsTime kind h ids
+  pub time_of : (kind : OrderKind) (ids : List OpId) (s : Stage) → Places kind n registers h ids s
+      → KeepsTime kind h ids
   time_of Serial ids s places = tt
   time_of Points ids s places = real_time ids s places
 
 -- and where it stands before it, it is placed before
-follows_of : (h : List Entry) (kind : OrderKind) (ids : List OpId) (k : ℕ) (next : List ℕ) (id : OpId) → KeepsTime kind h ids → AreFirst (take k ids) next → IsAt ids k id → MayFollow kind h next id
+follows_of : (h : List Entry) (kind : OrderKind) (ids : List OpId) (k : ℕ) (next : List ℕ) (id : OpId)
+    → KeepsTime kind h ids → AreFirst (take k ids) next → IsAt ids k id → MayFollow kind h next id
 follows_of h Serial ids k next id time first here = tt
 follows_of h Points ids k next id time first here = λ at op call other answered answer ans lt.
     let there = time k id other at answered op answer here call ans lt in
@@ -238,7 +244,8 @@ follows_of h Points ids k next id time first here = λ at op call other answered
 
 module _ (kind : OrderKind) (n registers : ℕ) (h : List Entry) (good : IsHistory n registers h) where
   -- with all finished operations they are a serial order
-  pub serial_is : (ids : List OpId) (s : Stage) → Places kind n registers h ids s → IsComplete h s.next → IsSerial registers h ids
+  pub serial_is : (ids : List OpId) (s : Stage) → Places kind n registers h ids s → IsComplete h s.next
+      → IsSerial registers h ids
   serial_is ids s places complete =
       let sound = sound_of kind n registers h ids s places in
       let first = first_of kind n registers h good ids s places in

@@ -1,5 +1,6 @@
 -- What further entries, and one process more, tell.
-use Rattle.std.proofs.Common.{◌≡◌, ℕ, ◌+◌, List, [], ◌∷◌, ◌++◌, Option, Some, None, false, refl, sym, ap, ◌∙◌, arith, append-nil, append_assoc}
+use Rattle.std.proofs.Common.{◌≡◌, ℕ, ◌+◌, List, [], ◌∷◌, ◌++◌, Option, Some, None, false, refl, sym, ap, ◌∙◌, arith}
+use Rattle.std.proofs.Common.{append-nil, append_assoc}
 use Rattle.std.specs.List.{flat_map, range_with_len}
 use Rattle.std.proofs.lemmas.Grind.{flat_map-append}
 use Rattle.std.specs.Prelude.{◌==◌}
@@ -18,22 +19,27 @@ abbrev pub last_in : ℕ → Option Op → List Entry → Option Op
 last_in p last [] = last
 last_in p last (e ∷ es) = last_in p (called_last p last e) es
 
-pub last_push : (p : ℕ) (last : Option Op) (es : List Entry) (e : Entry) → last_in p last (es ++ e ∷ []) ≡ called_last p (last_in p last es) e
+pub last_push : (p : ℕ) (last : Option Op) (es : List Entry) (e : Entry)
+    → last_in p last (es ++ e ∷ []) ≡ called_last p (last_in p last es) e
 last_push p last [] e = refl
 last_push p last (x ∷ es) e = last_push p (called_last p last x) es e
 
 -- entries tell what they tell after those before them
-pub told_append : (p : ℕ) (last : Option Op) (es fs : List Entry) → told_from p last (es ++ fs) ≡ told_from p last es ++ told_from p (last_in p last es) fs
+pub told_append : (p : ℕ) (last : Option Op) (es fs : List Entry)
+    → told_from p last (es ++ fs) ≡ told_from p last es ++ told_from p (last_in p last es) fs
 told_append p last [] fs = refl
 told_append p last (e ∷ es) fs =
     ap (λ l. told_at p last e ++ l) (told_append p (called_last p last e) es fs)
     ∙ sym (append_assoc (told_at p last e) (told_from p (called_last p last e) es) (told_from p (last_in p (called_last p last e) es) fs))
 
-pub told_push : (p : ℕ) (last : Option Op) (es : List Entry) (e : Entry) → told_from p last (es ++ e ∷ []) ≡ told_from p last es ++ told_at p (last_in p last es) e
-told_push p last es e = told_append p last es (e ∷ []) ∙ ap (λ l. told_from p last es ++ l) (append-nil (told_at p (last_in p last es) e))
+pub told_push : (p : ℕ) (last : Option Op) (es : List Entry) (e : Entry)
+    → told_from p last (es ++ e ∷ []) ≡ told_from p last es ++ told_at p (last_in p last es) e
+told_push p last es e =
+    told_append p last es (e ∷ []) ∙ ap (λ l. told_from p last es ++ l) (append-nil (told_at p (last_in p last es) e))
 
 -- an answer of another process
-pub none_of_other : (p : ℕ) (last : Option Op) (at : ℕ) (id : OpId) (a : Answer) → (id.process == p) ≡ false → told_at p last (Answered at id a) ≡ []
+pub none_of_other : (p : ℕ) (last : Option Op) (at : ℕ) (id : OpId) (a : Answer) → (id.process == p) ≡ false
+    → told_at p last (Answered at id a) ≡ []
 none_of_other p None at id a away = refl
 none_of_other p (Some op) at id a away = cond-false (id.process == p) (told_in op id a) [] away
 
@@ -42,7 +48,8 @@ pub outcome_none : (es : List Entry) → [] ≡ outcome_of 0 es
 unfolding outcome_of
 outcome_none es = refl
 
-pub outcome_next : (n : ℕ) (es : List Entry) (old new : List ToldAnswer) → old ≡ outcome_of n es → new ≡ old ++ told_of n es → new ≡ outcome_of (n + 1) es
+pub outcome_next : (n : ℕ) (es : List Entry) (old new : List ToldAnswer) → old ≡ outcome_of n es
+    → new ≡ old ++ told_of n es → new ≡ outcome_of (n + 1) es
 unfolding outcome_of
 outcome_next n es old new e f =
     f ∙ ap (λ l. l ++ told_of n es) e ∙ sym (ap (flat_map (λ p. told_of p es)) (range_more 0 n n (omega arith)) ∙ (flat_map-append (λ p. told_of p es) (range_with_len 0 n) (n ∷ []) ∙ ap (λ l. flat_map (λ p. told_of p es) (range_with_len 0 n) ++ l) (append-nil (told_of n es))))

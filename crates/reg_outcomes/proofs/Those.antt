@@ -1,5 +1,6 @@
 -- Lists with one element more, and what holds of some of their elements.
-use Rattle.std.proofs.Common.{◌≡◌, ◌⊎◌, inl, inr, ℕ, zero, suc, ◌<◌, ◌≤◌, List, [], ◌∷◌, ◌++◌, length, Some, get_or, refl, ap, subst, arith}
+use Rattle.std.proofs.Common.{◌≡◌, ◌⊎◌, inl, inr, ℕ, zero, suc, ◌<◌, ◌≤◌, List, [], ◌∷◌, ◌++◌, length, Some, get_or}
+use Rattle.std.proofs.Common.{refl, ap, subst, arith}
 use Rattle.std.specs.List.{Contains}
 use Rattle.std.proofs.lemmas.Option.{slice_get_within, same_Some}
 use Rattle.reg_checkers.specs.History.{IsAt}
@@ -30,12 +31,14 @@ at_of (y ∷ xs) zero x lt e = ap Some e
 at_of (y ∷ xs) (suc k) x lt e = at_of xs k x (omega arith) e
 
 -- one more of those, or one of the others
-pub those_more : {X : Type 0} {P : X → Type 0} {xs ys : List X} (x : X) → P x → AreThose P xs ys → AreThose P (xs ++ x ∷ []) (ys ++ x ∷ [])
+pub those_more : {X : Type 0} {P : X → Type 0} {xs ys : List X} (x : X) → P x → AreThose P xs ys
+    → AreThose P (xs ++ x ∷ []) (ys ++ x ∷ [])
 those_more x p Nothing = Takes p Nothing
 those_more x p (Takes q rest) = Takes q (those_more x p rest)
 those_more x p (Leaves q rest) = Leaves q (those_more x p rest)
 
-pub those_same : {X : Type 0} {P : X → Type 0} {xs ys : List X} (x : X) → ¬ P x → AreThose P xs ys → AreThose P (xs ++ x ∷ []) ys
+pub those_same : {X : Type 0} {P : X → Type 0} {xs ys : List X} (x : X) → ¬ P x → AreThose P xs ys
+    → AreThose P (xs ++ x ∷ []) ys
 those_same x p Nothing = Leaves p Nothing
 those_same x p (Takes q rest) = Takes q (those_same x p rest)
 those_same x p (Leaves q rest) = Leaves q (those_same x p rest)
@@ -50,7 +53,8 @@ those_few (Takes q rest) = let l = those_few rest in omega (arith, l)
 those_few (Leaves q rest) = let l = those_few rest in omega (arith, l)
 
 -- each of those is one of the others, and P holds of it
-pub those_at : {X : Type 0} {P : X → Type 0} {xs ys : List X} → AreThose P xs ys → (k : ℕ) (y : X) → IsAt ys k y → (j : ℕ) × IsAt xs j y × P y
+pub those_at : {X : Type 0} {P : X → Type 0} {xs ys : List X} → AreThose P xs ys → (k : ℕ) (y : X) → IsAt ys k y
+    → (j : ℕ) × IsAt xs j y × P y
 those_at Nothing k y h = absurd cc
 those_at {P = P} (Takes {x = x} q rest) zero y h = (0, h, subst P (same_Some x y h) q)
 those_at (Takes q rest) (suc k) y h = let there = those_at rest k y h in (suc there.0, there.1, there.2)

@@ -1,5 +1,6 @@
 -- After a turn the memory and the answer are those of one memory.
-use Rattle.std.proofs.Common.{◌≡◌, ℕ, ◌+◌, false, List, [], ◌∷◌, ◌++◌, length, map, take, replicate, Some, None, refl, sym, ap, ◌∙◌, subst, inl, inr, arith, length-append, append_assoc, append-nil}
+use Rattle.std.proofs.Common.{◌≡◌, ℕ, ◌+◌, false, List, [], ◌∷◌, ◌++◌, length, map, take, replicate, Some, None, refl}
+use Rattle.std.proofs.Common.{sym, ap, ◌∙◌, subst, inl, inr, arith, length-append, append_assoc, append-nil}
 use Rattle.std.specs.Prelude.{slice_get}
 use Rattle.std.proofs.lemmas.Bool.{false≢true}
 use Rattle.std.proofs.lemmas.List.{take_at}
@@ -12,7 +13,8 @@ use Rattle.reg_base.specs.Memory.{Memory, memory, answer_of, after, updates}
 use Rattle.reg_base.specs.Order.{In}
 use Rattle.reg_base.proofs.Lists.{in_right}
 use Rattle.reg_front.specs.declared.starts.Start.{Start}
-use Rattle.reg_front.specs.declared.starts.Start.TheVariants.{Cast as Casts, CastAndAnswer as CastsAndAnswers, Look as Looks, Hold as Holds}
+use Rattle.reg_front.specs.declared.starts.Start.TheVariants.{Cast as Casts, CastAndAnswer as CastsAndAnswers}
+use Rattle.reg_front.specs.declared.starts.Start.TheVariants.{Look as Looks, Hold as Holds}
 use Rattle.reg_front.specs.Fronts.{MayStart, KeepsLaws}
 use Rattle.reg_process.specs.declared.events.Event.{Event}
 use Rattle.reg_process.specs.declared.events.Event.TheVariants.{Call}
@@ -25,7 +27,8 @@ use Rattle.reg_world.specs.declared.order.First.{First}
 use Rattle.reg_world.specs.Nodes.{unseen}
 use Rattle.reg_world.specs.Promises.{RepliesRight}
 use Rattle.reg_world.specs.Runs.{Cast, memory_of}
-use Rattle.reg_world.specs.World.{World, Replied, op_id, cast_in, casts_in, first_of, delivered_of, moved, run_of, whole}
+use Rattle.reg_world.specs.World.{World, Replied, op_id, cast_in, casts_in, first_of, delivered_of, moved, run_of}
+use Rattle.reg_world.specs.World.{whole}
 use Rattle.reg_world.proofs.lists.Bodies.{place_split, place_within}
 use Rattle.reg_world.proofs.lists.Members.{in_at, map_append}
 use Rattle.reg_world.proofs.one_memory.Replicas.{memory-append}
@@ -42,7 +45,8 @@ use Rattle.reg_outcomes.proofs.TurningTurn.{TurnTold, called_is, quiet_more, tol
 abbrev pub memory_after_run : ℕ → World → Memory
 memory_after_run registers w = memory registers (map (λ (f : First). f.op) w.order)
 
-order_grows : (start : Op → ℕ → Start) (w : World) (e : Event) (m : ℕ × Step) → (rest : List First) × ((moved start w e (Some m)).order ≡ w.order ++ rest)
+order_grows : (start : Op → ℕ → Start) (w : World) (e : Event) (m : ℕ × Step)
+    → (rest : List First) × ((moved start w e (Some m)).order ≡ w.order ++ rest)
 order_grows start w e m =
     let r = step start (w.nodes m.0).state m.1 in
     (map (first_of (w.casts ++ casts_in (op_id m.0 (w.nodes m.0).state.calls) m.1 r.1.cast) (length w.accepted)) (unseen (map delivered_of w.order) r.1.delivered), refl)

@@ -1,5 +1,6 @@
 -- How far from rest a call takes a run that is at rest.
-use Rattle.std.proofs.Common.{◌≡◌, ℕ, zero, suc, ◌+◌, ◌-◌, ◌*◌, ◌<◌, ◌≤◌, Bool, true, false, cond, List, [], ◌∷◌, ◌++◌, length, drop, Option, Some, None, refl, sym, ap, ◌∙◌, inl, inr, arith}
+use Rattle.std.proofs.Common.{◌≡◌, ℕ, zero, suc, ◌+◌, ◌-◌, ◌*◌, ◌<◌, ◌≤◌, Bool, true, false, cond, List, [], ◌∷◌, ◌++◌}
+use Rattle.std.proofs.Common.{length, drop, Option, Some, None, refl, sym, ap, ◌∙◌, inl, inr, arith}
 use Rattle.std.specs.Prelude.{◌==◌}
 use Rattle.std.specs.List.{count_by}
 use Rattle.std.specs.Option.{option_to_list}
@@ -12,7 +13,8 @@ use Rattle.reg_base.proofs.Totals.{total_both, total_least, total_each, total_at
 use Rattle.reg_frames.specs.declared.bodies.Body.{Body}
 use Rattle.reg_frames.specs.declared.bodies.Body.TheVariants.{Cast, Ack}
 use Rattle.reg_front.specs.declared.starts.Start.{Start}
-use Rattle.reg_front.specs.declared.starts.Start.TheVariants.{Cast as Casts, CastAndAnswer as CastsAndAnswers, Look as Looks, Hold as Holds}
+use Rattle.reg_front.specs.declared.starts.Start.TheVariants.{Cast as Casts, CastAndAnswer as CastsAndAnswers}
+use Rattle.reg_front.specs.declared.starts.Start.TheVariants.{Look as Looks, Hold as Holds}
 use Rattle.reg_process.specs.declared.steps.Step.TheVariants.{Call}
 use Rattle.reg_process.specs.Process.{State, Outcome, called, peer_at, pending_of, step, unsettled}
 use Rattle.reg_process.proofs.Peers.{queue_expected}
@@ -34,11 +36,14 @@ more_frames a m k l = omega (arith, l)
 pub called_queues : (s : State) (op : Op) (st : Start) → s.me < length s.peers → Queues s (called s op st)
 called_queues s op Casts l = record { expected = queue_expected (Cast (s.clock + 1) op) 0 s.me s.peers; pending = let e = pending_queue (Cast (s.clock + 1) op) s.me s.peers l in omega (arith, e) }
 called_queues s op CastsAndAnswers l = record { expected = queue_expected (Cast (s.clock + 1) op) 0 s.me s.peers; pending = let e = pending_queue (Cast (s.clock + 1) op) s.me s.peers l in omega (arith, e) }
-called_queues s op Looks l = record { expected = λ q. refl; pending = more_frames (pending_of s.peers) (length s.peers) s.me l }
-called_queues s op Holds l = record { expected = λ q. refl; pending = more_frames (pending_of s.peers) (length s.peers) s.me l }
+called_queues s op Looks l =
+    record { expected = λ q. refl; pending = more_frames (pending_of s.peers) (length s.peers) s.me l }
+called_queues s op Holds l =
+    record { expected = λ q. refl; pending = more_frames (pending_of s.peers) (length s.peers) s.me l }
 
 -- one body more is one cast more at most
-one_more_cast : (k : ℕ) (bs : List Body) (o : Option Body) → count_by is_cast (drop k (bs ++ option_to_list o)) ≤ count_by is_cast (drop k bs) + 1
+one_more_cast : (k : ℕ) (bs : List Body) (o : Option Body)
+    → count_by is_cast (drop k (bs ++ option_to_list o)) ≤ count_by is_cast (drop k bs) + 1
 one_more_cast k bs None = let e = ap (λ l. count_by is_cast (drop k l)) (append-nil bs) in omega (arith, e)
 one_more_cast zero bs (Some b) = let a = sum_by-append weight bs (b ∷ []) in let s = single b in omega (arith, a, s)
   where

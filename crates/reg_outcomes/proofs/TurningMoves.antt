@@ -1,6 +1,7 @@
 -- What events that call nothing do to a run in which one process alone is busy: no cast is made, and that process
 -- may be answered.
-use Rattle.std.proofs.Common.{◌≡◌, ◌⊎◌, ℕ, ◌-◌, ◌<◌, List, [], ◌∷◌, ◌++◌, length, map, Option, Some, None, refl, sym, ap, ◌∙◌, subst, inl, inr, append_assoc}
+use Rattle.std.proofs.Common.{◌≡◌, ◌⊎◌, ℕ, ◌-◌, ◌<◌, List, [], ◌∷◌, ◌++◌, length, map, Option, Some, None, refl, sym}
+use Rattle.std.proofs.Common.{ap, ◌∙◌, subst, inl, inr, append_assoc}
 use Rattle.std.specs.Prelude.{◌==◌, ◌&&◌, not, nat_lt, slice_get}
 use Rattle.std.proofs.lemmas.Bool.{cases_eq, cond_both}
 use Rattle.std.proofs.lemmas.List.{append-nil}
@@ -19,7 +20,8 @@ use Rattle.reg_process.specs.Process.{State, Outcome, still, step}
 use Rattle.reg_checkers.specs.declared.entries.Entry.TheVariants.{Answered}
 use Rattle.reg_world.specs.declared.order.First.{First}
 use Rattle.reg_world.specs.Nodes.{Node, Nodes, after_step, step_of, take_step, unseen}
-use Rattle.reg_world.specs.World.{World, op_id, calls_in, answers_in, casts_in, first_of, delivered_of, move_of, moved, whole}
+use Rattle.reg_world.specs.World.{World, op_id, calls_in, answers_in, casts_in, first_of, delivered_of, move_of, moved}
+use Rattle.reg_world.specs.World.{whole}
 use Rattle.reg_world.proofs.one_order.Acts.{put_cases}
 use Rattle.reg_world.proofs.one_order.NodeEvents.{put_same}
 use Rattle.reg_world.proofs.one_order.NodeLaws.{run_ok}
@@ -170,7 +172,8 @@ module _ (start : Op → ℕ → Start) (n p : ℕ) (u : World) where
   move_follows registers w e (Some m) quiet K F = moved_follows w e m K.0 quiet F
 
   -- all events, one after another
-  pub all_follow : (registers : ℕ) (events more : List Event) → ((e : Event) → In e more → IsQuiet e) → Follows n p u (whole start n registers events) → Follows n p u (whole start n registers (events ++ more))
+  pub all_follow : (registers : ℕ) (events more : List Event) → ((e : Event) → In e more → IsQuiet e)
+      → Follows n p u (whole start n registers events) → Follows n p u (whole start n registers (events ++ more))
   all_follow registers events [] quiet F = subst (λ es. Follows n p u (whole start n registers es)) (sym (append-nil events)) F
   all_follow registers events (e ∷ more) quiet F =
       let w = whole start n registers events in

@@ -24,7 +24,8 @@ abbrev pub made_as : First → Cast
 made_as f = record { stamp = f.stamp; id = f.id; op = f.op }
 
 -- a rising list of one cast alone has it once
-one_of : (c : Cast) (fs : List First) → Rising (map delivered_of fs) → ((f : First) → In f fs → made_as f ≡ c) → (fs ≡ [] → ⊥) → (f : First) × (fs ≡ f ∷ []) × (made_as f ≡ c)
+one_of : (c : Cast) (fs : List First) → Rising (map delivered_of fs) → ((f : First) → In f fs → made_as f ≡ c)
+    → (fs ≡ [] → ⊥) → (f : First) × (fs ≡ f ∷ []) × (made_as f ≡ c)
 one_of c [] r same some = absurd (some refl)
 one_of c (f ∷ []) r same some = (f, refl, same f (inl refl))
 one_of c (f ∷ g ∷ fs) r same some =

@@ -1,5 +1,6 @@
 -- Each interleaving has a run: its turns are made one after another, each from rest to rest.
-use Rattle.std.proofs.Common.{◌≡◌, ℕ, zero, suc, ◌+◌, ◌-◌, ◌*◌, ◌<◌, ◌≤◌, List, [], ◌∷◌, ◌++◌, length, map, take, replicate, refl, sym, ap, ◌∙◌, subst, inl, inr, arith, length-append}
+use Rattle.std.proofs.Common.{◌≡◌, ℕ, zero, suc, ◌+◌, ◌-◌, ◌*◌, ◌<◌, ◌≤◌, List, [], ◌∷◌, ◌++◌, length, map, take}
+use Rattle.std.proofs.Common.{replicate, refl, sym, ap, ◌∙◌, subst, inl, inr, arith, length-append}
 use Rattle.std.specs.Prelude.{slice_index}
 use Rattle.std.proofs.lemmas.Bool.{cases_eq}
 use Rattle.std.proofs.lemmas.Option.{slice_get_within}
@@ -22,14 +23,16 @@ use Rattle.reg_outcomes.specs.Told.{outcome_of}
 use Rattle.reg_outcomes.proofs.TellingHistory.{outcome_none}
 use Rattle.reg_records.specs.Rest.{CanRest}
 use Rattle.reg_outcomes.specs.Finishing.{HasRoom, IsOutcome, UsesUp}
-use Rattle.reg_outcomes.specs.Interleavings.{ArePlayable, Interleaving, IsInterleaving, Leads, Nothing, Turn, Stage, first_stage, script_of, stage_after, told_after}
+use Rattle.reg_outcomes.specs.Interleavings.{ArePlayable, Interleaving, IsInterleaving, Leads, Nothing, Turn, Stage}
+use Rattle.reg_outcomes.specs.Interleavings.{first_stage, script_of, stage_after, told_after}
 use Rattle.reg_outcomes.specs.Layers.{IsReady}
 use Rattle.reg_outcomes.specs.Showing.{callers}
 use Rattle.reg_outcomes.specs.Turning.{MayTurn, turn_events}
 use Rattle.reg_outcomes.proofs.Leading.{Keeps, keeps, ready, turns_of_all}
 use Rattle.reg_outcomes.proofs.Stepping.{as_many, has_script}
 use Rattle.reg_outcomes.proofs.TurningAnswers.{memory_after_run, turn_right}
-use Rattle.reg_outcomes.proofs.TurningCalls.{later_quiet, index_set, index_other, own_calls, other_calls, take_none, all_called, none_pending, turn_callers}
+use Rattle.reg_outcomes.proofs.TurningCalls.{later_quiet, index_set, index_other, own_calls, other_calls, take_none}
+use Rattle.reg_outcomes.proofs.TurningCalls.{all_called, none_pending, turn_callers}
 use Rattle.reg_outcomes.proofs.TurningMoves.{Follows, IsQuiet}
 use Rattle.reg_outcomes.proofs.TurningTold.{outcome_more, turn_told}
 use Rattle.reg_outcomes.proofs.TurningTurn.{again, called_accepted, own_count, other_count, quiet_more, told}
@@ -38,7 +41,8 @@ use Rattle.reg_outcomes.proofs.TurningTurn.{again, called_accepted, own_count, o
 pub record Turned (start : Op → ℕ → Start) (scripts : List (List Op)) (registers : ℕ) (turns : List ℕ) (s : Stage) (events : List Event) : Type 0 where
   pub accepted : (whole start (length scripts) registers events).accepted ≡ events
   pub called : (q : ℕ) → q < length scripts → calls_of q events ≡ take (slice_index s.next q) (script_of scripts q)
-  pub counts : (q : ℕ) → q < length scripts → ((whole start (length scripts) registers events).nodes q).state.calls ≡ slice_index s.next q
+  pub counts : (q : ℕ) → q < length scripts
+      → ((whole start (length scripts) registers events).nodes q).state.calls ≡ slice_index s.next q
   pub none : AllAcknowledged (length scripts) (whole start (length scripts) registers events).nodes
   pub memory : memory_after_run registers (whole start (length scripts) registers events) ≡ s.memory
   pub told : outcome_of (length scripts) (whole start (length scripts) registers events).history ≡ s.told
@@ -173,7 +177,9 @@ module _ (start : Op → ℕ → Start) (scripts : List (List Op)) (registers : 
       ((old.0 ++ Call p op ∷ []) ++ R.0.more, turned_more before from leads p op at old.0 old.1 fits R.0 R.1)
 
 -- where the turns use the scripts up, the events do
-pub uses_up : (start : Op → ℕ → Start) (scripts : List (List Op)) (registers : ℕ) → KeepsLaws start → (turns : List ℕ) (s : Stage) (events : List Event) → Turned start scripts registers turns s events → s.next ≡ map length scripts → UsesUp start scripts registers events
+pub uses_up : (start : Op → ℕ → Start) (scripts : List (List Op)) (registers : ℕ) → KeepsLaws start
+    → (turns : List ℕ) (s : Stage) (events : List Event) → Turned start scripts registers turns s events
+    → s.next ≡ map length scripts → UsesUp start scripts registers events
 uses_up start scripts registers laws turns s events run used =
     let Q : IsQuiescent (length scripts) (whole start (length scripts) registers events).nodes = rests start (length scripts) registers laws events run.none in
     record {
@@ -182,7 +188,9 @@ uses_up start scripts registers laws turns s events run used =
       idle = λ p l. Q.idle p l;
     }
 
-pub each_has_a_run : (start : Op → ℕ → Start) (scripts : List (List Op)) (registers : ℕ) (i : Interleaving) → KeepsLaws start → ArePlayable scripts registers → HasRoom scripts → IsInterleaving scripts registers i → IsOutcome start scripts registers i.told
+pub each_has_a_run : (start : Op → ℕ → Start) (scripts : List (List Op)) (registers : ℕ) (i : Interleaving)
+    → KeepsLaws start → ArePlayable scripts registers → HasRoom scripts → IsInterleaving scripts registers i
+    → IsOutcome start scripts registers i.told
 each_has_a_run start scripts registers i laws playable room is =
     let count = ap (λ k. k * turn_events (length scripts)) (turns_of_all scripts registers i.turns is.last is.leads is.used_up) in
     let run = all_turned start scripts registers laws playable i.turns is.last is.leads (omega (arith, room, count)) in

@@ -9,11 +9,14 @@ use Rattle.reg_frames.specs.declared.bodies.Body.TheVariants.{Cast, Ack}
 use Rattle.reg_frames.specs.declared.bodies.Frame.{Frame}
 use Rattle.reg_frames.specs.declared.bodies.Frame.TheVariants.{Numbered, Got}
 use Rattle.reg_front.specs.declared.starts.Start.{Start}
-use Rattle.reg_front.specs.declared.starts.Start.TheVariants.{Cast as Casts, CastAndAnswer as CastsAndAnswers, Look as Looks, Hold as Holds}
+use Rattle.reg_front.specs.declared.starts.Start.TheVariants.{Cast as Casts, CastAndAnswer as CastsAndAnswers}
+use Rattle.reg_front.specs.declared.starts.Start.TheVariants.{Look as Looks, Hold as Holds}
 use Rattle.reg_process.specs.declared.steps.Reply.{Reply}
 use Rattle.reg_process.specs.declared.steps.Step.{Step}
 use Rattle.reg_process.specs.declared.steps.Step.TheVariants.{Call, Take, Tick}
-use Rattle.reg_process.specs.Process.{State, Outcome, Running, Own, Held, clear_casts, reply_of, due, still, delivering, quiet, called, taken, accepted, cast_made, acknowledged, got_frames, no_frames, resent, peer_at, stamp_at, step}
+use Rattle.reg_process.specs.Process.{State, Outcome, Running, Own, Held, clear_casts, reply_of, due, still, delivering}
+use Rattle.reg_process.specs.Process.{quiet, called, taken, accepted, cast_made, acknowledged, got_frames, no_frames}
+use Rattle.reg_process.specs.Process.{resent, peer_at, stamp_at, step}
 
 abbrev pub CallsNothing : Step → Type 0
 CallsNothing (Call op) = ⊥
@@ -30,7 +33,8 @@ pub record GoesOn (s : State) (r : State × Outcome) : Type 0 where
 none_due : (s : State) (running : Option Running) → running ≡ None → reply_of s (clear_casts s) running ≡ None
 none_due s running e = ap (reply_of s (clear_casts s)) e
 
-delivery : (s s1 : State) (body : Option Body) (frames : ℕ → List Frame) → s1.calls ≡ s.calls → s1.running ≡ s.running → GoesOn s (delivering s1 body frames None None)
+delivery : (s s1 : State) (body : Option Body) (frames : ℕ → List Frame) → s1.calls ≡ s.calls → s1.running ≡ s.running
+    → GoesOn s (delivering s1 body frames None None)
 delivery s s1 body frames c e = record {
   cast = refl;
   calls = c;
@@ -38,7 +42,8 @@ delivery s s1 body frames c e = record {
   free = λ none. none_due s1 s1.running (e ∙ none);
 }
 
-stays : (s s1 : State) (frames : ℕ → List Frame) → s1.calls ≡ s.calls → s1.running ≡ s.running → GoesOn s (quiet s1 frames)
+stays : (s s1 : State) (frames : ℕ → List Frame) → s1.calls ≡ s.calls → s1.running ≡ s.running
+    → GoesOn s (quiet s1 frames)
 stays s s1 frames c e = record { cast = refl; calls = c; running = e; free = λ none. refl }
 
 accepted_goes : (s : State) (from : ℕ) (body : Body) → GoesOn s (accepted s from body)
@@ -59,7 +64,8 @@ step_goes start s Tick h = stays s s (resent s) refl refl
 -- an operation that was called runs, or has its answer
 pub record Begins (s : State) (r : State × Outcome) : Type 0 where
   pub calls : r.0.calls ≡ s.calls + 1
-  pub now : ((r.1.reply ≡ None) × (r.0.running ≡ None → ⊥)) ⊎ ((y : Reply) × (r.1.reply ≡ Some y) × (r.0.running ≡ None))
+  pub now : ((r.1.reply ≡ None) × (r.0.running ≡ None → ⊥))
+      ⊎ ((y : Reply) × (r.1.reply ≡ Some y) × (r.0.running ≡ None))
 
 pub called_begins : (s : State) (op : Op) (st : Start) → Begins s (called s op st)
 called_begins s op Casts = record { calls = refl; now = by (due s1) }

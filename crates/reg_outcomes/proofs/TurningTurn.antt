@@ -1,5 +1,6 @@
 -- A turn from rest to rest: one process calls an operation, which is accepted, and the run comes to rest again.
-use Rattle.std.proofs.Common.{◌≡◌, ◌⊎◌, ℕ, ◌+◌, ◌-◌, ◌*◌, ◌≤◌, Bool, true, false, List, [], ◌∷◌, ◌++◌, length, Option, Some, None, refl, sym, ap, ◌∙◌, inl, inr, arith, length-append, append_assoc, append-nil}
+use Rattle.std.proofs.Common.{◌≡◌, ◌⊎◌, ℕ, ◌+◌, ◌-◌, ◌*◌, ◌≤◌, Bool, true, false, List, [], ◌∷◌, ◌++◌, length, Option}
+use Rattle.std.proofs.Common.{Some, None, refl, sym, ap, ◌∙◌, inl, inr, arith, length-append, append_assoc, append-nil}
 use Rattle.std.specs.Prelude.{cond, ◌&&◌, not, nat_lt}
 use Rattle.std.specs.Option.{is_some}
 use Rattle.std.proofs.lemmas.Bool.{lt-ltb}
@@ -21,7 +22,8 @@ use Rattle.reg_checkers.specs.declared.entries.Entry.{Entry}
 use Rattle.reg_checkers.specs.declared.entries.Entry.TheVariants.{Called, Answered}
 use Rattle.reg_world.specs.Laws.{IsQuiescent}
 use Rattle.reg_world.specs.Nodes.{Node, after_step}
-use Rattle.reg_world.specs.declared.faults.WorldFault.TheVariants.{Failed, TooManyEvents, NoProcess, Busy, NoRegister, TooManyOperations}
+use Rattle.reg_world.specs.declared.faults.WorldFault.TheVariants.{Failed, TooManyEvents, NoProcess, Busy, NoRegister}
+use Rattle.reg_world.specs.declared.faults.WorldFault.TheVariants.{TooManyOperations}
 use Rattle.reg_world.specs.World.{World, op_id, answers_in, move_of, moved, whole, world_fault}
 use Rattle.reg_world.proofs.one_order.NodeEvents.{put_same, put_other}
 use Rattle.reg_world.proofs.one_order.NodeLaws.{inv_of}
@@ -40,13 +42,17 @@ use Rattle.reg_outcomes.proofs.TurningSteps.{Begins, called_begins}
 pub record TurnTold (p : ℕ) (op : Op) (reply : Option Reply) (w v : World) : Type 0 where
   pub later : ℕ
   pub answer : Answer
-  pub history : v.history ≡ w.history ++ Called (length w.accepted) (op_id p (w.nodes p).state.calls) op ∷ Answered later (op_id p (w.nodes p).state.calls) answer ∷ []
+  pub history : v.history
+      ≡ w.history ++ Called (length w.accepted) (op_id p (w.nodes p).state.calls) op
+      ∷ Answered later (op_id p (w.nodes p).state.calls) answer ∷ []
   pub now : (y : Reply) → reply ≡ Some y → answer ≡ y.answer
 
-call_tests : (few within busy known fits : Bool) (o : Option (ℕ × Step)) → few ≡ true → within ≡ true → busy ≡ false → known ≡ true → fits ≡ true → cond few (cond (within && (not busy && (known && fits))) o None) None ≡ o
+call_tests : (few within busy known fits : Bool) (o : Option (ℕ × Step)) → few ≡ true → within ≡ true → busy ≡ false
+    → known ≡ true → fits ≡ true → cond few (cond (within && (not busy && (known && fits))) o None) None ≡ o
 call_tests few within busy known fits o a b c d e = rw (a, b, c, d, e) refl
 
-call_passed : (failed few within busy known fits : Bool) → failed ≡ false → few ≡ true → within ≡ true → busy ≡ false → known ≡ true → fits ≡ true
+call_passed : (failed few within busy known fits : Bool) → failed ≡ false → few ≡ true → within ≡ true → busy ≡ false
+    → known ≡ true → fits ≡ true
     → cond failed (Some Failed) (cond few (cond within (cond busy (Some Busy) (cond known (cond fits None (Some TooManyOperations)) (Some NoRegister))) (Some NoProcess)) (Some TooManyEvents)) ≡ None
 call_passed failed few within busy known fits a b c d e f = rw (a, b, c, d, e, f) refl
 
@@ -72,7 +78,8 @@ module _ (start : Op → ℕ → Start) (n registers : ℕ) (laws : KeepsLaws st
       (lt-ltb p n M.process) (ap is_some (Q.idle p M.process)) (lt-ltb (register_of op) registers M.known) (lt-ltb S.calls MOST_OPERATIONS M.fits)
 
   -- no fault applies to the call
-  pub none_applies : (failed : Bool) → failed ≡ false → cond failed (Some Failed) (world_fault n registers w (Call p op)) ≡ None
+  pub none_applies : (failed : Bool) → failed ≡ false
+      → cond failed (Some Failed) (world_fault n registers w (Call p op)) ≡ None
   none_applies failed going = call_passed failed (nat_lt (length w.accepted) MOST_EVENTS) (nat_lt p n) (is_some S.running) (nat_lt (register_of op) registers) (nat_lt S.calls MOST_OPERATIONS) going
       (lt-ltb (length w.accepted) MOST_EVENTS (let m = M.room in omega (arith, m)))
       (lt-ltb p n M.process) (ap is_some (Q.idle p M.process)) (lt-ltb (register_of op) registers M.known) (lt-ltb S.calls MOST_OPERATIONS M.fits)

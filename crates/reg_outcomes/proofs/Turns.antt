@@ -1,5 +1,6 @@
 -- The run of an outcome under way: some turns were made, and the others lead to the end of the scripts.
-use Rattle.std.proofs.Common.{◌≡◌, ℕ, ◌+◌, ◌-◌, ◌*◌, ◌<◌, ◌≤◌, false, List, [], ◌∷◌, ◌++◌, drop, get_or, length, map, take, None, Result, Ok, Err, refl, sym, ap, ◌∙◌, subst, arith, length-append}
+use Rattle.std.proofs.Common.{◌≡◌, ℕ, ◌+◌, ◌-◌, ◌*◌, ◌<◌, ◌≤◌, false, List, [], ◌∷◌, ◌++◌, drop, get_or, length, map}
+use Rattle.std.proofs.Common.{take, None, Result, Ok, Err, refl, sym, ap, ◌∙◌, subst, arith, length-append}
 use Rattle.std.specs.Prelude.{MatchResult, slice_get, slice_index, ◌^◌}
 use Rattle.std.proofs.lemmas.List.{drop_all, drop_more, length-take-le, take_all, take_more}
 use Rattle.std.proofs.lemmas.Option.{none-some, same_Some}
@@ -19,7 +20,8 @@ use Rattle.reg_world.specs.Worlds.{Accepts, Made, after_events, new_world, refus
 use Rattle.reg_records.specs.Rest.{Settles, most_to_rest}
 use Rattle.reg_records.specs.RestParts.{IsGoingOn}
 use Rattle.reg_outcomes.specs.Finishing.{HasRoom}
-use Rattle.reg_outcomes.specs.Interleavings.{ArePlayable, Interleaving, IsInterleaving, Leads, Nothing, Turn, Stage, first_stage, script_of, stage_after}
+use Rattle.reg_outcomes.specs.Interleavings.{ArePlayable, Interleaving, IsInterleaving, Leads, Nothing, Turn, Stage}
+use Rattle.reg_outcomes.specs.Interleavings.{first_stage, script_of, stage_after}
 use Rattle.reg_outcomes.specs.Showing.{IsRunOf}
 use Rattle.reg_outcomes.specs.Turning.{GoesTo, IsTurn, MayTurn, turn_events}
 use Rattle.reg_outcomes.specs.Layers.{IsReady}
@@ -29,7 +31,8 @@ use Rattle.reg_outcomes.proofs.TurningRuns.{Turned, first_turned, may_turn, turn
 use Rattle.reg_outcomes.proofs.TurningTurn.{called_accepted, near, none_applies}
 
 -- what follows from the value
-pub on_value : {X E P R : Type 0} (Q : E → Type 0) (r : Result X E) → (P → R) → MatchResult r (λ _. P) Q → MatchResult r (λ _. R) Q
+pub on_value : {X E P R : Type 0} (Q : E → Type 0) (r : Result X E) → (P → R) → MatchResult r (λ _. P) Q
+    → MatchResult r (λ _. R) Q
 on_value Q (Ok x) to h = to h
 on_value Q (Err e) to h = h
 
@@ -91,11 +94,15 @@ module _ (start : Op → ℕ → Start) (laws : KeepsLaws start) (m : Made) (on 
     pub is_turn : (new : Made) (count : ℕ) → Settles start mid count new → IsTurn start m.processes m.registers m.accepted p op new
     is_turn new count S = turn_from new count (subst (λ (z : Made). Settles start z count new) A.after S)
 
-goes_more : (scripts : List (List Op)) (s : Stage) (turns : List ℕ) (t : Stage) (p : ℕ) (op : Op) → GoesTo scripts s turns t → IsAt (script_of scripts p) (slice_index t.next p) op → GoesTo scripts s (turns ++ p ∷ []) (stage_after p op t)
+goes_more : (scripts : List (List Op)) (s : Stage) (turns : List ℕ) (t : Stage) (p : ℕ) (op : Op)
+    → GoesTo scripts s turns t → IsAt (script_of scripts p) (slice_index t.next p) op
+    → GoesTo scripts s (turns ++ p ∷ []) (stage_after p op t)
 goes_more scripts s [] t p op e at = (op, subst (λ (z : Stage). IsAt (script_of scripts p) (slice_index z.next p) op) (sym e) at, ap (stage_after p op) e)
-goes_more scripts s (q ∷ turns) t p op (x, here, rest) at = (x, here, goes_more scripts (stage_after q x s) turns t p op rest at)
+goes_more scripts s (q ∷ turns) t p op (x, here, rest) at =
+    (x, here, goes_more scripts (stage_after q x s) turns t p op rest at)
 
-goes_all : (scripts : List (List Op)) (registers : ℕ) (turns : List ℕ) (s : Stage) → Leads scripts registers turns s → GoesTo scripts (first_stage (length scripts) registers) turns s
+goes_all : (scripts : List (List Op)) (registers : ℕ) (turns : List ℕ) (s : Stage) → Leads scripts registers turns s
+    → GoesTo scripts (first_stage (length scripts) registers) turns s
 goes_all scripts registers turns s Nothing = refl
 goes_all scripts registers turns s (Turn {turns = before} {s = from} p op leads at) = goes_more scripts (first_stage (length scripts) registers) before from p op (goes_all scripts registers before from leads) at
 
@@ -117,7 +124,8 @@ pub record IsTurnAt (i : Interleaving) (k p : ℕ) : Type 0 where
   pub inside : k < length i.turns
   pub is : p ≡ get_or i.turns k p
 
-pub turn_at : (i : Interleaving) (turns : List ℕ) (k p count : ℕ) → turns ≡ i.turns → count ≡ length turns → k < count → p ≡ get_or turns k p → IsTurnAt i k p
+pub turn_at : (i : Interleaving) (turns : List ℕ) (k p count : ℕ) → turns ≡ i.turns → count ≡ length turns → k < count
+    → p ≡ get_or turns k p → IsTurnAt i k p
 turn_at i turns k p count same all inside is = record {
   inside = let e = ap length same in omega (arith, e, all, inside);
   is = is ∙ ap (λ l. get_or l k p) same;
@@ -141,7 +149,9 @@ module _ (start : Op → ℕ → Start) (scripts : List (List Op)) (registers : 
     turned = first_turned start scripts registers laws playable;
   }
 
-  pub begins : IsInterleaving scripts registers i → HasRoom scripts → (shape : Extent) (w : Made) → shape.processes ≡ n → shape.registers ≡ registers → w ≡ new_world shape → (s : Stage) → s ≡ first_stage n registers → IsUnderWay start scripts registers i 0 s w
+  pub begins : IsInterleaving scripts registers i → HasRoom scripts → (shape : Extent) (w : Made) → shape.processes ≡ n
+      → shape.registers ≡ registers → w ≡ new_world shape → (s : Stage) → s ≡ first_stage n registers
+      → IsUnderWay start scripts registers i 0 s w
   begins is room shape w as_many as_wide new s first =
       subst (λ (t : Stage). IsUnderWay start scripts registers i 0 t w) (sym first)
       (subst (λ (z : Made). IsUnderWay start scripts registers i 0 (first_stage n registers) z) (sym new) (first_under_way is room shape as_many as_wide))

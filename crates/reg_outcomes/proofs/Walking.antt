@@ -1,5 +1,7 @@
 -- Stages from which an order goes on, and paths to them.
-use Rattle.std.proofs.Common.{◌≡◌, ◌≢◌, ◌⊎◌, inl, inr, ℕ, ◌+◌, ◌<◌, ◌≤◌, zero, suc, Bool, true, false, List, [], ◌∷◌, ◌++◌, length, Option, Some, None, MatchOption, refl, ap, ap₂, sym, ◌∙◌, subst, arith, get_or-set_other, length-set, set-set}
+use Rattle.std.proofs.Common.{◌≡◌, ◌≢◌, ◌⊎◌, inl, inr, ℕ, ◌+◌, ◌<◌, ◌≤◌, zero, suc, Bool, true, false, List, [], ◌∷◌}
+use Rattle.std.proofs.Common.{◌++◌, length, Option, Some, None, MatchOption, refl, ap, ap₂, sym, ◌∙◌, subst, arith}
+use Rattle.std.proofs.Common.{get_or-set_other, length-set, set-set}
 use Rattle.std.specs.Prelude.{◌==◌, if◌then◌else◌, slice_index, slice_set}
 use Rattle.std.specs.Int.{bit_at}
 use Rattle.std.proofs.lemmas.Bool.{cases_eq}
@@ -25,7 +27,8 @@ use Rattle.reg_outcomes.specs.declared.orders.walk.Step.{Step}
 use Rattle.reg_outcomes.specs.Finding.{MayCome, MayFollow, Next, Nothing, Places, placed_after}
 use Rattle.reg_outcomes.specs.Interleavings.{Stage, first_stage}
 use Rattle.reg_outcomes.specs.Placing.{IsComplete, IsOrder, IsPlaced}
-use Rattle.reg_outcomes.specs.Walking.{AreTried, Ends, FitsIn, Goes, IsChoice, IsChoiceOf, IsPast, IsPastBy, IsPath, IsStill, Leaves, Longer, On, Start, ids_of, stage_before, step_of}
+use Rattle.reg_outcomes.specs.Walking.{AreTried, Ends, FitsIn, Goes, IsChoice, IsChoiceOf, IsPast, IsPastBy, IsPath}
+use Rattle.reg_outcomes.specs.Walking.{IsStill, Leaves, Longer, On, Start, ids_of, stage_before, step_of}
 use Rattle.reg_outcomes.proofs.Placed.{in_bounds, placed_once, placing, room}
 use Rattle.reg_outcomes.proofs.Serial.{few, whole_is}
 
@@ -58,7 +61,8 @@ grows next p q = elim (cases_eq q p) [
         own_at (x ∷ l) (suc i) v le = own_at l i v le
 
 -- what may follow may follow later too
-follows_later : (kind : OrderKind) (h : List Entry) (next : List ℕ) (p : ℕ) (id : OpId) → MayFollow kind h next id → MayFollow kind h (slice_set next p (slice_index next p + 1)) id
+follows_later : (kind : OrderKind) (h : List Entry) (next : List ℕ) (p : ℕ) (id : OpId) → MayFollow kind h next id
+    → MayFollow kind h (slice_set next p (slice_index next p + 1)) id
 follows_later Serial h next p id may = tt
 follows_later Points h next p id may = λ at op call other answered answer ans lt. let old = may at op call other answered answer ans lt in let more = grows next p other.process in omega (arith, old, more)
 
@@ -135,7 +139,8 @@ module _ (kind : OrderKind) (n registers : ℕ) (h : List Entry) where
       goes_from_first old from places (On id.process s (placing kind n registers h id op at from number called comes follows) go)
 
   -- the operations of a path were placed
-  pub places_of : (steps : List Step) (s : Stage) → IsPath kind n registers h steps s → Places kind n registers h (ids_of steps) s
+  pub places_of : (steps : List Step) (s : Stage) → IsPath kind n registers h steps s
+      → Places kind n registers h (ids_of steps) s
   places_of steps s Start = Nothing
   places_of steps s (Longer {steps = old} {s = from} c path known placed tried) =
       let id : OpId = op_of c.process (slice_index from.next c.process) in
@@ -249,7 +254,9 @@ module _ (kind : OrderKind) (n registers : ℕ) (h : List Entry) where
 
 module _ (kind : OrderKind) (h : List Entry) (tried : ℕ) (s : Stage) (IsOne : Choice → Type 0) where
   -- the lesser of two choices, where one process more was looked at
-  pub lesser_is : (m : ℕ) (best offered lesser : Option Choice) → (lesser ≡ best) ⊎ (lesser ≡ offered) → (lesser ≡ None → (best ≡ None) × (offered ≡ None)) → MatchOption best (IsPast kind h tried s m) IsOne → MatchOption offered (IsPastBy kind h tried s m) IsOne → MatchOption lesser (IsPast kind h tried s (m + 1)) IsOne
+  pub lesser_is : (m : ℕ) (best offered lesser : Option Choice) → (lesser ≡ best) ⊎ (lesser ≡ offered)
+      → (lesser ≡ None → (best ≡ None) × (offered ≡ None)) → MatchOption best (IsPast kind h tried s m) IsOne
+      → MatchOption offered (IsPastBy kind h tried s m) IsOne → MatchOption lesser (IsPast kind h tried s (m + 1)) IsOne
   lesser_is m best offered None one none was is =
       let both = none refl in
       let past : IsPast kind h tried s m = subst (λ (o : Option Choice). MatchOption o (IsPast kind h tried s m) IsOne) both.0 was in
@@ -259,6 +266,7 @@ module _ (kind : OrderKind) (h : List Entry) (tried : ℕ) (s : Stage) (IsOne : 
   lesser_is m best offered (Some c) (inr e) none was is = subst (λ (o : Option Choice). MatchOption o (IsPastBy kind h tried s m) IsOne) (sym e) is
 
   -- no choice is left
-  pub past_all : (m n : ℕ) (best : Option Choice) → n ≤ m → MatchOption best (IsPast kind h tried s m) IsOne → MatchOption best (IsPast kind h tried s n) IsOne
+  pub past_all : (m n : ℕ) (best : Option Choice) → n ≤ m → MatchOption best (IsPast kind h tried s m) IsOne
+      → MatchOption best (IsPast kind h tried s n) IsOne
   past_all m n None le past = λ p less. past p (omega (arith, less, le))
   past_all m n (Some c) le one = one

@@ -1,5 +1,6 @@
 -- What is put in several lines.
-use Rattle.std.proofs.Common.{ℕ, ◌≡◌, ◌+◌, ◌<◌, ◌≤◌, List, [], ◌∷◌, ◌++◌, length, map, take, get_or, Option, codes, refl, sym, ap, ◌∙◌, take_all, append-nil}
+use Rattle.std.proofs.Common.{ℕ, ◌≡◌, ◌+◌, ◌<◌, ◌≤◌, List, [], ◌∷◌, ◌++◌, length, map, take, get_or, Option, codes}
+use Rattle.std.proofs.Common.{refl, sym, ap, ◌∙◌, take_all, append-nil}
 use Rattle.std.specs.Fmt.{decimal}
 use Rattle.std.specs.List.{flat_map}
 use Rattle.std.proofs.lemmas.Grind.{flat_map-append}
@@ -14,10 +15,13 @@ use Rattle.reg_outcomes.specs.Interleavings.{Interleaving}
 use Rattle.reg_outcomes.specs.AllText.{all_text, never_lines, outcome_text, values_text}
 
 -- the lines of all of them
-pub all_lines : {X : Type 0} (line : X → List ℕ) (xs : List X) (i : ℕ) → length xs ≤ i → flat_map (λ x. line x ++ 10 ∷ []) (take i xs) ≡ text_of (map line xs)
-all_lines line xs i le = ap (flat_map (λ x. line x ++ 10 ∷ [])) (take_all i xs le) ∙ sym (flat_map-map (λ l. l ++ 10 ∷ []) line xs)
+pub all_lines : {X : Type 0} (line : X → List ℕ) (xs : List X) (i : ℕ) → length xs ≤ i
+    → flat_map (λ x. line x ++ 10 ∷ []) (take i xs) ≡ text_of (map line xs)
+all_lines line xs i le =
+    ap (flat_map (λ x. line x ++ 10 ∷ [])) (take_all i xs le) ∙ sym (flat_map-map (λ l. l ++ 10 ∷ []) line xs)
 
-pub all_lists : {X : Type 0} (read : X → List ToldAnswer) (xs : List X) (i : ℕ) → length xs ≤ i → flat_map (λ x. values_text (read x) ++ 10 ∷ []) (take i xs) ≡ text_of (map values_text (map read xs))
+pub all_lists : {X : Type 0} (read : X → List ToldAnswer) (xs : List X) (i : ℕ) → length xs ≤ i
+    → flat_map (λ x. values_text (read x) ++ 10 ∷ []) (take i xs) ≡ text_of (map values_text (map read xs))
 all_lists read xs i le = all_lines (λ x. values_text (read x)) xs i le ∙ ap text_of (two read xs)
   where
     two : {X : Type 0} (read : X → List ToldAnswer) (xs : List X) → map (λ x. values_text (read x)) xs ≡ map values_text (map read xs)
@@ -25,7 +29,8 @@ all_lists read xs i le = all_lines (λ x. values_text (read x)) xs i le ∙ ap t
     two read (x ∷ xs) = ap (λ l. values_text (read x) ∷ l) (two read xs)
 
 -- the lines as they are put are those of the text
-pub puts_all : {S : Type 0} (held : S → Option (List ℕ)) (operations stages : ℕ) (found : List Interleaving) (nevers : Option (List (List ToldAnswer))) (a b c d e f : Sink S)
+pub puts_all : {S : Type 0} (held : S → Option (List ℕ)) (operations stages : ℕ) (found : List Interleaving)
+    (nevers : Option (List (List ToldAnswer))) (a b c d e f : Sink S)
     → Puts held a b ((codes "operations " ++ decimal operations) ++ 10 ∷ []) → Puts held b c ((codes "stages " ++ decimal stages) ++ 10 ∷ []) → Puts held c d ((codes "outcomes " ++ decimal (length found)) ++ 10 ∷ [])
     → Puts held d e (text_of (map outcome_text found)) → Puts held e f (text_of (never_lines nevers)) → Puts held a f (all_text operations stages found nevers)
 puts_all held operations stages found nevers a b c d e f p q r s t =
@@ -39,7 +44,10 @@ puts_all held operations stages found nevers a b c d e f p q r s t =
     (puts_four held a b c d f x y z (lines ++ last) p q r (puts_two held d e f lines last s t))
 
 -- one more part of a list
-pub puts_next : {S : Type 0} (held : S → Option (List ℕ)) {X : Type 0} (a b c : Sink S) (f : X → List ℕ) (xs : List X) (i : ℕ) (d : X) → i < length xs → Puts held a b (flat_map f (take i xs)) → Puts held b c (f (get_or xs i d)) → Puts held a c (flat_map f (take (i + 1) xs))
+pub puts_next : {S : Type 0} (held : S → Option (List ℕ)) {X : Type 0} (a b c : Sink S) (f : X → List ℕ) (xs : List X)
+    (i : ℕ) (d : X)
+    → i < length xs → Puts held a b (flat_map f (take i xs)) → Puts held b c (f (get_or xs i d))
+    → Puts held a c (flat_map f (take (i + 1) xs))
 puts_next held a b c f xs i d l p q =
     puts_as held a c (flat_map f (take i xs) ++ f (get_or xs i d)) (flat_map f (take (i + 1) xs))
     (sym (ap (flat_map f) (take_more xs i d l) ∙ flat_map-append f (take i xs) (get_or xs i d ∷ []) ∙ ap (λ t. flat_map f (take i xs) ++ t) (append-nil (f (get_or xs i d)))))

@@ -46,7 +46,8 @@ never_lines (Some nevers) = (codes "never " ++ decimal (length nevers)) ∷ map 
 
 abbrev pub all_lines : ℕ → ℕ → List Interleaving → Option (List (List ToldAnswer)) → List (List ℕ)
 all_lines operations stages found nevers =
-    (codes "operations " ++ decimal operations) ∷ (codes "stages " ++ decimal stages) ∷ (codes "outcomes " ++ decimal (length found)) ∷ (map outcome_text found ++ never_lines nevers)
+    (codes "operations " ++ decimal operations) ∷ (codes "stages " ++ decimal stages)
+    ∷ (codes "outcomes " ++ decimal (length found)) ∷ (map outcome_text found ++ never_lines nevers)
 
 abbrev pub all_text : ℕ → ℕ → List Interleaving → Option (List (List ToldAnswer)) → List ℕ
 all_text operations stages found nevers = text_of (all_lines operations stages found nevers)

@@ -13,7 +13,8 @@ use Rattle.reg_outcomes.specs.PlayTables.{Seen, Line, IsNoShorter, IsTallyOf, Co
 
 -- a finished play with this outcome
 abbrev pub finished_play : List ToldAnswer → Glance → Seen
-finished_play outcome g = record { seed = g.seed; is_finished = true; events = g.events; outcome = outcome; linearizable = g.linearizable }
+finished_play outcome g =
+    record { seed = g.seed; is_finished = true; events = g.events; outcome = outcome; linearizable = g.linearizable }
 
 -- the play is shorter than the ones told of, or as short with a smaller seed
 abbrev pub IsShorter : Seen → Tally → Type 0
@@ -21,7 +22,8 @@ IsShorter s t = (s.events < t.events) ⊎ ((s.events ≡ t.events) × (s.seed < 
 
 -- which play is the shortest now
 abbrev pub IsShortest : Seen → Tally → ℕ → ℕ → Type 0
-IsShortest s t events seed = (IsShorter s t × (events ≡ s.events) × (seed ≡ s.seed)) ⊎ (IsNoShorter t s × (events ≡ t.events) × (seed ≡ t.seed))
+IsShortest s t events seed =
+    (IsShorter s t × (events ≡ s.events) × (seed ≡ s.seed)) ⊎ (IsNoShorter t s × (events ≡ t.events) × (seed ≡ t.seed))
 
 -- what is told of the plays with this outcome: nothing, where there is none
 abbrev pub TellsOf : List Seen → List ToldAnswer → Option Tally → Type 0
@@ -33,7 +35,8 @@ abbrev pub key_cmp : {K : Type 0} → (K → List ToldAnswer) → K → K → Or
 key_cmp items a b = slice_cmp told_cmp (items a) (items b)
 
 -- The map tells of the plays by their outcomes, and the given number of plays is not finished.
-pub record IsCounted {K : Type 0} (items : K → List ToldAnswer) (plays : List Seen) (told : BTreeMap K Tally) (unfinished : ℕ) : Type 0 where
+pub record IsCounted {K : Type 0} (items : K → List ToldAnswer) (plays : List Seen) (told : BTreeMap K Tally)
+    (unfinished : ℕ) : Type 0 where
   pub tells : (q : K) → TellsOf plays (items q) (get (key_cmp items) told q)
   pub known : (k : ℕ) (s : Seen) → IsAt plays k s → s.is_finished ≡ true → (q : K) × (items q ≡ s.outcome)
   pub others : CountsUnfinished plays unfinished

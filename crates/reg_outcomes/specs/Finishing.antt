@@ -15,27 +15,34 @@ use Rattle.reg_outcomes.specs.Interleavings.{Interleaving, script_of}
 
 -- Each of these events is accepted, by them each process calls the operations of its script, in order and no other, and
 -- in the end nobody is busy. There is a script for each process.
-pub record UsesUp (start : Op → ℕ → Start) (scripts : List (List Op)) (registers : ℕ) (events : List Event) : Type 0 where
+pub record UsesUp (start : Op → ℕ → Start) (scripts : List (List Op)) (registers : ℕ)
+    (events : List Event) : Type 0 where
   pub accepted : (whole start (length scripts) registers events).accepted ≡ events
   pub called : (p : ℕ) → p < length scripts → calls_of p events ≡ script_of scripts p
-  pub idle : (p : ℕ) → p < length scripts → ((whole start (length scripts) registers events).nodes p).state.running ≡ None
+  pub idle : (p : ℕ) → p < length scripts
+      → ((whole start (length scripts) registers events).nodes p).state.running ≡ None
 
 -- each operation of the scripts has its answer
 abbrev pub AllAnswered : List (List Op) → List Entry → Type 0
-AllAnswered scripts h = (p k : ℕ) (op : Op) → IsAt (script_of scripts p) k op → IsFinished h (record { process = p; number = k })
+AllAnswered scripts h =
+    (p k : ℕ) (op : Op) → IsAt (script_of scripts p) k op → IsFinished h (record { process = p; number = k })
 
 -- what the operations of these events told, by process and then by number
 abbrev pub told_by : (Op → ℕ → Start) → List (List Op) → ℕ → List Event → List ToldAnswer
-told_by start scripts registers events = outcome_of (length scripts) (whole start (length scripts) registers events).history
+told_by start scripts registers events =
+    outcome_of (length scripts) (whole start (length scripts) registers events).history
 
 -- some run that uses the scripts up has this outcome
 abbrev pub IsOutcome : (Op → ℕ → Start) → List (List Op) → ℕ → List ToldAnswer → Type 0
-IsOutcome start scripts registers told = (events : List Event) × UsesUp start scripts registers events × (told_by start scripts registers events ≡ told)
+IsOutcome start scripts registers told =
+    (events : List Event) × UsesUp start scripts registers events × (told_by start scripts registers events ≡ told)
 
 -- These interleavings tell all outcomes of runs that use the scripts up, and no other.
-pub record HaveAllOutcomes (start : Op → ℕ → Start) (scripts : List (List Op)) (registers : ℕ) (found : List Interleaving) : Type 0 where
+pub record HaveAllOutcomes (start : Op → ℕ → Start) (scripts : List (List Op)) (registers : ℕ)
+    (found : List Interleaving) : Type 0 where
   pub each : (k : ℕ) (i : Interleaving) → IsAt found k i → IsOutcome start scripts registers i.told
-  pub all : (told : List ToldAnswer) → IsOutcome start scripts registers told → (k : ℕ) × (i : Interleaving) × IsAt found k i × (i.told ≡ told)
+  pub all : (told : List ToldAnswer) → IsOutcome start scripts registers told
+      → (k : ℕ) × (i : Interleaving) × IsAt found k i × (i.told ≡ told)
 
 -- A run has room to call the operations one after another, and to come to rest after each: by a call, and by three
 -- events for each frame that it makes needed, which is a cast or an acknowledgement from each process to each other.

@@ -1,5 +1,6 @@
 -- What has to come before what in each serial order of a history. They carry a proof: no promise speaks of them.
-use Rattle.std.specs.Prelude.{ℕ, ◌≡◌, ◌≢◌, ◌<◌, ◌+◌, ◌*◌, ◌⊎◌, List, length, slice_get, slice_index, Option, Some, option_and_then, Vec}
+use Rattle.std.specs.Prelude.{ℕ, ◌≡◌, ◌≢◌, ◌<◌, ◌+◌, ◌*◌, ◌⊎◌, List, length, slice_get, slice_index, Option, Some}
+use Rattle.std.specs.Prelude.{option_and_then, Vec}
 use Rattle.std.specs.BTreeMap.{BTreeMap, get}
 use Rattle.reg_base.specs.declared.memory.Answer.{Answer}
 use Rattle.reg_base.specs.declared.memory.Op.{Op}
@@ -19,7 +20,8 @@ use Rattle.reg_outcomes.specs.Sought.{Sought}
 
 -- in each serial order in which both stand, the first one stands before the other
 abbrev pub Comes : Sought → OpId → OpId → Type 0
-Comes s a b = (ids : List OpId) (i j : ℕ) → IsSerial s.shape.registers s.entries ids → IsAt ids i a → IsAt ids j b → i < j
+Comes s a b =
+    (ids : List OpId) (i j : ℕ) → IsSerial s.shape.registers s.entries ids → IsAt ids i a → IsAt ids j b → i < j
 
 -- by process: of each of its operations in turn, and of each process, how many of its first operations come before
 abbrev pub Counts : Type 0 → Type 0
@@ -42,7 +44,8 @@ IsCount before id p k = (p < before.processes) × (count_in before id p ≡ Some
 
 -- each count is one of these, or as it was
 abbrev pub AreRaised : List ℕ → List ℕ → List ℕ → Type 0
-AreRaised others old new = (p k : ℕ) → slice_get new p ≡ Some k → (slice_get old p ≡ Some k) ⊎ (slice_get others p ≡ Some k)
+AreRaised others old new =
+    (p k : ℕ) → slice_get new p ≡ Some k → (slice_get old p ≡ Some k) ⊎ (slice_get others p ≡ Some k)
 
 -- nothing comes before any operation
 abbrev pub IsNoneRow : {A : Type 0} → Vec ℕ A → Type 0
@@ -57,7 +60,8 @@ AreForced s before = (id : OpId) (p m k : ℕ) → IsCount before id p k → m <
 
 -- the operation may leave this value in this register
 abbrev pub IsMaker : List Entry → ℕ × ℕ → OpId → Type 0
-IsMaker h value id = (at : ℕ) × (op : Op) × IsCalled h id at op × (register_of op ≡ value.0) × (made_of op ≡ Some value.1)
+IsMaker h value id =
+    (at : ℕ) × (op : Op) × IsCalled h id at op × (register_of op ≡ value.0) × (made_of op ≡ Some value.1)
 
 -- no other operation may
 abbrev pub IsOnlyMaker : List Entry → ℕ × ℕ → OpId → Type 0
@@ -98,4 +102,6 @@ pub record Overwrites (h : List Entry) (id : OpId) (value : ℕ × ℕ) : Type 0
   pub op : Op
   pub called : IsCalled h id at op
   pub register : register_of op ≡ value.0
-  pub leaves : (m : Memory) → register_of op < length m → ((t : ℕ) (answer : Answer) → IsAnswered h id t answer → answer ≡ answer_of op m) → slice_index (after op m) (register_of op) ≢ value.1
+  pub leaves : (m : Memory) → register_of op < length m
+      → ((t : ℕ) (answer : Answer) → IsAnswered h id t answer → answer ≡ answer_of op m)
+      → slice_index (after op m) (register_of op) ≢ value.1

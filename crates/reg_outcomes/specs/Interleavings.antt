@@ -1,6 +1,7 @@
 -- The interleavings of scripts on one memory, operation by operation, and what they tell. To be believed: promises
 -- speak of it.
-use Rattle.std.specs.Prelude.{ℕ, ◌≡◌, ◌+◌, ◌<◌, ◌≤◌, nat_lt, if◌then◌else◌, All, List, [], ◌∷◌, ◌++◌, length, map, replicate, slice_index, slice_index_or, slice_set}
+use Rattle.std.specs.Prelude.{ℕ, ◌≡◌, ◌+◌, ◌<◌, ◌≤◌, nat_lt, if◌then◌else◌, All, List, [], ◌∷◌, ◌++◌, length, map}
+use Rattle.std.specs.Prelude.{replicate, slice_index, slice_index_or, slice_set}
 use Rattle.std.specs.declared.cmp.Ordering.TheVariants.{Less}
 use Rattle.std.specs.Cmp.Lexicographic.{slice_cmp}
 use Rattle.reg_base.specs.declared.limits.TheConstants.{MOST_PROCESSES, MOST_OPERATIONS}
@@ -36,7 +37,8 @@ told_behind t (x ∷ xs) = if nat_lt t.process x.process then t ∷ x ∷ xs els
 
 -- what is told once this operation has its answer, which a write doesn't tell
 abbrev pub told_after : Op → OpId → Answer → List ToldAnswer → List ToldAnswer
-told_after op id answer told = if tells op then told_behind (record { process = id.process; number = id.number; answer = answer }) told else told
+told_after op id answer told =
+    if tells op then told_behind (record { process = id.process; number = id.number; answer = answer }) told else told
 
 -- the process did its next operation, which is this one
 abbrev pub stage_after : ℕ → Op → Stage → Stage
@@ -50,7 +52,9 @@ stage_after p op s = record {
 -- script.
 pub data Leads (scripts : List (List Op)) (registers : ℕ) : List ℕ → Stage → Type 0 where
   Nothing : Leads scripts registers [] (first_stage (length scripts) registers)
-  Turn : {turns : List ℕ} {s : Stage} (p : ℕ) (op : Op) → Leads scripts registers turns s → IsAt (script_of scripts p) (slice_index s.next p) op → Leads scripts registers (turns ++ p ∷ []) (stage_after p op s)
+  Turn : {turns : List ℕ} {s : Stage} (p : ℕ) (op : Op) → Leads scripts registers turns s
+      → IsAt (script_of scripts p) (slice_index s.next p) op
+      → Leads scripts registers (turns ++ p ∷ []) (stage_after p op s)
 
 -- turns, and what they tell
 pub record Interleaving : Type 0 where
@@ -68,8 +72,10 @@ pub record IsInterleaving (scripts : List (List Op)) (registers : ℕ) (i : Inte
 -- each outcome stands once.
 pub record AreAll (scripts : List (List Op)) (registers : ℕ) (found : List Interleaving) : Type 0 where
   pub each : (k : ℕ) (i : Interleaving) → IsAt found k i → IsInterleaving scripts registers i
-  pub all : (i : Interleaving) → IsInterleaving scripts registers i → (k : ℕ) × (j : Interleaving) × IsAt found k j × (j.told ≡ i.told)
-  pub rising : (k l : ℕ) (i j : Interleaving) → IsAt found k i → IsAt found l j → k < l → slice_cmp told_cmp i.told j.told ≡ Less
+  pub all : (i : Interleaving) → IsInterleaving scripts registers i
+      → (k : ℕ) × (j : Interleaving) × IsAt found k j × (j.told ≡ i.told)
+  pub rising : (k l : ℕ) (i j : Interleaving) → IsAt found k i → IsAt found l j → k < l
+      → slice_cmp told_cmp i.told j.told ≡ Less
 
 -- Some number of turns leads to more stages than the limit.
 pub record IsWider (scripts : List (List Op)) (registers limit : ℕ) : Type 0 where
@@ -77,7 +83,8 @@ pub record IsWider (scripts : List (List Op)) (registers limit : ℕ) : Type 0 w
   pub stages : List Stage
   pub more : limit < length stages
   pub once : (i j : ℕ) (s : Stage) → IsAt stages i s → IsAt stages j s → i ≡ j
-  pub led : (k : ℕ) (s : Stage) → IsAt stages k s → (behind : List ℕ) × Leads scripts registers behind s × (length behind ≡ turns)
+  pub led : (k : ℕ) (s : Stage) → IsAt stages k s
+      → (behind : List ℕ) × Leads scripts registers behind s × (length behind ≡ turns)
 
 -- how many stages there are: those that turns lead to, each counted once
 pub record CountsStages (scripts : List (List Op)) (registers n : ℕ) : Type 0 where

@@ -32,7 +32,9 @@ entries_of layer = map reached layer.entries
 
 -- the order of the stages in a layer
 abbrev pub stage_cmp : Stage → Stage → Ordering
-stage_cmp a b = ordering_then (slice_cmp nat_cmp a.next b.next) (ordering_then (slice_cmp nat_cmp a.memory b.memory) (slice_cmp told_cmp a.told b.told))
+stage_cmp a b =
+    ordering_then (slice_cmp nat_cmp a.next b.next)
+    (ordering_then (slice_cmp nat_cmp a.memory b.memory) (slice_cmp told_cmp a.told b.told))
 
 -- The code can make each step from this stage.
 pub record IsReady (scripts : List (List Op)) (s : Stage) : Type 0 where
@@ -55,7 +57,8 @@ IsFirstOf Step n from to = (p : ℕ) × (p < n) × Step p from to
 abbrev pub IsSomeOf : (ℕ → Stage × List ℕ → Stage × List ℕ → Type 0) → Stage × List ℕ → Stage × List ℕ → Type 0
 IsSomeOf Step from to = (p : ℕ) × Step p from to
 
-abbrev pub IsAfterSome : (ℕ → Stage × List ℕ → Stage × List ℕ → Type 0) → List (Stage × List ℕ) → Stage × List ℕ → Type 0
+abbrev pub IsAfterSome : (ℕ → Stage × List ℕ → Stage × List ℕ → Type 0) → List (Stage × List ℕ) → Stage × List ℕ
+    → Type 0
 IsAfterSome Step layer to = (from : Stage × List ℕ) × In from layer × IsSomeOf Step from to
 
 abbrev pub IsFirstStep : List (List Op) → ℕ → Stage × List ℕ → Stage × List ℕ → Type 0
@@ -79,7 +82,8 @@ AreApart [] = Unit {0}
 AreApart {Key} (f ∷ fs) = ((g : Key × List ℕ) → In g fs → f.0 ≢ g.0) × AreApart fs
 
 -- There are more entries than the limit: old ones, and new ones.
-pub record Overflows {Key : Type 0} (limit : ℕ) (IsNew : Key × List ℕ → Type 0) (old : List (Key × List ℕ)) : Type 0 where
+pub record Overflows {Key : Type 0} (limit : ℕ) (IsNew : Key × List ℕ → Type 0)
+    (old : List (Key × List ℕ)) : Type 0 where
   pub found : List (Key × List ℕ)
   pub more : limit < length found
   pub apart : AreApart found
@@ -93,7 +97,8 @@ Refuses limit IsNew old OutOfMemory = Unit {0}
 -- all stages after k turns, each with turns that lead to it
 pub record IsLayer (scripts : List (List Op)) (registers k : ℕ) (layer : List (Stage × List ℕ)) : Type 0 where
   pub each : (f : Stage × List ℕ) → In f layer → Leads scripts registers f.1 f.0 × (length f.1 ≡ k)
-  pub all : (turns : List ℕ) (s : Stage) → Leads scripts registers turns s → length turns ≡ k → (f : Stage × List ℕ) × In f layer × (f.0 ≡ s)
+  pub all : (turns : List ℕ) (s : Stage) → Leads scripts registers turns s → length turns ≡ k
+      → (f : Stage × List ℕ) × In f layer × (f.0 ≡ s)
 
 -- how many operations there are
 abbrev pub operation_count : List (List Op) → ℕ

@@ -45,7 +45,8 @@ IsAtLeast lasts q number = (last : ℕ) × (get use_cmp lasts q ≡ Some last) �
 
 -- the value that the operation of a call may leave is told of
 abbrev pub IsMakerNoted : Lasts → Entry → Type 0
-IsMakerNoted lasts (Called at id op) = (v : ℕ) → made_of op ≡ Some v → IsAtLeast lasts (id.process, (register_of op, v)) id.number
+IsMakerNoted lasts (Called at id op) =
+    (v : ℕ) → made_of op ≡ Some v → IsAtLeast lasts (id.process, (register_of op, v)) id.number
 IsMakerNoted lasts (Answered at id answer) = Unit {0}
 
 -- so of the first entries
@@ -54,7 +55,9 @@ AreMakersTo n h makers = (j : ℕ) (e : Entry) → j < n → IsAt h j e → IsMa
 
 -- the operation of this number is finished, and has to find the value
 abbrev pub IsAsker : List Entry → Key → ℕ → Type 0
-IsAsker h q number = (op : Op) × (at : ℕ) × (given : Answer) × (answered : ℕ) × IsCalled h (op_of q.0 number) at op × IsAnswered h (op_of q.0 number) answered given × Asks op given q.1.0 q.1.1
+IsAsker h q number =
+    (op : Op) × (at : ℕ) × (given : Answer) × (answered : ℕ) × IsCalled h (op_of q.0 number) at op
+    × IsAnswered h (op_of q.0 number) answered given × Asks op given q.1.0 q.1.1
 
 abbrev pub AreAskers : List Entry → Lasts → Type 0
 AreAskers h askers = (q : Key) (number : ℕ) → get use_cmp askers q ≡ Some number → IsAsker h q number
@@ -70,7 +73,8 @@ HasLater lasts next value = (p last : ℕ) × (get use_cmp lasts (p, value) ≡ 
 
 -- none of the first processes has one
 abbrev pub HasNoLater : Lasts → List ℕ → ℕ → ℕ × ℕ → Type 0
-HasNoLater lasts next n value = (p last : ℕ) → p < n → get use_cmp lasts (p, value) ≡ Some last → last < slice_index next p
+HasNoLater lasts next n value =
+    (p last : ℕ) → p < n → get use_cmp lasts (p, value) ≡ Some last → last < slice_index next p
 
 -- the value is needed still, and no operation makes it any more
 pub record IsLost {A : Type 0} (uses : Uses A) (s : Stage) (n : ℕ) (value : ℕ × ℕ) : Type 0 where

@@ -26,7 +26,8 @@ pub record IsNever (outcomes : List (List ToldAnswer)) (told : List ToldAnswer) 
 pub record AreNevers (outcomes nevers : List (List ToldAnswer)) : Type 0 where
   pub each : (k : ℕ) (told : List ToldAnswer) → IsAt nevers k told → IsNever outcomes told
   pub all : (told : List ToldAnswer) → IsNever outcomes told → (k : ℕ) × IsAt nevers k told
-  pub rising : (k l : ℕ) (s t : List ToldAnswer) → IsAt nevers k s → IsAt nevers l t → k < l → slice_cmp told_cmp s t ≡ Less
+  pub rising : (k l : ℕ) (s t : List ToldAnswer) → IsAt nevers k s → IsAt nevers l t → k < l
+      → slice_cmp told_cmp s t ≡ Less
 
 -- There are more lists of which `IsNever` holds than `most`.
 pub record AreOver (outcomes : List (List ToldAnswer)) (most : ℕ) : Type 0 where

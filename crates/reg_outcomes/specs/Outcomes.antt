@@ -29,7 +29,9 @@ use Rattle.reg_outcomes.specs.PlayTables.{AreThose, CountsUnfinished, HasOutcome
 
 -- the play of a workload by the words of PCG32 from this seed
 unfoldable pub play_from : (Op → ℕ → Start) → Load → ℕ → Made
-play_from start work seed = (seeded_play start pcg32 work.shape work.scripts work.loss work.repeat work.budget (pcg32_of_seed (pcg32_seed 16 seed))).0.made
+play_from start work seed =
+    (seeded_play start pcg32 work.shape work.scripts work.loss work.repeat work.budget
+    (pcg32_of_seed (pcg32_seed 16 seed))).0.made
 
 -- the history has a point order (linearizability, Herlihy and Wing 1990)
 abbrev pub IsLinearizable : ℕ → List Entry → Type 0
@@ -43,7 +45,8 @@ pub record IsSeen (start : Op → ℕ → Start) (work : Load) (seed : ℕ) (s :
   pub answered : (s.is_finished ≡ true) ↔ AllAnswered work.scripts (play_from start work seed).history
   pub events : s.events ≡ length (play_from start work seed).accepted
   pub outcome : s.outcome ≡ outcome_of work.shape.processes (play_from start work seed).history
-  pub time : s.is_finished ≡ true → (s.linearizable ≡ true) ↔ IsLinearizable work.shape.registers (play_from start work seed).history
+  pub time : s.is_finished ≡ true
+      → (s.linearizable ≡ true) ↔ IsLinearizable work.shape.registers (play_from start work seed).history
 
 -- the seed of the k-th play, from 0: the seeds of a workload's plays follow its own, modulo 2^64
 abbrev pub seed_at : Load → ℕ → ℕ
@@ -60,17 +63,21 @@ WasDrawn plays i = (k : ℕ) × (s : Seen) × IsAt plays k s × HasOutcome i.tol
 
 -- this is the number of these outcomes that no finished play had
 abbrev pub CountsUndrawn : List Seen → List Interleaving → ℕ → Type 0
-CountsUndrawn plays found n = (those : List Interleaving) × AreThose (λ i. ¬ WasDrawn plays i) found those × (n ≡ length those)
+CountsUndrawn plays found n =
+    (those : List Interleaving) × AreThose (λ i. ¬ WasDrawn plays i) found those × (n ≡ length those)
 
 -- How many of all outcomes of the scripts no finished play had, where their interleavings go through no more stages
 -- than the most that are counted; and None where they go through more.
 abbrev pub TellsUndrawn : List (List Op) → ℕ → List Seen → Option ℕ → Type 0
 TellsUndrawn scripts registers plays None = HasMoreStages scripts registers MOST_COUNTED_STAGES
-TellsUndrawn scripts registers plays (Some n) = (stages : ℕ) × CountsStages scripts registers stages × (stages ≤ MOST_COUNTED_STAGES) × (found : List Interleaving) × AreAll scripts registers found × CountsUndrawn plays found n
+TellsUndrawn scripts registers plays (Some n) =
+    (stages : ℕ) × CountsStages scripts registers stages × (stages ≤ MOST_COUNTED_STAGES) × (found : List Interleaving)
+    × AreAll scripts registers found × CountsUndrawn plays found n
 
 -- the lines of the table of the given number of plays, the number of unfinished plays, and that of the outcomes that no
 -- play had
-pub record AreOutcomes (start : Op → ℕ → Start) (work : Load) (plays : ℕ) (lines : List Line) (unfinished : ℕ) (undrawn : Option ℕ) : Type 0 where
+pub record AreOutcomes (start : Op → ℕ → Start) (work : Load) (plays : ℕ) (lines : List Line) (unfinished : ℕ)
+    (undrawn : Option ℕ) : Type 0 where
   pub seen : List Seen
   pub known : AreSeen start work plays seen
   pub table : IsTable seen lines
@@ -79,14 +86,16 @@ pub record AreOutcomes (start : Op → ℕ → Start) (work : Load) (plays : ℕ
 
 -- the witness of a run doesn't keep the real time
 abbrev pub HasLateWitness : (Op → ℕ → Start) → Made → Type 0
-HasLateWitness start made = (ids : List OpId) × IsWitness (run_of made.registers (run_in start made)) ids × ¬ KeepsRealTime made.history ids
+HasLateWitness start made =
+    (ids : List OpId) × IsWitness (run_of made.registers (run_in start made)) ids × ¬ KeepsRealTime made.history ids
 
 -- The play from this seed is finished, its witness doesn't keep the real time, and some number of its operations,
 -- placed in search of a point order, leads to more stages than the most.
 pub record IsWiderPlay (start : Op → ℕ → Start) (work : Load) (seed : ℕ) : Type 0 where
   pub finished : IsPlay start work.shape work.scripts work.budget (play_from start work seed) true
   pub late : HasLateWitness start (play_from start work seed)
-  pub wider : IsWiderSearch Points work.shape.processes work.shape.registers (play_from start work seed).history MOST_STAGES
+  pub wider : IsWiderSearch Points work.shape.processes work.shape.registers (play_from start work seed).history
+      MOST_STAGES
 
 -- why the play from this seed is not counted, and why the given number of plays is not
 abbrev pub IsPlayFault : (Op → ℕ → Start) → Load → ℕ → InterleavingFault → Type 0

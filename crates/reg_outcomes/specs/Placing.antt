@@ -34,7 +34,9 @@ pub record HasRoomFor (n registers : ℕ) (s : Stage) : Type 0 where
 
 -- each operation that was answered before another's call stands before it
 abbrev pub KeepsRealTime : List Entry → List OpId → Type 0
-KeepsRealTime h ids = (i : ℕ) (id other : OpId) (at answered : ℕ) (op : Op) (answer : Answer) → IsAt ids i id → IsCalled h id at op → IsAnswered h other answered answer → answered < at → (j : ℕ) × (j < i) × IsAt ids j other
+KeepsRealTime h ids =
+    (i : ℕ) (id other : OpId) (at answered : ℕ) (op : Op) (answer : Answer) → IsAt ids i id → IsCalled h id at op
+    → IsAnswered h other answered answer → answered < at → (j : ℕ) × (j < i) × IsAt ids j other
 
 -- what a kind of order asks of the real time
 abbrev pub KeepsTime : OrderKind → List Entry → List OpId → Type 0
@@ -50,5 +52,6 @@ pub record IsOrder (kind : OrderKind) (registers : ℕ) (h : List Entry) (ids : 
 pub record ArePointsOf (h : List Entry) (ids : List OpId) (ps : List Point) : Type 0 where
   pub same : map (λ p. p.id) ps ≡ ids
   pub late : (i : ℕ) (p : Point) (at : ℕ) (op : Op) → IsAt ps i p → IsCalled h p.id at op → at ≤ p.at
-  pub call : (i : ℕ) (p : Point) → IsAt ps i p → (j : ℕ) × (id : OpId) × (op : Op) × (j ≤ i) × IsAt ids j id × IsCalled h id p.at op
+  pub call : (i : ℕ) (p : Point) → IsAt ps i p
+      → (j : ℕ) × (id : OpId) × (op : Op) × (j ≤ i) × IsAt ids j id × IsCalled h id p.at op
   pub rising : (i j : ℕ) (p q : Point) → IsAt ps i p → IsAt ps j q → i < j → p.at ≤ q.at

@@ -39,7 +39,9 @@ IsNoShorter t s = (t.events < s.events) ⊎ ((t.events ≡ s.events) × (t.seed 
 -- The seed of the first of these plays that is linearizable, or of the first that is not, and None where there is none.
 abbrev pub IsFirst : Bool → List Seen → Option ℕ → Type 0
 IsFirst kind plays None = (k : ℕ) (s : Seen) → IsAt plays k s → s.linearizable ≢ kind
-IsFirst kind plays (Some seed) = (k : ℕ) × (s : Seen) × IsAt plays k s × (s.linearizable ≡ kind) × (s.seed ≡ seed) × ((j : ℕ) (other : Seen) → IsAt plays j other → other.linearizable ≡ kind → k ≤ j)
+IsFirst kind plays (Some seed) =
+    (k : ℕ) × (s : Seen) × IsAt plays k s × (s.linearizable ≡ kind) × (s.seed ≡ seed)
+    × ((j : ℕ) (other : Seen) → IsAt plays j other → other.linearizable ≡ kind → k ≤ j)
 
 -- What is told of plays: how many they are; the seed and the events of one of them, none of which is shorter, nor as
 -- short with a smaller seed; and the seeds of the first that is linearizable, and of the first that is not.
@@ -57,13 +59,16 @@ IsTallyOf plays outcome t = (those : List Seen) × AreThose (HasOutcome outcome)
 -- a line with a larger count stands before one with a smaller, and of two with the same count the one with the smaller
 -- outcome: the first answer in which they differ decides
 abbrev pub StandsBefore : Line → Line → Type 0
-StandsBefore a b = (b.tally.count < a.tally.count) ⊎ ((a.tally.count ≡ b.tally.count) × (slice_cmp told_cmp a.outcome b.outcome ≡ Less))
+StandsBefore a b =
+    (b.tally.count < a.tally.count)
+    ⊎ ((a.tally.count ≡ b.tally.count) × (slice_cmp told_cmp a.outcome b.outcome ≡ Less))
 
 -- The table of these plays: each line tells of the plays with its outcome, the outcome of each finished play has a
 -- line, no two lines have the same outcome, and they stand in their order.
 pub record IsTable (plays : List Seen) (lines : List Line) : Type 0 where
   pub each : (i : ℕ) (line : Line) → IsAt lines i line → IsTallyOf plays line.outcome line.tally
-  pub all : (k : ℕ) (s : Seen) → IsAt plays k s → s.is_finished ≡ true → (i : ℕ) × (line : Line) × IsAt lines i line × (line.outcome ≡ s.outcome)
+  pub all : (k : ℕ) (s : Seen) → IsAt plays k s → s.is_finished ≡ true
+      → (i : ℕ) × (line : Line) × IsAt lines i line × (line.outcome ≡ s.outcome)
   pub once : (i j : ℕ) (a b : Line) → IsAt lines i a → IsAt lines j b → a.outcome ≡ b.outcome → i ≡ j
   pub ordered : (i j : ℕ) (a b : Line) → IsAt lines i a → IsAt lines j b → i < j → StandsBefore a b
 

@@ -16,7 +16,10 @@ use Rattle.reg_outcomes.specs.Walking.{AreTried, Goes, HasFailed, IsChoice, IsPa
 
 -- each stage that is kept leads to no order, and so many operations lead to it
 abbrev pub AreFailed : {A : Type 0} → Sought → Layers A → Type 0
-AreFailed s layers = (k : ℕ) (f : Stage) → HasFailed layers k f → (¬ Goes s.kind s.entries f) × ((ids : List OpId) × Places s.kind s.shape.processes s.shape.registers s.entries ids f × (length ids ≡ k))
+AreFailed s layers =
+    (k : ℕ) (f : Stage) → HasFailed layers k f
+    → (¬ Goes s.kind s.entries f)
+    × ((ids : List OpId) × Places s.kind s.shape.processes s.shape.registers s.entries ids f × (length ids ≡ k))
 
 -- where a search stands: what was tried and what failed leads to no order
 pub record IsSearch {A : Type 0} (s : Sought) (walk : Walk A) (failed : Failed A) : Type 0 where

@@ -22,7 +22,8 @@ callers events = flat_map caller_in events
 
 -- The world is the run of its events, one process for each script. They use the scripts up, by calls in the order of
 -- the interleaving's turns, and what it tells is told.
-pub record IsRunOf (start : Op → ℕ → Start) (scripts : List (List Op)) (registers : ℕ) (i : Interleaving) (w : Made) : Type 0 where
+pub record IsRunOf (start : Op → ℕ → Start) (scripts : List (List Op)) (registers : ℕ) (i : Interleaving)
+    (w : Made) : Type 0 where
   pub made : w ≡ after_events start (record { processes = length scripts; registers = registers }) w.accepted
   pub uses_up : UsesUp start scripts registers w.accepted
   pub turns : callers w.accepted ≡ i.turns

@@ -42,7 +42,8 @@ undrawn_lines (Some n) = (codes "never drawn " ++ decimal n) ∷ []
 -- the lines of a table
 abbrev pub table_lines : ℕ → List Line → ℕ → Option ℕ → List (List ℕ)
 table_lines plays lines unfinished undrawn =
-    (codes "plays " ++ decimal plays) ∷ (codes "outcomes " ++ decimal (length lines)) ∷ (map line_text lines ++ (codes "unfinished " ++ decimal unfinished) ∷ undrawn_lines undrawn)
+    (codes "plays " ++ decimal plays) ∷ (codes "outcomes " ++ decimal (length lines))
+    ∷ (map line_text lines ++ (codes "unfinished " ++ decimal unfinished) ∷ undrawn_lines undrawn)
 
 abbrev pub table_text : ℕ → List Line → ℕ → Option ℕ → List ℕ
 table_text plays lines unfinished undrawn = text_of (table_lines plays lines unfinished undrawn)

@@ -1,6 +1,7 @@
 -- Places in an order, what was answered so far, and what is known of a finished play. They carry a proof: no promise
 -- speaks of them.
-use Rattle.std.specs.Prelude.{ℕ, ◌≡◌, ◌↔◌, ◌+◌, ◌<◌, ◌⊎◌, nat_lt, cond, max, suc, true, length, List, Option, None, Some}
+use Rattle.std.specs.Prelude.{ℕ, ◌≡◌, ◌↔◌, ◌+◌, ◌<◌, ◌⊎◌, nat_lt, cond, max, suc, true, length, List, Option, None}
+use Rattle.std.specs.Prelude.{Some}
 use Rattle.std.specs.declared.cmp.Ordering.{Ordering}
 use Rattle.std.specs.Ordering.{nat_cmp, ordering_then}
 use Rattle.reg_base.specs.declared.memory.OpId.{OpId}
@@ -42,8 +43,11 @@ bound_next place bound (Answered at id answer) = Some (answered_bound (place id)
 -- place after all that were answered.
 pub record IsInTime (es : List Entry) (ids : List OpId) (bound : ℕ) : Type 0 where
   pub above : (k i at : ℕ) (a : OpId) (answer : Answer) → IsAt es k (Answered at a answer) → IsAt ids i a → i < bound
-  pub tight : (bound ≡ 0) ⊎ ((k : ℕ) × (i : ℕ) × (at : ℕ) × (a : OpId) × (answer : Answer) × IsAt es k (Answered at a answer) × IsAt ids i a × (suc i ≡ bound))
-  pub kept : (k l i j s t : ℕ) (a b : OpId) (answer : Answer) (op : Op) → IsAt es k (Answered s a answer) → IsAt es l (Called t b op) → k < l → IsAt ids i a → IsAt ids j b → i < j
+  pub tight : (bound ≡ 0)
+      ⊎ ((k : ℕ) × (i : ℕ) × (at : ℕ) × (a : OpId) × (answer : Answer) × IsAt es k (Answered at a answer) × IsAt ids i a
+      × (suc i ≡ bound))
+  pub kept : (k l i j s t : ℕ) (a b : OpId) (answer : Answer) (op : Op) → IsAt es k (Answered s a answer)
+      → IsAt es l (Called t b op) → k < l → IsAt ids i a → IsAt ids j b → i < j
 
 -- what is known of a finished play
 pub record IsSeenIn (made : Made) (seed : ℕ) (s : Seen) : Type 0 where

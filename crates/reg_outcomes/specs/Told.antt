@@ -14,7 +14,8 @@ use Rattle.reg_outcomes.specs.declared.told.ToldAnswer.{ToldAnswer}
 
 -- what an operation with this answer tells: its answer, where that tells of the memory, and nothing where it is a write
 abbrev pub told_in : Op → OpId → Answer → List ToldAnswer
-told_in op id answer = if tells op then record { process = id.process; number = id.number; answer = answer } ∷ [] else []
+told_in op id answer =
+    if tells op then record { process = id.process; number = id.number; answer = answer } ∷ [] else []
 
 -- the operation that a process called last, after one entry more
 abbrev pub called_last : ℕ → Option Op → Entry → Option Op
@@ -58,4 +59,6 @@ answer_cmp a b = ordering_then (nat_cmp (kind_of a) (kind_of b)) (nat_cmp (value
 
 -- by process, then by number, then by answer
 abbrev pub told_cmp : ToldAnswer → ToldAnswer → Ordering
-told_cmp a b = ordering_then (nat_cmp a.process b.process) (ordering_then (nat_cmp a.number b.number) (answer_cmp a.answer b.answer))
+told_cmp a b =
+    ordering_then (nat_cmp a.process b.process)
+    (ordering_then (nat_cmp a.number b.number) (answer_cmp a.answer b.answer))

@@ -3,7 +3,8 @@
 use Rattle.std.proofs.Common.{◌≡◌, ℕ, Bool, true, false, refl, sym, ap, ap₂, ◌∙◌}
 use Rattle.std.specs.Prelude.{◌==◌, ◌&&◌}
 use Rattle.std.specs.Ordering.{nat_cmp, ordering_then, is_eq, eq_by_cmp, as_partial_cmp}
-use Rattle.std.specs.Cmp.{IsTotalOrder, IsPartialOrder, Equal-is, both_ways, nat_cmp_total, on_total, po, then_total, tied_itself}
+use Rattle.std.specs.Cmp.{IsTotalOrder, IsPartialOrder, Equal-is, both_ways, nat_cmp_total, on_total, po, then_total}
+use Rattle.std.specs.Cmp.{tied_itself}
 use Rattle.std.specs.FinMap.{nat_cmp-IsAntisymmetric}
 use Rattle.std.specs.declared.cmp.Ordering.{Ordering}
 use Rattle.std.specs.declared.cmp.Ordering.TheVariants.{Less, Equal, Greater}
@@ -17,7 +18,9 @@ pub answer_total : IsTotalOrder answer_cmp
 answer_total = then_total (on_total kind_of nat_cmp_total) (on_total value_of nat_cmp_total)
 
 pub told_total : IsTotalOrder told_cmp
-told_total = then_total (on_total (λ t. t.process) nat_cmp_total) (then_total (on_total (λ t. t.number) nat_cmp_total) (on_total (λ t. t.answer) answer_total))
+told_total =
+    then_total (on_total (λ t. t.process) nat_cmp_total)
+    (then_total (on_total (λ t. t.number) nat_cmp_total) (on_total (λ t. t.answer) answer_total))
 
 number_ties : (x y : ℕ) → (x == y) ≡ is_eq (nat_cmp x y)
 number_ties x y =
@@ -55,11 +58,15 @@ module _ (Is : Answer → Answer → Bool) (tests : TestsAnswers Is) where
   answer_ties Unequal Unequal = tests.unequal
 
   -- told answers are equal exactly where they tie
-  pub told_ties : (a b : ToldAnswer) → ((a.process == b.process) && ((a.number == b.number) && Is a.answer b.answer)) ≡ eq_by_cmp told_cmp a b
+  pub told_ties : (a b : ToldAnswer)
+      → ((a.process == b.process) && ((a.number == b.number) && Is a.answer b.answer)) ≡ eq_by_cmp told_cmp a b
   told_ties a b =
       ap₂ (λ s t. s && t) (number_ties a.process b.process)
-      (ap₂ (λ s t. s && t) (number_ties a.number b.number) (answer_ties a.answer b.answer) ∙ both_tie (nat_cmp a.number b.number) (answer_cmp a.answer b.answer))
-      ∙ both_tie (nat_cmp a.process b.process) (ordering_then (nat_cmp a.number b.number) (answer_cmp a.answer b.answer))
+      (ap₂ (λ s t. s && t) (number_ties a.number b.number) (answer_ties a.answer b.answer) ∙ both_tie
+      (nat_cmp a.number b.number) (answer_cmp a.answer b.answer))
+      ∙ both_tie (nat_cmp a.process b.process)
+      (ordering_then (nat_cmp a.number b.number) (answer_cmp a.answer b.answer))
 
-  pub told_partial : IsPartialOrder (λ a b. (a.process == b.process) && ((a.number == b.number) && Is a.answer b.answer)) (as_partial_cmp told_cmp)
+  pub told_partial : IsPartialOrder
+      (λ a b. (a.process == b.process) && ((a.number == b.number) && Is a.answer b.answer)) (as_partial_cmp told_cmp)
   told_partial = po told_total told_ties

@@ -28,7 +28,8 @@ pub record MayTurn (start : Op → ℕ → Start) (n registers : ℕ) (events : 
   pub room : length (whole start n registers events).accepted + turn_events n ≤ MOST_EVENTS
 
 -- a process called an operation in a run at rest, and the run came to rest again
-pub record IsTurn (start : Op → ℕ → Start) (n registers : ℕ) (events : List Event) (p : ℕ) (op : Op) (new : Made) : Type 0 where
+pub record IsTurn (start : Op → ℕ → Start) (n registers : ℕ) (events : List Event) (p : ℕ) (op : Op)
+    (new : Made) : Type 0 where
   pub rest : CanRest start n registers (events ++ Call p op ∷ [])
   pub few : length rest.more ≤ 3 * (n * (n - 1))
   pub on : IsGoingOn start new
@@ -39,4 +40,5 @@ pub record IsTurn (start : Op → ℕ → Start) (n registers : ℕ) (events : L
 -- turns, one after another, lead from one stage to another
 abbrev pub GoesTo : List (List Op) → Stage → List ℕ → Stage → Type 0
 GoesTo scripts s [] last = s ≡ last
-GoesTo scripts s (p ∷ turns) last = (op : Op) × IsAt (script_of scripts p) (slice_index s.next p) op × GoesTo scripts (stage_after p op s) turns last
+GoesTo scripts s (p ∷ turns) last =
+    (op : Op) × IsAt (script_of scripts p) (slice_index s.next p) op × GoesTo scripts (stage_after p op s) turns last

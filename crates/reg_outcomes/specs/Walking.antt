@@ -1,5 +1,6 @@
 -- A search for an order under way, from stage to stage. They carry a proof: no promise speaks of them.
-use Rattle.std.specs.Prelude.{ℕ, ◌≡◌, ◌≢◌, ◌<◌, ◌≤◌, ◌⊎◌, List, [], ◌∷◌, ◌++◌, length, map, slice_index, slice_set, Some}
+use Rattle.std.specs.Prelude.{ℕ, ◌≡◌, ◌≢◌, ◌<◌, ◌≤◌, ◌⊎◌, List, [], ◌∷◌, ◌++◌, length, map, slice_index, slice_set}
+use Rattle.std.specs.Prelude.{Some}
 use Rattle.std.specs.Int.{bit_at}
 use Rattle.std.specs.BTreeMap.{BTreeMap}
 use Rattle.reg_base.specs.declared.memory.Answer.{Answer}
@@ -49,7 +50,8 @@ pub record IsChoiceOf (p : ℕ) (fact : Fact) (tried : ℕ) (c : Choice) : Type 
   pub others : ((q : ℕ) → q ≢ p → bit_at c.tried q ≡ bit_at tried q) ⊎ IsStill fact
 
 -- the operation may come next, and those that are tried with it lead to no order if it doesn't
-pub record IsChoice (kind : OrderKind) (n registers : ℕ) (h : List Entry) (tried : ℕ) (s : Stage) (c : Choice) : Type 0 where
+pub record IsChoice (kind : OrderKind) (n registers : ℕ) (h : List Entry) (tried : ℕ) (s : Stage)
+    (c : Choice) : Type 0 where
   pub process : c.process < n
   pub register : register_of c.op < registers
   pub more : tried < c.tried
@@ -67,11 +69,22 @@ IsPast kind h tried s n = (p : ℕ) → p < n → IsPastBy kind h tried s p
 
 -- what brings the stage before an operation back
 abbrev pub step_of : Choice → Stage → Step
-step_of c s = record { id = op_of c.process (slice_index s.next c.process); register = register_of c.op; before = slice_index s.memory (register_of c.op); tried = c.tried }
+step_of c s =
+    record {
+      id = op_of c.process (slice_index s.next c.process);
+      register = register_of c.op;
+      before = slice_index s.memory (register_of c.op);
+      tried = c.tried;
+    }
 
 -- the stage before it
 abbrev pub stage_before : Step → Stage → Stage
-stage_before x s = record { next = slice_set s.next x.id.process x.id.number; memory = slice_set s.memory x.register x.before; told = s.told }
+stage_before x s =
+    record {
+      next = slice_set s.next x.id.process x.id.number;
+      memory = slice_set s.memory x.register x.before;
+      told = s.told;
+    }
 
 -- the stage has its process and its register
 pub record FitsIn (x : Step) (s : Stage) : Type 0 where
@@ -86,7 +99,9 @@ ids_of steps = map (λ x. x.id) steps
 -- those that are tried with it.
 pub data IsPath (kind : OrderKind) (n registers : ℕ) (h : List Entry) : List Step → Stage → Type 0 where
   Start : IsPath kind n registers h [] (first_stage n registers)
-  Longer : {steps : List Step} {s : Stage} (c : Choice) → IsPath kind n registers h steps s → register_of c.op < registers → IsPlaced kind h c.process s (placed_after c.process c.op s) → ((¬ Goes kind h (placed_after c.process c.op s)) → AreTried kind h s c.tried)
+  Longer : {steps : List Step} {s : Stage} (c : Choice) → IsPath kind n registers h steps s
+      → register_of c.op < registers → IsPlaced kind h c.process s (placed_after c.process c.op s)
+      → ((¬ Goes kind h (placed_after c.process c.op s)) → AreTried kind h s c.tried)
       → IsPath kind n registers h (steps ++ step_of c s ∷ []) (placed_after c.process c.op s)
 
 -- the stages of a layer
@@ -101,7 +116,9 @@ Layers A = List (BTreeMap (Held A) (Unit {0}))
 
 -- the stage is among those to which so many operations lead
 abbrev pub HasFailed : {A : Type 0} → Layers A → ℕ → Stage → Type 0
-HasFailed {A} layers k s = (layer : BTreeMap (Held A) (Unit {0})) × (f : Stage × List ℕ) × IsAt layers k layer × In f (stages_in layer) × (f.0 ≡ s)
+HasFailed {A} layers k s =
+    (layer : BTreeMap (Held A) (Unit {0})) × (f : Stage × List ℕ) × IsAt layers k layer × In f (stages_in layer)
+    × (f.0 ≡ s)
 
 -- each stage was there
 abbrev pub NotesNone : {A : Type 0} → Layers A → Layers A → Type 0
@@ -113,4 +130,6 @@ IsNoted placed t old new = (k : ℕ) (s : Stage) → HasFailed new k s → HasFa
 
 -- there is no room for the stage
 abbrev pub Overfills : {A : Type 0} → ℕ → ℕ → Stage → Layers A → InterleavingFault → Type 0
-Overfills {A} limit placed t layers fault = (layer : BTreeMap (Held A) (Unit {0})) × IsAt layers placed layer × Refuses limit (λ f. f ≡ (t, [])) (stages_in layer) fault
+Overfills {A} limit placed t layers fault =
+    (layer : BTreeMap (Held A) (Unit {0})) × IsAt layers placed layer
+    × Refuses limit (λ f. f ≡ (t, [])) (stages_in layer) fault

@@ -41,7 +41,18 @@ impl Ord for ToldAnswer {
 
     ghost matches_partial_cmp = { λ a b. refl };
 
-    ghost matches_eq = { told_ties _ (record { done = refl; values = λ x y. refl; unequal = refl; done_value = λ y. refl; done_unequal = refl; value_done = λ x. refl; value_unequal = λ x. refl; unequal_done = refl; unequal_value = λ y. refl }) };
+    ghost matches_eq = { told_ties _
+        (record {
+          done = refl;
+          values = λ x y. refl;
+          unequal = refl;
+          done_value = λ y. refl;
+          done_unequal = refl;
+          value_done = λ x. refl;
+          value_unequal = λ x. refl;
+          unequal_done = refl;
+          unequal_value = λ y. refl;
+        }) };
 
     fn cmp(&self, other: &ToldAnswer) -> Ordering {
         let processes = self.process.cmp(&other.process);
@@ -55,7 +66,18 @@ impl Ord for ToldAnswer {
 impl PartialOrd for ToldAnswer {
     ghost partial_cmp = { as_partial_cmp told_cmp };
 
-    ghost laws = { told_partial _ (record { done = refl; values = λ x y. refl; unequal = refl; done_value = λ y. refl; done_unequal = refl; value_done = λ x. refl; value_unequal = λ x. refl; unequal_done = refl; unequal_value = λ y. refl }) };
+    ghost laws = { told_partial _
+        (record {
+          done = refl;
+          values = λ x y. refl;
+          unequal = refl;
+          done_value = λ y. refl;
+          done_unequal = refl;
+          value_done = λ x. refl;
+          value_unequal = λ x. refl;
+          unequal_done = refl;
+          unequal_value = λ y. refl;
+        }) };
 
     fn partial_cmp(&self, other: &ToldAnswer) -> Option<Ordering> {
         Some(self.cmp(other))

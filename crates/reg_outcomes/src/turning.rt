@@ -1,5 +1,6 @@
 //! Runs that have an outcome: the turns of an interleaving are made one after another, each from rest to rest.
-ghost use Rattle.std.specs.Prelude.{ℕ, ◌≡◌, ◌+◌, ◌-◌, ◌*◌, ◌≤◌, ◌↔◌, IsTrue, IfOk, IfErr, OnOk, MatchResult, None, false, length};
+ghost use Rattle.std.specs.Prelude.{ℕ, ◌≡◌, ◌+◌, ◌-◌, ◌*◌, ◌≤◌, ◌↔◌, IsTrue, IfOk, IfErr, OnOk, MatchResult, None};
+ghost use Rattle.std.specs.Prelude.{false, length};
 ghost use Rattle.reg_base.specs.Lists.{lists};
 ghost use Rattle.reg_base.specs.declared.limits.TheConstants.{MOST_EVENTS, MOST_PROCESSES};
 ghost use Rattle.reg_process.specs.declared.events.Event.TheVariants.{Call};
@@ -69,7 +70,8 @@ fn call<F: FrontEnd, A: Allocator + Copy, W: WireStore<A>>(
     op: Op,
 ) -> Result<(), TurnsFault>
     requires { refusal F.start world.old (Call process op) ≡ None }
-    ensures { MatchResult result (λ _. Accepts F.start world.old (Call process op) world.new) (λ fault. fault ≡ TurnsFault.OutOfMemory) }
+    ensures { MatchResult result (λ _. Accepts F.start world.old (Call process op) world.new)
+        (λ fault. fault ≡ TurnsFault.OutOfMemory) }
 {
     match world.step(&Event::Call { process, op }) {
         Ok(()) => Ok(()),
@@ -83,8 +85,10 @@ fn come_to_rest<F: FrontEnd, A: Allocator + Copy, W: WireStore<A>>(
     world: &mut World<F, A, W>,
 ) -> Result<(), TurnsFault>
     requires going { world.old.failed ≡ false }
-    requires room { length world.old.accepted + most_to_rest world.old.processes (run_in F.start world.old).nodes ≤ MOST_EVENTS }
-    ensures { MatchResult result (λ _. (count : ℕ) × Settles F.start world.old count world.new) (λ fault. fault ≡ TurnsFault.OutOfMemory) }
+    requires room { length world.old.accepted + most_to_rest world.old.processes (run_in F.start world.old).nodes
+        ≤ MOST_EVENTS }
+    ensures { MatchResult result (λ _. (count : ℕ) × Settles F.start world.old count world.new)
+        (λ fault. fault ≡ TurnsFault.OutOfMemory) }
 {
     match settle(world) {
         Ok(_) => Ok(()),
@@ -102,7 +106,9 @@ fn take_turn<F: FrontEnd, A: Allocator + Copy, W: WireStore<A>>(
 ) -> Result<(), TurnsFault>
     requires on { IsGoingOn F.start world.old }
     requires may { MayTurn F.start world.old.processes world.old.registers world.old.accepted process op }
-    ensures { MatchResult result (λ _. IsTurn F.start world.old.processes world.old.registers world.old.accepted process op world.new) (λ fault. fault ≡ TurnsFault.OutOfMemory) }
+    ensures { MatchResult result
+        (λ _. IsTurn F.start world.old.processes world.old.registers world.old.accepted process op world.new)
+        (λ fault. fault ≡ TurnsFault.OutOfMemory) }
 {
     call(world, process, op)?;
     come_to_rest(world)
@@ -120,7 +126,8 @@ fn take_turns<F: FrontEnd, A: Allocator + Copy, W: WireStore<A>>(
     requires playable { ArePlayable (lists scripts.now) registers }
     requires outcome { IsInterleaving (lists scripts.now) registers outcome.now }
     requires room { HasRoom (lists scripts.now) }
-    ensures { MatchResult result (λ _. IsRunOf F.start (lists scripts.now) registers outcome.now world.new) (λ fault. fault ≡ TurnsFault.OutOfMemory) }
+    ensures { MatchResult result (λ _. IsRunOf F.start (lists scripts.now) registers outcome.now world.new)
+        (λ fault. fault ≡ TurnsFault.OutOfMemory) }
 {
     let mut stage = Stage::first(alloc, scripts.len(), registers)?;
     for turn in 0..outcome.turns.len() {

@@ -1,5 +1,7 @@
 -- An acknowledgement accepted, and a count.
-use Rattle.std.proofs.Common.{◌≡◌, ℕ, zero, suc, ◌+◌, ◌<◌, ◌≤◌, Bool, true, false, not, List, [], ◌∷◌, ◌++◌, length, map, max, None, refl, sym, ap, ◌∙◌, subst, inl, inr, arith, length-set, get_or-set_same, get_or-set_other}
+use Rattle.std.proofs.Common.{◌≡◌, ℕ, zero, suc, ◌+◌, ◌<◌, ◌≤◌, Bool, true, false, not, List, [], ◌∷◌, ◌++◌, length}
+use Rattle.std.proofs.Common.{map, max, None, refl, sym, ap, ◌∙◌, subst, inl, inr, arith, length-set, get_or-set_same}
+use Rattle.std.proofs.Common.{get_or-set_other}
 use Rattle.std.specs.Prelude.{cond, slice_index, slice_index_or, slice_set, nat_lt, Result, Ok, Err, is_ok, OkIff}
 use Rattle.std.proofs.lemmas.Bool.{cases_eq, eq-eqb, ne_eqb}
 use Rattle.std.proofs.lemmas.Bool.Decides.{nat_tests}
@@ -105,7 +107,8 @@ module _ (p : Parts) (good : Good p) (from t : ℕ) (peer : from < length p.wait
         (subst (λ (fs : List Put). TakesAck (state_of p) from t fs (state_of (ack_parts (max p.clock t + 1)))) (sym (put ∙ ap (λ n. put_to from (Got n) ∷ []) counted)) (ack_takes room))
 
 -- a count
-merged_out : (ts es : List ℕ) (os : List Unacknowledged) (i : ℕ) (o : Unacknowledged) → length es ≡ length ts → length os ≡ length ts → i < length ts →
+merged_out : (ts es : List ℕ) (os : List Unacknowledged) (i : ℕ) (o : Unacknowledged) → length es ≡ length ts
+    → length os ≡ length ts → i < length ts →
     merged ts es (slice_set os i o) ≡ slice_set (merged ts es os) i (record (slice_index_or (merged ts es os) i no_peer) { first = o.first; pending = o.pending })
 merged_out [] es os i o a b l = absurd (omega arith)
 merged_out (x ∷ ts) [] os i o a b l = absurd (omega arith)
@@ -113,7 +116,12 @@ merged_out (x ∷ ts) (y ∷ es) [] i o a b l = absurd (omega arith)
 merged_out (x ∷ ts) (y ∷ es) (z ∷ os) zero o a b l = refl
 merged_out (x ∷ ts) (y ∷ es) (z ∷ os) (suc i) o a b l = ap (λ (l : List Peer). record { seen = x; expected = y; first = z.first; pending = z.pending } ∷ l) (merged_out ts es os i o (omega arith) (omega arith) (omega arith))
 
-pub merged_out_at : (ts es : List ℕ) (os : List Unacknowledged) (i : ℕ) → length es ≡ length ts → length os ≡ length ts → (slice_index_or os i nothing) ≡ record { first = (slice_index_or (merged ts es os) i no_peer).first; pending = (slice_index_or (merged ts es os) i no_peer).pending }
+pub merged_out_at : (ts es : List ℕ) (os : List Unacknowledged) (i : ℕ) → length es ≡ length ts → length os ≡ length ts
+    → (slice_index_or os i nothing)
+    ≡ record {
+      first = (slice_index_or (merged ts es os) i no_peer).first;
+      pending = (slice_index_or (merged ts es os) i no_peer).pending;
+    }
 merged_out_at [] [] [] i a b = refl
 merged_out_at [] (e ∷ es) os i a b = absurd (omega arith)
 merged_out_at [] [] (o ∷ os) i a b = absurd (omega arith)
@@ -123,7 +131,9 @@ merged_out_at (t ∷ ts) (e ∷ es) (o ∷ os) zero a b = refl
 merged_out_at (t ∷ ts) (e ∷ es) (o ∷ os) (suc i) a b = merged_out_at ts es os i (omega arith) (omega arith)
 
 -- the links changed, and none has a later number
-pub same_good : (p : Parts) → Good p → (outs : List Unacknowledged) → length outs ≡ length p.outs → ((i : ℕ) → next_of (slice_index_or outs i nothing) ≤ next_of (slice_index_or p.outs i nothing)) → Good (record p { outs = outs })
+pub same_good : (p : Parts) → Good p → (outs : List Unacknowledged) → length outs ≡ length p.outs
+    → ((i : ℕ) → next_of (slice_index_or outs i nothing) ≤ next_of (slice_index_or p.outs i nothing))
+    → Good (record p { outs = outs })
 same_good p good outs len low = record {
   same = good.same;
   me = good.me;
@@ -141,16 +151,19 @@ same_good p good outs len low = record {
   counts = good.counts;
 }
 
-pub set_good : (p : Parts) → Good p → (from : ℕ) (o : Unacknowledged) → from < length p.outs → next_of o ≤ next_of (slice_index_or p.outs from nothing) → Good (record p { outs = slice_set p.outs from o })
-set_good p good from o l low = same_good p good (slice_set p.outs from o) (length-set p.outs from o) (λ i. elim (cases_eq i from) [
-  | inl q ↦
-      let a = ap next_of (ap (λ k. slice_index_or (slice_set p.outs from o) k nothing) q ∙ get_or-set_same p.outs from o nothing l) in
-      let b = ap (λ k. next_of (slice_index_or p.outs k nothing)) q in
-      omega (arith, a, b, low)
-  | inr ne ↦ let a = ap next_of (get_or-set_other p.outs from i o nothing ne) in omega (arith, a)
-])
+pub set_good : (p : Parts) → Good p → (from : ℕ) (o : Unacknowledged) → from < length p.outs
+    → next_of o ≤ next_of (slice_index_or p.outs from nothing) → Good (record p { outs = slice_set p.outs from o })
+set_good p good from o l low =
+    same_good p good (slice_set p.outs from o) (length-set p.outs from o) (λ i. elim (cases_eq i from) [
+      | inl q ↦
+          let a = ap next_of (ap (λ k. slice_index_or (slice_set p.outs from o) k nothing) q ∙ get_or-set_same p.outs from o nothing l) in
+          let b = ap (λ k. next_of (slice_index_or p.outs k nothing)) q in
+          omega (arith, a, b, low)
+      | inr ne ↦ let a = ap next_of (get_or-set_other p.outs from i o nothing ne) in omega (arith, a)
+    ])
 
-set_same : {X : Type 0} (xs : List X) (i : ℕ) (x d : X) → x ≡ slice_index_or xs i d → i < length xs → slice_set xs i x ≡ xs
+set_same : {X : Type 0} (xs : List X) (i : ℕ) (x d : X) → x ≡ slice_index_or xs i d → i < length xs
+    → slice_set xs i x ≡ xs
 set_same [] i x d e l = absurd (omega arith)
 set_same (y ∷ ys) zero x d e l = ap (λ z. z ∷ ys) e
 set_same (y ∷ ys) (suc i) x d e l = ap (λ zs. y ∷ zs) (set_same ys i x d e (omega arith))
@@ -159,11 +172,14 @@ module _ (p : Parts) (good : Good p) (from count : ℕ) (peer : from < length p.
   next_is : process.next_of (peer_at (state_of p) from) ≡ next_of old
   next_is = merged_next p.waiting.seen p.expected p.outs from good.ins good.out ∙ ap next_of (sym is)
 
-  pub count_fits : (b : Bool) → (b ≡ true → count ≤ next_of old) → (b ≡ false → next_of old < count) → b ≡ not (nat_lt (process.next_of (peer_at (state_of p) from)) count)
+  pub count_fits : (b : Bool) → (b ≡ true → count ≤ next_of old) → (b ≡ false → next_of old < count)
+      → b ≡ not (nat_lt (process.next_of (peer_at (state_of p) from)) count)
   count_fits true h k = let a = h refl in let z = next_is in let e : nat_lt (process.next_of (peer_at (state_of p) from)) count ≡ false = grind (arith, nat_tests) in sym (ap not e)
   count_fits false h k = let a = k refl in let z = next_is in let e : nat_lt (process.next_of (peer_at (state_of p) from)) count ≡ true = grind (arith, nat_tests) in sym (ap not e)
 
-  pub counted_state : (b : Bool) (new : Unacknowledged) → new ≡ cond b (link.acknowledged old count) old → state_of (record p { outs = slice_set p.outs from new }) ≡ cond b (acknowledged (state_of p) from count) (state_of p)
+  pub counted_state : (b : Bool) (new : Unacknowledged) → new ≡ cond b (link.acknowledged old count) old
+      → state_of (record p { outs = slice_set p.outs from new })
+      ≡ cond b (acknowledged (state_of p) from count) (state_of p)
   counted_state true new e =
       let s = state_of p in
       let at : old ≡ record { first = (peer_at s from).first; pending = (peer_at s from).pending } = is ∙ merged_out_at p.waiting.seen p.expected p.outs from good.ins good.out in

@@ -1,5 +1,7 @@
 -- What a tick puts again.
-use Rattle.std.proofs.Common.{◌≡◌, ◌≢◌, inl, inr, Bool, true, false, ℕ, zero, suc, ◌+◌, ◌<◌, ◌≤◌, List, [], ◌∷◌, ◌++◌, length, take, map, Option, Some, None, Result, Ok, Err, refl, sym, ap, ◌∙◌, arith, add-one, append_assoc, replicate}
+use Rattle.std.proofs.Common.{◌≡◌, ◌≢◌, inl, inr, Bool, true, false, ℕ, zero, suc, ◌+◌, ◌<◌, ◌≤◌, List, [], ◌∷◌, ◌++◌}
+use Rattle.std.proofs.Common.{length, take, map, Option, Some, None, Result, Ok, Err, refl, sym, ap, ◌∙◌, arith}
+use Rattle.std.proofs.Common.{add-one, append_assoc, replicate}
 use Rattle.std.proofs.lemmas.List.{length-replicate}
 use Rattle.std.specs.Prelude.{OnErr, ◌==◌, cond, slice_get, slice_index_or, option_map}
 use Rattle.std.proofs.lemmas.Bool.{eq-eqb, ne_eqb, cases_lt}
@@ -19,7 +21,8 @@ use Rattle.reg_process.proofs.Deliveries.{length-merged}
 use Rattle.reg_process.proofs.Sending.{puts_same}
 use Rattle.reg_process.proofs.Acks.{merged_out_at}
 
-one_more : (first i : ℕ) (xs : List Body) (b : Body) → slice_get xs i ≡ Some b → numbered_from first (take (suc i) xs) ≡ numbered_from first (take i xs) ++ Numbered (first + i) b ∷ []
+one_more : (first i : ℕ) (xs : List Body) (b : Body) → slice_get xs i ≡ Some b
+    → numbered_from first (take (suc i) xs) ≡ numbered_from first (take i xs) ++ Numbered (first + i) b ∷ []
 one_more first i [] b h = absurd (cc)
 one_more first zero (x ∷ xs) b h =
     let e : x ≡ b = cc in let z : first ≡ first + 0 = omega arith in
@@ -41,7 +44,8 @@ pub map_append : (r : ℕ) (xs ys : List Frame) → map (put_to r) (xs ++ ys) �
 map_append r [] ys = refl
 map_append r (x ∷ xs) ys = ap (λ l. put_to r x ∷ l) (map_append r xs ys)
 
-some_body : (o : Option Body) (k : ℕ) (f : Frame) → Some f ≡ option_map (λ b. Numbered k b) o → (b : Body) × (o ≡ Some b) × (f ≡ Numbered k b)
+some_body : (o : Option Body) (k : ℕ) (f : Frame) → Some f ≡ option_map (λ b. Numbered k b) o
+    → (b : Body) × (o ≡ Some b) × (f ≡ Numbered k b)
 some_body None k f h = absurd (cc)
 some_body (Some b) k f h = (b, refl, cc)
 
@@ -50,7 +54,10 @@ none_body None k h = refl
 none_body (Some b) k h = absurd (cc)
 
 -- one more frame of the outbox
-pub resend_more : (out : Unacknowledged) (to i : ℕ) (f : Frame) (old fs gs : List Put) → Some f ≡ option_map (λ b. Numbered (out.first + i) b) (slice_get out.pending i) → fs ≡ old ++ map (put_to to) (numbered_from out.first (take i out.pending)) → gs ≡ fs ++ put_to to f ∷ [] → gs ≡ old ++ map (put_to to) (numbered_from out.first (take (i + 1) out.pending))
+pub resend_more : (out : Unacknowledged) (to i : ℕ) (f : Frame) (old fs gs : List Put)
+    → Some f ≡ option_map (λ b. Numbered (out.first + i) b) (slice_get out.pending i)
+    → fs ≡ old ++ map (put_to to) (numbered_from out.first (take i out.pending)) → gs ≡ fs ++ put_to to f ∷ []
+    → gs ≡ old ++ map (put_to to) (numbered_from out.first (take (i + 1) out.pending))
 resend_more out to i f old fs gs h e g =
     let r = some_body (slice_get out.pending i) (out.first + i) f h in
     let m : numbered_from out.first (take (i + 1) out.pending) ≡ numbered_from out.first (take i out.pending) ++ f ∷ [] =
@@ -60,18 +67,24 @@ resend_more out to i f old fs gs h e g =
     ∙ ap (λ l. old ++ l) (sym (map_append to (numbered_from out.first (take i out.pending)) (f ∷ [])))
     ∙ ap (λ l. old ++ map (put_to to) l) (sym m)
 
-pub resend_end : (out : Unacknowledged) (me to i : ℕ) (old fs : List Put) → (to ≡ me → ⊥) → None ≡ option_map (λ b. Numbered (out.first + i) b) (slice_get out.pending i) → i ≤ MOST_RESENT → fs ≡ old ++ map (put_to to) (numbered_from out.first (take i out.pending)) → fs ≡ old ++ map (put_to to) (again_at me to out)
+pub resend_end : (out : Unacknowledged) (me to i : ℕ) (old fs : List Put) → (to ≡ me → ⊥)
+    → None ≡ option_map (λ b. Numbered (out.first + i) b) (slice_get out.pending i) → i ≤ MOST_RESENT
+    → fs ≡ old ++ map (put_to to) (numbered_from out.first (take i out.pending))
+    → fs ≡ old ++ map (put_to to) (again_at me to out)
 resend_end out me to i old fs ne h l e =
     e ∙ ap (λ xs. old ++ map (put_to to) (numbered_from out.first xs)) (sym (stops i MOST_RESENT out.pending (none_body (slice_get out.pending i) (out.first + i) h) l))
     ∙ ap (λ b. old ++ map (put_to to) (cond b [] (numbered_from out.first (take MOST_RESENT out.pending)))) (sym (ne_eqb to me ne))
 
-pub resend_full : (out : Unacknowledged) (me to i : ℕ) (old fs : List Put) → (to ≡ me → ⊥) → i ≡ MOST_RESENT → fs ≡ old ++ map (put_to to) (numbered_from out.first (take i out.pending)) → fs ≡ old ++ map (put_to to) (again_at me to out)
+pub resend_full : (out : Unacknowledged) (me to i : ℕ) (old fs : List Put) → (to ≡ me → ⊥) → i ≡ MOST_RESENT
+    → fs ≡ old ++ map (put_to to) (numbered_from out.first (take i out.pending))
+    → fs ≡ old ++ map (put_to to) (again_at me to out)
 resend_full out me to i old fs ne l e =
     e ∙ ap (λ k. old ++ map (put_to to) (numbered_from out.first (take k out.pending))) l
     ∙ ap (λ b. old ++ map (put_to to) (cond b [] (numbered_from out.first (take MOST_RESENT out.pending)))) (sym (ne_eqb to me ne))
 
 -- what is put again is some frame where the outbox has a body
-pub resends_some : (out : Unacknowledged) (me to i : ℕ) (f : Frame) → (to ≡ me → ⊥) → Some f ≡ option_map (λ b. Numbered (out.first + i) b) (slice_get out.pending i) → again_at me to out ≢ []
+pub resends_some : (out : Unacknowledged) (me to i : ℕ) (f : Frame) → (to ≡ me → ⊥)
+    → Some f ≡ option_map (λ b. Numbered (out.first + i) b) (slice_get out.pending i) → again_at me to out ≢ []
 resends_some out me to i f ne h none =
     let r = some_body (slice_get out.pending i) (out.first + i) f h in
     let here : again_at me to out ≡ numbered_from out.first (take MOST_RESENT out.pending) = ap (λ b. cond b [] (numbered_from out.first (take MOST_RESENT out.pending))) (ne_eqb to me ne) in
@@ -110,7 +123,8 @@ on_err (Err e) P p = p
 pub resent_at : (p : Parts) → Good p → (r : ℕ) → again_frames p.me p.outs r ≡ resent (state_of p) r
 resent_at p good r = ap (again_at p.me r) (merged_out_at p.waiting.seen p.expected p.outs r good.ins good.out)
 
-pub again_is : (p : Parts) → Good p → puts (again_frames p.me p.outs) (length p.outs) ≡ puts (resent (state_of p)) (length (state_of p).peers)
+pub again_is : (p : Parts) → Good p
+    → puts (again_frames p.me p.outs) (length p.outs) ≡ puts (resent (state_of p)) (length (state_of p).peers)
 again_is p good =
     puts_same (again_frames p.me p.outs) (resent (state_of p)) (length p.outs) (resent_at p good)
     ∙ ap (puts (resent (state_of p))) (good.out ∙ sym (length-merged p.waiting.seen p.expected p.outs good.ins good.out))
@@ -127,7 +141,8 @@ replicate_more (suc n) x = ap (λ l. x ∷ l) (replicate_more n x)
 abbrev zeros : ℕ → List ℕ
 zeros n = replicate n 0
 
-pub first_good : (me processes registers : ℕ) → me < processes → processes ≤ MOST_PROCESSES → Good (first_parts me processes registers)
+pub first_good : (me processes registers : ℕ) → me < processes → processes ≤ MOST_PROCESSES
+    → Good (first_parts me processes registers)
 first_good me processes registers m n =
     let a : length (zeros processes) ≡ processes = length-replicate processes 0 in
     let b : length (replicate processes nothing) ≡ processes = length-replicate processes nothing in
@@ -149,7 +164,9 @@ first_good me processes registers m n =
     }
 
 -- the parts that the code made
-pub same_parts : (me processes registers clock : ℕ) (w : Waiting) (es : List ℕ) (os : List Unacknowledged) (m : List ℕ) → clock ≡ 0 → w ≡ record { me = me; seen = replicate processes 0; held = [] } → es ≡ replicate processes 0 → os ≡ replicate processes nothing → m ≡ replicate registers 0 →
+pub same_parts : (me processes registers clock : ℕ) (w : Waiting) (es : List ℕ) (os : List Unacknowledged) (m : List ℕ)
+    → clock ≡ 0 → w ≡ record { me = me; seen = replicate processes 0; held = [] } → es ≡ replicate processes 0
+    → os ≡ replicate processes nothing → m ≡ replicate registers 0 →
     first_parts me processes registers ≡ record (first_parts me processes registers) { clock = clock; waiting = w; expected = es; outs = os; copy = m }
 same_parts me processes registers clock w es os m c a b d f =
     ap (λ x. record (first_parts me processes registers) { clock = x }) (sym c)
@@ -159,7 +176,8 @@ same_parts me processes registers clock w es os m c a b d f =
     ∙ ap (λ (x : List ℕ). record (first_parts me processes registers) { clock = clock; waiting = w; expected = es; outs = os; copy = x }) (sym f)
 
 -- a frame that is put again, by its place
-numbered_get : (first i : ℕ) (xs : List Body) → slice_get (numbered_from first xs) i ≡ option_map (λ b. Numbered (first + i) b) (slice_get xs i)
+numbered_get : (first i : ℕ) (xs : List Body)
+    → slice_get (numbered_from first xs) i ≡ option_map (λ b. Numbered (first + i) b) (slice_get xs i)
 numbered_get first i [] = refl
 numbered_get first zero (x ∷ xs) = let z : first ≡ first + 0 = omega arith in ap (λ k. Some (Numbered k x)) z
 numbered_get first (suc i) (x ∷ xs) = let z : first + 1 + i ≡ first + suc i = omega arith in numbered_get (first + 1) i xs ∙ ap (λ k. option_map (λ b. Numbered k b) (slice_get xs i)) z
@@ -176,7 +194,8 @@ take_none (suc n) i [] l = refl
 take_none (suc n) zero (x ∷ xs) l = absurd (omega arith)
 take_none (suc n) (suc i) (x ∷ xs) l = take_none n i xs (omega arith)
 
-pub again_get : (me to i : ℕ) (out : Unacknowledged) → (to ≡ me → ⊥) → i < MOST_RESENT → slice_get (again_at me to out) i ≡ option_map (λ b. Numbered (out.first + i) b) (slice_get out.pending i)
+pub again_get : (me to i : ℕ) (out : Unacknowledged) → (to ≡ me → ⊥) → i < MOST_RESENT
+    → slice_get (again_at me to out) i ≡ option_map (λ b. Numbered (out.first + i) b) (slice_get out.pending i)
 again_get me to i out ne l =
     ap (λ b. slice_get (cond b [] (numbered_from out.first (take MOST_RESENT out.pending))) i) (ne_eqb to me ne)
     ∙ numbered_get out.first i (take MOST_RESENT out.pending)
@@ -184,7 +203,8 @@ again_get me to i out ne l =
 
 -- none to oneself, none to no process, and none past the most
 pub again_own : (me to i : ℕ) (out : Unacknowledged) → to ≡ me → slice_get (again_at me to out) i ≡ None
-again_own me to i out e = ap (λ b. slice_get (cond b [] (numbered_from out.first (take MOST_RESENT out.pending))) i) (eq-eqb to me e)
+again_own me to i out e =
+    ap (λ b. slice_get (cond b [] (numbered_from out.first (take MOST_RESENT out.pending))) i) (eq-eqb to me e)
 
 pub again_past : (me to i : ℕ) (out : Unacknowledged) → MOST_RESENT ≤ i → slice_get (again_at me to out) i ≡ None
 again_past me to i out l = go (to == me)
@@ -193,7 +213,8 @@ again_past me to i out l = go (to == me)
     go true = refl
     go false = numbered_get out.first i (take MOST_RESENT out.pending) ∙ ap (option_map (λ b. Numbered (out.first + i) b)) (take_none MOST_RESENT i out.pending l)
 
-pub again_nowhere : (me to i : ℕ) (outs : List Unacknowledged) → length outs ≤ to → slice_get (again_at me to (slice_index_or outs to nothing)) i ≡ None
+pub again_nowhere : (me to i : ℕ) (outs : List Unacknowledged) → length outs ≤ to
+    → slice_get (again_at me to (slice_index_or outs to nothing)) i ≡ None
 again_nowhere me to i outs l = ap (λ out. slice_get (again_at me to out) i) (beyond outs to l) ∙ go (to == me)
   where
     beyond : (outs : List Unacknowledged) (k : ℕ) → length outs ≤ k → slice_index_or outs k nothing ≡ nothing

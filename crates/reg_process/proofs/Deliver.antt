@@ -1,8 +1,10 @@
 -- Delivery one cast after another gives what delivery at once gives.
-use Rattle.std.proofs.Common.{◌≡◌, ℕ, ◌+◌, ◌<◌, Bool, true, false, not, List, [], ◌∷◌, length, Option, Some, None, refl, sym, ap, ◌∙◌, subst, inl, inr, arith}
+use Rattle.std.proofs.Common.{◌≡◌, ℕ, ◌+◌, ◌<◌, Bool, true, false, not, List, [], ◌∷◌, length, Option, Some, None, refl}
+use Rattle.std.proofs.Common.{sym, ap, ◌∙◌, subst, inl, inr, arith}
 use Rattle.std.specs.Prelude.{cond, ◌&&◌, ◌||◌, ◌==◌, count_by}
 use Rattle.std.specs.List.{filter, list_any}
-use Rattle.std.proofs.lemmas.Bool.{cond-true, cond-false, false≢true, false_from_ne_true, or_cases, or_left, or_right, and_parts, and_from, eqb-true, eq-eqb, ne_eqb, cases_eq}
+use Rattle.std.proofs.lemmas.Bool.{cond-true, cond-false, false≢true, false_from_ne_true, or_cases, or_left, or_right}
+use Rattle.std.proofs.lemmas.Bool.{and_parts, and_from, eqb-true, eq-eqb, ne_eqb, cases_eq}
 use Rattle.std.proofs.lemmas.List.Sums.{sum_by-cons}
 use Rattle.reg_base.specs.declared.stamps.Stamp.{Stamp}
 use Rattle.reg_base.specs.declared.memory.Op.{Op}
@@ -10,7 +12,9 @@ use Rattle.reg_base.specs.declared.stamps.Delivered.{Delivered}
 use Rattle.reg_process.specs.declared.steps.Reply.{Reply}
 use Rattle.reg_base.specs.Order.{In, Rising, Below, AtMost, below, at_most}
 use Rattle.reg_base.specs.Memory.{answer_of, memory_after, after}
-use Rattle.reg_process.specs.Process.{State, Running, Own, Held, is_own, is_clear, clear_casts, delivered_state, reply_of, reply_after, still, unsettled, casts_before, up_to_own, ops_of, is_stamp}
+use Rattle.reg_process.specs.Process.{State, Running, Own, Held, is_own, is_clear, clear_casts, delivered_state}
+use Rattle.reg_process.specs.Process.{reply_of, reply_after, still, unsettled, casts_before, up_to_own, ops_of}
+use Rattle.reg_process.specs.Process.{is_stamp}
 use Rattle.reg_process.specs.Delivery.{reply_one, popped, Waits}
 use Rattle.reg_process.specs.Faults.{first_of}
 use Rattle.reg_base.proofs.Orders.{Decides-below, Decides-at_most, below_irrefl, below_asym, same_stamp}
@@ -32,11 +36,13 @@ any_finds f d (x ∷ xs) (inr q) e = or_right (f x) (list_any f xs) (any_finds f
 abbrev pub one_if : Bool → ℕ
 one_if b = cond b 1 0
 
-pub count_cons : (f : Delivered → Bool) (x : Delivered) (xs : List Delivered) → count_by f (x ∷ xs) ≡ cond (f x) 1 0 + count_by f xs
+pub count_cons : (f : Delivered → Bool) (x : Delivered) (xs : List Delivered)
+    → count_by f (x ∷ xs) ≡ cond (f x) 1 0 + count_by f xs
 count_cons f x xs = sum_by-cons (λ x. cond (f x) 1 0) x xs
 
 -- what is counted stands there, and what stands there is counted
-pub counted : (f : Delivered → Bool) (xs : List Delivered) → 0 < count_by f xs → (d : Delivered) × In d xs × (f d ≡ true)
+pub counted : (f : Delivered → Bool) (xs : List Delivered) → 0 < count_by f xs
+    → (d : Delivered) × In d xs × (f d ≡ true)
 counted f [] h = absurd (omega arith)
 counted f (x ∷ xs) h = go (f x) refl (counted f xs)
   where
@@ -47,7 +53,8 @@ counted f (x ∷ xs) h = go (f x) refl (counted f xs)
         let z : one_if (f x) ≡ 0 = ap one_if e in
         let r = k (omega (arith, a, z, h)) in (r.0, inr r.1, r.2)
 
-pub none_counted : (f : Delivered → Bool) (d : Delivered) (xs : List Delivered) → count_by f xs ≡ 0 → In d xs → f d ≡ false
+pub none_counted : (f : Delivered → Bool) (d : Delivered) (xs : List Delivered) → count_by f xs ≡ 0 → In d xs
+    → f d ≡ false
 none_counted f d [] e i = absurd i
 none_counted f d (x ∷ xs) e (inl q) = false_from_ne_true (f d) (λ t.
     let a = count_cons f x xs in
@@ -55,7 +62,8 @@ none_counted f d (x ∷ xs) e (inl q) = false_from_ne_true (f d) (λ t.
     absurd (omega (arith, a, z, e)))
 none_counted f d (x ∷ xs) e (inr i) = none_counted f d xs (let a = count_cons f x xs in omega (arith, a, e)) i
 
-filter_same : (p q : Delivered → Bool) (xs : List Delivered) → ((d : Delivered) → In d xs → p d ≡ q d) → filter p xs ≡ filter q xs
+filter_same : (p q : Delivered → Bool) (xs : List Delivered) → ((d : Delivered) → In d xs → p d ≡ q d)
+    → filter p xs ≡ filter q xs
 filter_same p q [] h = refl
 filter_same p q (x ∷ xs) h =
     ap (λ b. cond b (x ∷ filter p xs) (filter p xs)) (h x (inl refl)) ∙ ap (λ l. cond (q x) (x ∷ l) l) (filter_same p q xs (λ d i. h d (inr i)))
@@ -212,7 +220,10 @@ module _ (s : State) (c : Delivered) (rest : List Delivered) (e : s.held ≡ c �
   one_reply (Some (Held op)) w =
       ap (λ l. reply_of s l (Some (Held op))) one_clear ∙ held_here s c cs above op rest e w (λ d i. (in_filter d (λ d. is_clear s d.stamp) rest i).0)
 
-  pub one_due : Waits s s.running → reply_of s (clear_casts s) s.running ≡ first_of (reply_one s c rest s.running) (reply_of (popped s c rest) (clear_casts (popped s c rest)) (popped s c rest).running)
+  pub one_due : Waits s s.running
+      → reply_of s (clear_casts s) s.running
+      ≡ first_of (reply_one s c rest s.running)
+      (reply_of (popped s c rest) (clear_casts (popped s c rest)) (popped s c rest).running)
   one_due w = one_reply s.running w
 
   runs_on : (o q : Option Reply) (r : Option Running) (f : Option Running → Option Reply) → (f None ≡ None) → q ≡ first_of o (f (still o r)) → still q r ≡ still (f (still o r)) (still o r)

@@ -1,5 +1,6 @@
 -- One delivery, by the parts of a process.
-use Rattle.std.proofs.Common.{◌≡◌, ℕ, zero, suc, ◌+◌, ◌-◌, ◌<◌, Bool, true, false, List, [], ◌∷◌, length, Option, Some, None, refl, sym, ap, ◌∙◌, subst, inl, inr, arith}
+use Rattle.std.proofs.Common.{◌≡◌, ℕ, zero, suc, ◌+◌, ◌-◌, ◌<◌, Bool, true, false, List, [], ◌∷◌, length, Option, Some}
+use Rattle.std.proofs.Common.{None, refl, sym, ap, ◌∙◌, subst, inl, inr, arith}
 use Rattle.std.specs.List.{filter}
 use Rattle.std.specs.Prelude.{cond, ◌==◌, slice_index, slice_index_or, count_by}
 use Rattle.std.proofs.lemmas.Bool.{eq-eqb, false≢true}
@@ -7,7 +8,8 @@ use mir.Val.{bool_byte}
 use Rattle.reg_base.specs.declared.stamps.Stamp.{Stamp}
 use Rattle.reg_base.specs.declared.stamps.Delivered.{Delivered}
 use Rattle.reg_process.specs.declared.steps.Reply.{Reply}
-use Rattle.reg_process.specs.Process.{Running, Own, Held, State, no_peer, seen_at, is_clear, clear_casts, still, delivered_state, is_stamp, due}
+use Rattle.reg_process.specs.Process.{Running, Own, Held, State, no_peer, seen_at, is_clear, clear_casts, still}
+use Rattle.reg_process.specs.Process.{delivered_state, is_stamp, due}
 use Rattle.reg_base.specs.Memory.{Memory, after, register_of, answer_of}
 use Rattle.reg_base.proofs.Operations.{length-after}
 use Rattle.reg_base.specs.Order.{In, Rising}
@@ -22,14 +24,16 @@ use Rattle.reg_process.specs.Parts.{Parts, state_of, merged}
 use Rattle.reg_process.specs.Bounds.{Good, RunsWell, is_from}
 use Rattle.reg_process.specs.Steps.{DeliversOne, DeliversNone}
 
-pub merged_seen : (ts es : List ℕ) (os : List Unacknowledged) (r : ℕ) → length es ≡ length ts → length os ≡ length ts → (slice_index_or (merged ts es os) r no_peer).seen ≡ slice_index ts r
+pub merged_seen : (ts es : List ℕ) (os : List Unacknowledged) (r : ℕ) → length es ≡ length ts → length os ≡ length ts
+    → (slice_index_or (merged ts es os) r no_peer).seen ≡ slice_index ts r
 merged_seen [] es os r a b = refl
 merged_seen (t ∷ ts) [] os r a b = absurd (omega arith)
 merged_seen (t ∷ ts) (e ∷ es) [] r a b = absurd (omega arith)
 merged_seen (t ∷ ts) (e ∷ es) (o ∷ os) zero a b = refl
 merged_seen (t ∷ ts) (e ∷ es) (o ∷ os) (suc r) a b = merged_seen ts es os r (omega arith) (omega arith)
 
-pub length-merged : (ts es : List ℕ) (os : List Unacknowledged) → length es ≡ length ts → length os ≡ length ts → length (merged ts es os) ≡ length ts
+pub length-merged : (ts es : List ℕ) (os : List Unacknowledged) → length es ≡ length ts → length os ≡ length ts
+    → length (merged ts es os) ≡ length ts
 length-merged [] es os a b = refl
 length-merged (t ∷ ts) [] os a b = absurd (omega arith)
 length-merged (t ∷ ts) (e ∷ es) [] a b = absurd (omega arith)
@@ -37,7 +41,9 @@ length-merged (t ∷ ts) (e ∷ es) (o ∷ os) a b = ap suc (length-merged ts es
 
 module _ (p : Parts) (good : Good p) where
   -- the queue's test is the definition's
-  pub clear_is : (stamp : Stamp) → order.is_clear p.waiting.me (slice_index p.waiting.seen) (length p.waiting.seen) stamp ≡ is_clear (state_of p) stamp
+  pub clear_is : (stamp : Stamp)
+      → order.is_clear p.waiting.me (slice_index p.waiting.seen) (length p.waiting.seen) stamp
+      ≡ is_clear (state_of p) stamp
   clear_is stamp =
       let seen : slice_index p.waiting.seen ≡ seen_at (state_of p) = λ i r. sym (merged_seen p.waiting.seen p.expected p.outs r good.ins good.out) i in
       ap (λ me. order.is_clear me (slice_index p.waiting.seen) (length p.waiting.seen) stamp) good.same
@@ -52,7 +58,9 @@ module _ (p : Parts) (good : Good p) where
       go (Some (Own stamp op)) h = tt
       go (Some (Held op)) h = let e = good.unsettled in let z = h.1 in omega (arith, e, z)
 
-pub ready_parts : (w : Waiting) (c : Delivered) → Some c ≡ ready_of w → (rest : List Delivered) × (w.held ≡ c ∷ rest) × (order.is_clear w.me (slice_index w.seen) (length w.seen) c.stamp ≡ true)
+pub ready_parts : (w : Waiting) (c : Delivered) → Some c ≡ ready_of w
+    → (rest : List Delivered) × (w.held ≡ c ∷ rest)
+    × (order.is_clear w.me (slice_index w.seen) (length w.seen) c.stamp ≡ true)
 ready_parts w c h = go w.held h
   where
     go : (held : List Delivered) → Some c ≡ ready_in w.me w.seen held → (rest : List Delivered) × (held ≡ c ∷ rest) × (order.is_clear w.me (slice_index w.seen) (length w.seen) c.stamp ≡ true)
@@ -110,7 +118,10 @@ module _ (p : Parts) (good : Good p) (c : Delivered) (rest : List Delivered) (le
   next_is : popped (state_of p) c rest ≡ state_of (delivered_parts p c rest left)
   next_is = ap (λ (o : Option Reply). record (popped (state_of p) c rest) { running = still o p.running }) (sym (reply_is p.running))
 
-  pub delivers_one : Rising p.waiting.held → order.is_clear p.waiting.me (slice_index p.waiting.seen) (length p.waiting.seen) c.stamp ≡ true → DeliversOne (state_of p) c (reply_by p.copy p.delivered left c p.running) (state_of (delivered_parts p c rest left))
+  pub delivers_one : Rising p.waiting.held
+      → order.is_clear p.waiting.me (slice_index p.waiting.seen) (length p.waiting.seen) c.stamp ≡ true
+      → DeliversOne (state_of p) c (reply_by p.copy p.delivered left c p.running)
+      (state_of (delivered_parts p c rest left))
   delivers_one r k =
       let clear : is_clear (state_of p) c.stamp ≡ true = sym (clear_is p good c.stamp) ∙ k in
       let w = waits p good in
@@ -144,7 +155,8 @@ byte_is false = refl
 
 -- the parts that the code made
 abbrev pub made : Parts → Waiting → Memory → ℕ → Option Running → Parts
-made p w m left running = record p { waiting = w; copy = m; delivered = p.delivered + 1; unsettled = left; running = running }
+made p w m left running =
+    record p { waiting = w; copy = m; delivered = p.delivered + 1; unsettled = left; running = running }
 
 module _ (p : Parts) (good : Good p) (c : Delivered) (w : Waiting) (m : Memory) (n : ℕ) (reply : Option Reply) (running : Option Running)
     (ready : Some c ≡ ready_of p.waiting) (first : w ≡ without_first p.waiting) (byte : n ≡ bool_byte (is_from p.me c)) (copied : m ≡ after c.op p.copy)
@@ -169,11 +181,13 @@ module _ (p : Parts) (good : Good p) (c : Delivered) (w : Waiting) (m : Memory) 
   pub made_good : Good (made p w m (p.unsettled - n) running)
   made_good = subst Good made_is (good_next p good c rest (p.unsettled - n) held_is less)
 
-  pub made_one : Rising p.waiting.held → DeliversOne (state_of p) c reply (state_of (made p w m (p.unsettled - n) running))
+  pub made_one : Rising p.waiting.held
+      → DeliversOne (state_of p) c reply (state_of (made p w m (p.unsettled - n) running))
   made_one r =
       let d = delivers_one p good c rest (p.unsettled - n) held_is less r (ready_parts p.waiting c ready).2 in
       subst (λ (x : Option Reply). DeliversOne (state_of p) c x (state_of (made p w m (p.unsettled - n) running))) (sym replied)
       (subst (λ (x : Parts). DeliversOne (state_of p) c (reply_by p.copy p.delivered (p.unsettled - n) c p.running) (state_of x)) made_is d)
 
 pub ready_well : (p : Parts) → Good p → (c : Delivered) → Some c ≡ ready_of p.waiting → register_of c.op < length p.copy
-ready_well p good c h = let r = ready_parts p.waiting c h in (good.held c (subst (λ (l : List Delivered). In c l) (sym r.1) (inl refl))).1
+ready_well p good c h =
+    let r = ready_parts p.waiting c h in (good.held c (subst (λ (l : List Delivered). In c l) (sym r.1) (inl refl))).1

@@ -12,7 +12,8 @@ use Rattle.reg_process.proofs.Sending.{merged_next}
 use Rattle.reg_process.specs.Process as process
 
 -- the four numbers, where the last two are those of the link
-pub known_is : (p : Parts) (good : Good p) (r : ℕ) (link : Unacknowledged) (seen expected next pending : ℕ) → slice_index_or p.outs r nothing ≡ link
+pub known_is : (p : Parts) (good : Good p) (r : ℕ) (link : Unacknowledged) (seen expected next pending : ℕ)
+    → slice_index_or p.outs r nothing ≡ link
     → seen ≡ (peer_at (state_of p) r).seen → expected ≡ (peer_at (state_of p) r).expected → next ≡ next_of link → pending ≡ length link.pending
     → let known : Known = record { seen = seen; expected = expected; first = next - pending; next = next } in known ≡ known_of (peer_at (state_of p) r)
 known_is p good r link seen expected next pending is s e n l =

@@ -1,5 +1,6 @@
 -- A body on all outboxes.
-use Rattle.std.proofs.Common.{◌≡◌, ℕ, zero, suc, ◌+◌, ◌<◌, ◌≤◌, Bool, true, false, List, [], ◌∷◌, ◌++◌, length, map, inl, inr, refl, ap, ◌∙◌, arith, length-append}
+use Rattle.std.proofs.Common.{◌≡◌, ℕ, zero, suc, ◌+◌, ◌<◌, ◌≤◌, Bool, true, false, List, [], ◌∷◌, ◌++◌, length, map}
+use Rattle.std.proofs.Common.{inl, inr, refl, ap, ◌∙◌, arith, length-append}
 use Rattle.std.proofs.lemmas.List.{length-map}
 use Rattle.std.proofs.lemmas.Bool.{cases_lt}
 use Rattle.std.specs.Prelude.{cond, ◌==◌, slice_index_or}
@@ -22,7 +23,10 @@ queued_grown r me body [] i = omega arith
 queued_grown r me body (o ∷ os) zero = grown_at me body r o
 queued_grown r me body (o ∷ os) (suc i) = queued_grown (suc r) me body os i
 
-pub all_queued : (r me : ℕ) (body : Body) (outs init : List Unacknowledged) → length outs ≡ length init → ((i : ℕ) → i < length init → slice_index_or outs i nothing ≡ queued_at me body (r + i) (slice_index_or init i nothing)) → outs ≡ queue_outs r me body init
+pub all_queued : (r me : ℕ) (body : Body) (outs init : List Unacknowledged) → length outs ≡ length init
+    → ((i : ℕ) → i < length init
+    → slice_index_or outs i nothing ≡ queued_at me body (r + i) (slice_index_or init i nothing))
+    → outs ≡ queue_outs r me body init
 all_queued r me body [] [] e h = refl
 all_queued r me body [] (x ∷ xs) e h = absurd (omega arith)
 all_queued r me body (o ∷ os) [] e h = absurd (omega arith)
@@ -41,7 +45,8 @@ puts_below f g (suc n) h =
     ∙ ap (λ x. puts g n ++ map (put_to n) x) (h n (omega arith))
 
 -- the frames for one process more are put after all of those before
-pub puts_grow : (frames : ℕ → List Frame) (r n : ℕ) → r < n → length (puts frames r) + length (frames r) ≤ length (puts frames n)
+pub puts_grow : (frames : ℕ → List Frame) (r n : ℕ) → r < n
+    → length (puts frames r) + length (frames r) ≤ length (puts frames n)
 puts_grow frames r zero l = absurd (omega arith)
 puts_grow frames r (suc n) l =
     let all = length-append (puts frames n) (map (put_to n) (frames n)) in

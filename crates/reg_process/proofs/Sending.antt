@@ -1,5 +1,7 @@
 -- What is queued and accepted, by the parts of a process.
-use Rattle.std.proofs.Common.{◌≡◌, ℕ, zero, suc, ◌+◌, ◌<◌, ◌≤◌, Bool, true, false, List, [], ◌∷◌, ◌++◌, length, max, Option, Some, None, refl, sym, ap, ◌∙◌, subst, inl, inr, arith, length-set, get_or-set_same, get_or-set_other}
+use Rattle.std.proofs.Common.{◌≡◌, ℕ, zero, suc, ◌+◌, ◌<◌, ◌≤◌, Bool, true, false, List, [], ◌∷◌, ◌++◌, length, max}
+use Rattle.std.proofs.Common.{Option, Some, None, refl, sym, ap, ◌∙◌, subst, inl, inr, arith, length-set}
+use Rattle.std.proofs.Common.{get_or-set_same, get_or-set_other}
 use Rattle.std.specs.Prelude.{cond, ◌==◌, slice_index, slice_index_or, slice_set, count_by}
 use Rattle.std.proofs.lemmas.Bool.{cases_eq, eq-eqb, ne_eqb}
 use Rattle.reg_base.specs.declared.stamps.Stamp.{Stamp}
@@ -9,7 +11,8 @@ use Rattle.reg_frames.specs.declared.bodies.Body.TheVariants.{Cast, Ack}
 use Rattle.reg_frames.specs.declared.bodies.Frame.{Frame}
 use Rattle.reg_frames.specs.declared.bodies.Frame.TheVariants.{Numbered, Got}
 use Rattle.reg_base.specs.declared.stamps.Delivered.{Delivered}
-use Rattle.reg_process.specs.Process.{Running, State, Peer, no_peer, peer_at, queue_from, data_frames, both_frames, got_frames, stamp_at}
+use Rattle.reg_process.specs.Process.{Running, State, Peer, no_peer, peer_at, queue_from, data_frames, both_frames}
+use Rattle.reg_process.specs.Process.{got_frames, stamp_at}
 use Rattle.reg_base.specs.declared.limits.TheConstants.{LAST_TIME, MOST_OPERATIONS}
 use Rattle.reg_base.specs.Memory.{register_of}
 use Rattle.reg_base.specs.Order.{In, insert, below}
@@ -33,7 +36,8 @@ one b = cond b 1 0
 pub puts_same : (f g : ℕ → List Frame) (n : ℕ) → ((r : ℕ) → f r ≡ g r) → puts f n ≡ puts g n
 puts_same f g n h = let e : f ≡ g = λ i r. h r i in ap (λ (t : ℕ → List Frame). puts t n) e
 
-pub merged_queue : (r me : ℕ) (body : Body) (ts es : List ℕ) (os : List Unacknowledged) → merged ts es (queue_outs r me body os) ≡ queue_from r me body (merged ts es os)
+pub merged_queue : (r me : ℕ) (body : Body) (ts es : List ℕ) (os : List Unacknowledged)
+    → merged ts es (queue_outs r me body os) ≡ queue_from r me body (merged ts es os)
 merged_queue r me body [] es os = refl
 merged_queue r me body (t ∷ ts) [] os = refl
 merged_queue r me body (t ∷ ts) (e ∷ es) [] = refl
@@ -45,7 +49,8 @@ merged_queue r me body (t ∷ ts) (e ∷ es) (o ∷ os) = go (r == me) (merged_q
     go true h = ap (λ (l : List Peer). record { seen = t; expected = e; first = o.first; pending = o.pending } ∷ l) h
     go false h = ap (λ (l : List Peer). record { seen = t; expected = e; first = o.first; pending = o.pending ++ body ∷ [] } ∷ l) h
 
-pub merged_next : (ts es : List ℕ) (os : List Unacknowledged) (r : ℕ) → length es ≡ length ts → length os ≡ length ts → process.next_of (slice_index_or (merged ts es os) r no_peer) ≡ next_of (slice_index_or os r nothing)
+pub merged_next : (ts es : List ℕ) (os : List Unacknowledged) (r : ℕ) → length es ≡ length ts → length os ≡ length ts
+    → process.next_of (slice_index_or (merged ts es os) r no_peer) ≡ next_of (slice_index_or os r nothing)
 merged_next [] [] [] r a b = refl
 merged_next [] (e ∷ es) os r a b = absurd (omega arith)
 merged_next [] [] (o ∷ os) r a b = absurd (omega arith)
@@ -54,7 +59,8 @@ merged_next (t ∷ ts) (e ∷ es) [] r a b = absurd (omega arith)
 merged_next (t ∷ ts) (e ∷ es) (o ∷ os) zero a b = refl
 merged_next (t ∷ ts) (e ∷ es) (o ∷ os) (suc r) a b = merged_next ts es os r (omega arith) (omega arith)
 
-pub merged_expected : (ts es : List ℕ) (os : List Unacknowledged) (r : ℕ) → length es ≡ length ts → length os ≡ length ts → (slice_index_or (merged ts es os) r no_peer).expected ≡ slice_index es r
+pub merged_expected : (ts es : List ℕ) (os : List Unacknowledged) (r : ℕ) → length es ≡ length ts
+    → length os ≡ length ts → (slice_index_or (merged ts es os) r no_peer).expected ≡ slice_index es r
 merged_expected [] [] os r a b = refl
 merged_expected [] (e ∷ es) os r a b = absurd (omega arith)
 merged_expected (t ∷ ts) [] os r a b = absurd (omega arith)
@@ -62,7 +68,8 @@ merged_expected (t ∷ ts) (e ∷ es) [] r a b = absurd (omega arith)
 merged_expected (t ∷ ts) (e ∷ es) (o ∷ os) zero a b = refl
 merged_expected (t ∷ ts) (e ∷ es) (o ∷ os) (suc r) a b = merged_expected ts es os r (omega arith) (omega arith)
 
-pub merged_set : (ts es : List ℕ) (os : List Unacknowledged) (i t e : ℕ) → length es ≡ length ts → length os ≡ length ts → i < length ts →
+pub merged_set : (ts es : List ℕ) (os : List Unacknowledged) (i t e : ℕ) → length es ≡ length ts → length os ≡ length ts
+    → i < length ts →
     merged (slice_set ts i t) (slice_set es i e) os ≡ slice_set (merged ts es os) i (record (slice_index_or (merged ts es os) i no_peer) { seen = t; expected = e })
 merged_set [] es os i t e a b l = absurd (omega arith)
 merged_set (x ∷ ts) [] os i t e a b l = absurd (omega arith)
@@ -70,7 +77,8 @@ merged_set (x ∷ ts) (y ∷ es) [] i t e a b l = absurd (omega arith)
 merged_set (x ∷ ts) (y ∷ es) (o ∷ os) zero t e a b l = refl
 merged_set (x ∷ ts) (y ∷ es) (o ∷ os) (suc i) t e a b l = ap (λ (l : List Peer). record { seen = x; expected = y; first = o.first; pending = o.pending } ∷ l) (merged_set ts es os i t e (omega arith) (omega arith) (omega arith))
 
-pub count_insert : (f : Delivered → Bool) (c : Delivered) (xs : List Delivered) → count_by f (insert c xs) ≡ count_by f (c ∷ xs)
+pub count_insert : (f : Delivered → Bool) (c : Delivered) (xs : List Delivered)
+    → count_by f (insert c xs) ≡ count_by f (c ∷ xs)
 count_insert f c [] = refl
 count_insert f c (x ∷ xs) = go (below c.stamp x.stamp) (count_insert f c xs)
   where
@@ -88,7 +96,8 @@ length-insert c (x ∷ xs) = go (below c.stamp x.stamp) (length-insert c xs)
 
 module _ (p : Parts) (good : Good p) where
   -- a body on some outboxes, and the clock moved on
-  pub grown_good : (clock : ℕ) (outs : List Unacknowledged) → p.clock < clock → clock ≤ LAST_TIME → IsGrown p.outs outs → length outs ≡ length p.outs → Good (record p { clock = clock; outs = outs })
+  pub grown_good : (clock : ℕ) (outs : List Unacknowledged) → p.clock < clock → clock ≤ LAST_TIME → IsGrown p.outs outs
+      → length outs ≡ length p.outs → Good (record p { clock = clock; outs = outs })
   grown_good clock outs up top grown len = record {
     same = good.same;
     me = good.me;
@@ -106,13 +115,16 @@ module _ (p : Parts) (good : Good p) where
     counts = λ i. let b = good.counts i in omega (arith, b, up);
   }
 
-  pub own_frames : (body : Body) → puts (all_frames None p.me body p.outs) (length p.outs) ≡ puts (data_frames (state_of p) (Some body)) (length (state_of p).peers)
+  pub own_frames : (body : Body)
+      → puts (all_frames None p.me body p.outs) (length p.outs)
+      ≡ puts (data_frames (state_of p) (Some body)) (length (state_of p).peers)
   own_frames body =
       puts_same (all_frames None p.me body p.outs) (data_frames (state_of p) (Some body)) (length p.outs) (λ r.
       ap (λ n. cond (r == p.me) [] (Numbered n body ∷ [])) (sym (merged_next p.waiting.seen p.expected p.outs r good.ins good.out)))
       ∙ ap (puts (data_frames (state_of p) (Some body))) (good.out ∙ sym (length-merged p.waiting.seen p.expected p.outs good.ins good.out))
 
-  pub none_later : (s : Stamp) → s.process ≡ p.me → p.clock < s.time → (c : Delivered) → In c p.waiting.held → c.stamp.process ≡ s.process → c.stamp.time < s.time
+  pub none_later : (s : Stamp) → s.process ≡ p.me → p.clock < s.time → (c : Delivered) → In c p.waiting.held
+      → c.stamp.process ≡ s.process → c.stamp.time < s.time
   none_later s e up c i q = let z = (good.held c i).0 in omega (arith, z, up)
 
   module _ (op : Op) (runs : Bool) (room : p.clock < LAST_TIME) (few : p.calls < MOST_OPERATIONS) (register : register_of op < length p.copy) where
@@ -204,7 +216,8 @@ module _ (p : Parts) (good : Good p) (op : Op) (runs : Bool) (room : p.clock < L
   pub made_cast_good : Good (made_cast p clock w outs running)
   made_cast_good = subst Good made_cast_is (cast_good p good op runs room few register (subst (IsGrown p.outs) outs_is grown) (sym (ap length outs_is) ∙ len))
 
-  pub made_cast_makes : MakesCast (state_of p) op runs (stamp_at t p.me) frames (state_of (made_cast p clock w outs running))
+  pub made_cast_makes : MakesCast (state_of p) op runs (stamp_at t p.me) frames
+      (state_of (made_cast p clock w outs running))
   made_cast_makes =
       let m = cast_made_is p good op runs room few register in
       subst (λ (x : Parts). MakesCast (state_of p) op runs (stamp_at t p.me) frames (state_of x)) made_cast_is
@@ -227,7 +240,8 @@ module _ (p : Parts) (good : Good p) (from t : ℕ) (op : Op) (peer : from < len
   abbrev pub later : ℕ
   later = max p.clock t + 1
 
-  pub more_counts : (k : ℕ) → p.clock + 1 ≤ k → (i : ℕ) → slice_index_or (slice_set p.expected from (slice_index p.expected from + 1)) i 0 ≤ k
+  pub more_counts : (k : ℕ) → p.clock + 1 ≤ k → (i : ℕ)
+      → slice_index_or (slice_set p.expected from (slice_index p.expected from + 1)) i 0 ≤ k
   more_counts k up i = elim (cases_eq i from) [
     | inl q ↦
         let l : from < length p.expected = let z = good.ins in omega (arith, z, peer) in
@@ -238,7 +252,10 @@ module _ (p : Parts) (good : Good p) (from t : ℕ) (op : Op) (peer : from < len
         let b = good.counts i in omega (arith, a, b, up)
   ]
 
-  pub accept_good : (now : ℕ) → now ≡ max p.clock t + 1 → now ≤ LAST_TIME → (from ≡ p.me → ⊥) → IsGrown p.outs (queue_outs 0 p.me (Ack now) p.outs) → length (queue_outs 0 p.me (Ack now) p.outs) ≡ length p.outs → Good (accept_at now (slice_index p.expected from + 1))
+  pub accept_good : (now : ℕ) → now ≡ max p.clock t + 1 → now ≤ LAST_TIME → (from ≡ p.me → ⊥)
+      → IsGrown p.outs (queue_outs 0 p.me (Ack now) p.outs)
+      → length (queue_outs 0 p.me (Ack now) p.outs) ≡ length p.outs
+      → Good (accept_at now (slice_index p.expected from + 1))
   accept_good now is top other grown len = record {
     same = good.same;
     me = let z = length-set p.waiting.seen from t in let y = good.me in omega (arith, z, y);
@@ -271,7 +288,11 @@ module _ (p : Parts) (good : Good p) (from t : ℕ) (op : Op) (peer : from < len
   pub expected_is : slice_index p.expected from + 1 ≡ (peer_at (state_of p) from).expected + 1
   expected_is = ap (λ n. n + 1) (sym (merged_expected p.waiting.seen p.expected p.outs from good.ins good.out))
 
-  pub accept_takes : max p.clock t < LAST_TIME → TakesCast (state_of p) from t op (puts (all_frames (Some (from, slice_index p.expected from + 1)) p.me (Ack (max p.clock t + 1)) p.outs) (length p.outs)) (state_of (accept_at (max p.clock t + 1) (slice_index p.expected from + 1)))
+  pub accept_takes : max p.clock t < LAST_TIME
+      → TakesCast (state_of p) from t op
+      (puts (all_frames (Some (from, slice_index p.expected from + 1)) p.me (Ack (max p.clock t + 1)) p.outs)
+      (length p.outs))
+      (state_of (accept_at (max p.clock t + 1) (slice_index p.expected from + 1)))
   accept_takes room = record {
     room = room;
     state =

@@ -1,5 +1,6 @@
 -- Nothing clear is held between events.
-use Rattle.std.proofs.Common.{◌≡◌, ℕ, zero, suc, ◌<◌, Bool, true, false, not, List, [], ◌∷◌, length, refl, sym, ap, subst}
+use Rattle.std.proofs.Common.{◌≡◌, ℕ, zero, suc, ◌<◌, Bool, true, false, not, List, [], ◌∷◌, length, refl, sym, ap}
+use Rattle.std.proofs.Common.{subst}
 use Rattle.std.specs.Prelude.{cond, slice_index_or, slice_set, ◌==◌}
 use Rattle.reg_base.specs.declared.memory.Op.{Op}
 use Rattle.reg_frames.specs.declared.bodies.Body.{Body}
@@ -7,13 +8,16 @@ use Rattle.reg_frames.specs.declared.bodies.Body.TheVariants.{Cast, Ack}
 use Rattle.reg_frames.specs.declared.bodies.Frame.{Frame}
 use Rattle.reg_frames.specs.declared.bodies.Frame.TheVariants.{Numbered, Got}
 use Rattle.reg_front.specs.declared.starts.Start.{Start}
-use Rattle.reg_front.specs.declared.starts.Start.TheVariants.{Cast as Casts, CastAndAnswer as CastsAndAnswers, Look as Looks, Hold as Holds}
+use Rattle.reg_front.specs.declared.starts.Start.TheVariants.{Cast as Casts, CastAndAnswer as CastsAndAnswers}
+use Rattle.reg_front.specs.declared.starts.Start.TheVariants.{Look as Looks, Hold as Holds}
 use Rattle.reg_process.specs.declared.steps.Step.{Step}
 use Rattle.reg_process.specs.declared.steps.Step.TheVariants.{Call, Take, Tick}
 use Rattle.reg_base.proofs.Lists.{in_filter}
 use Rattle.std.proofs.Common.{◌+◌, Some, None}
 use Rattle.reg_process.specs.Steps.{with_cast}
-use Rattle.reg_process.specs.Process.{cast_made, accepts, Own, stamp_at, State, Peer, no_peer, is_clear, delivered_state, called, taken, accepted, acknowledged, step, peer_at, quiet, got_frames}
+use Rattle.reg_process.specs.Process.{cast_made, accepts, Own, stamp_at, State, Peer, no_peer, is_clear}
+use Rattle.reg_process.specs.Process.{delivered_state, called, taken, accepted, acknowledged, step, peer_at, quiet}
+use Rattle.reg_process.specs.Process.{got_frames}
 use Rattle.reg_process.specs.Settled.{NoneWaits}
 use Rattle.reg_process.proofs.Peers.{Decides-clear}
 
@@ -24,7 +28,8 @@ not_both false h k = let bad : ⊥ = cc in bad
 pub after_delivery : (s : State) → NoneWaits (delivered_state s)
 after_delivery s = λ c h k. not_both (is_clear s c.stamp) (in_filter c (λ c. not (is_clear s c.stamp)) s.held h).1 ((Decides-clear s c.stamp).1 k)
 
-set_seen : (ps : List Peer) (i r : ℕ) (p : Peer) → p.seen ≡ (slice_index_or ps i no_peer).seen → (slice_index_or (slice_set ps i p) r no_peer).seen ≡ (slice_index_or ps r no_peer).seen
+set_seen : (ps : List Peer) (i r : ℕ) (p : Peer) → p.seen ≡ (slice_index_or ps i no_peer).seen
+    → (slice_index_or (slice_set ps i p) r no_peer).seen ≡ (slice_index_or ps r no_peer).seen
 set_seen [] i r p e = refl
 set_seen (x ∷ xs) zero zero p e = e
 set_seen (x ∷ xs) zero (suc r) p e = refl

@@ -1,5 +1,6 @@
 -- What holds of the parts of a process between events. They carry a proof: no promise speaks of them.
-use Rattle.std.specs.Prelude.{ℕ, ◌≡◌, ◌<◌, ◌≤◌, ◌+◌, Bool, ◌==◌, List, length, Option, Some, None, slice_index_or, count_by}
+use Rattle.std.specs.Prelude.{ℕ, ◌≡◌, ◌<◌, ◌≤◌, ◌+◌, Bool, ◌==◌, List, length, Option, Some, None, slice_index_or}
+use Rattle.std.specs.Prelude.{count_by}
 use Rattle.reg_base.specs.declared.stamps.Delivered.{Delivered}
 use Rattle.reg_base.specs.declared.limits.TheConstants.{LAST_TIME, MOST_OPERATIONS, MOST_PROCESSES}
 use Rattle.reg_base.specs.Memory.{register_of}

@@ -10,8 +10,10 @@ use Rattle.reg_process.specs.Parts.{Parts}
 -- the reply that is due when the cast c is delivered on the memory m, where `left` own casts stay held
 abbrev pub reply_by : Memory → ℕ → ℕ → Delivered → Option Running → Option Reply
 reply_by m place left c None = None
-reply_by m place left c (Some (Own stamp op)) = cond (is_stamp stamp c) (Some (record { answer = answer_of op m; place = place })) None
-reply_by m place left c (Some (Held op)) = cond (left == 0) (Some (record { answer = answer_of op (after c.op m); place = place + 1 })) None
+reply_by m place left c (Some (Own stamp op)) =
+    cond (is_stamp stamp c) (Some (record { answer = answer_of op m; place = place })) None
+reply_by m place left c (Some (Held op)) =
+    cond (left == 0) (Some (record { answer = answer_of op (after c.op m); place = place + 1 })) None
 
 -- the reply that is due when the cast c is delivered, where the rest stays held
 abbrev pub reply_one : State → Delivered → List Delivered → Option Running → Option Reply

@@ -35,21 +35,24 @@ abbrev pub process_fault : (Op → ℕ → Start) → Kept → Step → Option P
 process_fault start k e = cond k.failed (Some Failed) (step_fault start k.state e)
 
 -- what goes out is what the definition says
-pub record IsOutcome (n : ℕ) (o : Outcome) (frames : List Put) (cast : Option Stamp) (delivered : List Delivered) (reply : Option Reply) : Type 0 where
+pub record IsOutcome (n : ℕ) (o : Outcome) (frames : List Put) (cast : Option Stamp) (delivered : List Delivered)
+    (reply : Option Reply) : Type 0 where
   pub put : frames ≡ puts o.frames n
   pub made : cast ≡ o.cast
   pub casts : delivered ≡ o.delivered
   pub answer : reply ≡ o.reply
 
 -- an accepted event
-pub record Steps (start : Op → ℕ → Start) (old : Kept) (e : Step) (frames : List Put) (cast : Option Stamp) (delivered : List Delivered) (reply : Option Reply) (new : Kept) : Type 0 where
+pub record Steps (start : Op → ℕ → Start) (old : Kept) (e : Step) (frames : List Put) (cast : Option Stamp)
+    (delivered : List Delivered) (reply : Option Reply) (new : Kept) : Type 0 where
   pub no_fault : process_fault start old e ≡ None
   pub state : IsGoing new (step start old.state e).0
   pub room : new.room ≡ (if uses_list start old.state e then 0 else old.room)
   pub outcome : IsOutcome (length old.state.peers) (step start old.state e).1 frames cast delivered reply
 
 -- an accepted event of which no frame is listed: the kept list stays
-pub record Briefs (start : Op → ℕ → Start) (old : Kept) (e : Step) (frames : List Put) (cast : Option Stamp) (delivered : List Delivered) (reply : Option Reply) (new : Kept) : Type 0 where
+pub record Briefs (start : Op → ℕ → Start) (old : Kept) (e : Step) (frames : List Put) (cast : Option Stamp)
+    (delivered : List Delivered) (reply : Option Reply) (new : Kept) : Type 0 where
   pub no_fault : process_fault start old e ≡ None
   pub state : IsGoing new (step start old.state e).0
   pub room : new.room ≡ old.room

@@ -1,20 +1,24 @@
 -- When an event is refused. Promises cite it.
-use Rattle.std.specs.Prelude.{ℕ, ◌≡◌, ◌≢◌, ◌<◌, ◌≤◌, [], Bool, true, false, ◌==◌, ◌||◌, nat_lt, nat_le, max, length, Option, Some, None, if◌then◌else◌}
+use Rattle.std.specs.Prelude.{ℕ, ◌≡◌, ◌≢◌, ◌<◌, ◌≤◌, [], Bool, true, false, ◌==◌, ◌||◌, nat_lt, nat_le, max, length}
+use Rattle.std.specs.Prelude.{Option, Some, None, if◌then◌else◌}
 use Rattle.reg_base.specs.declared.memory.Op.{Op}
 use Rattle.reg_frames.specs.declared.bodies.Body.{Body}
 use Rattle.reg_frames.specs.declared.bodies.Body.TheVariants.{Cast, Ack}
 use Rattle.reg_frames.specs.declared.bodies.Frame.{Frame}
 use Rattle.reg_frames.specs.declared.bodies.Frame.TheVariants.{Numbered, Got}
 use Rattle.reg_front.specs.declared.starts.Start.{Start}
-use Rattle.reg_front.specs.declared.starts.Start.TheVariants.{Cast as Casts, CastAndAnswer as CastsAndAnswers, Look as Looks, Hold as Holds}
+use Rattle.reg_front.specs.declared.starts.Start.TheVariants.{Cast as Casts, CastAndAnswer as CastsAndAnswers}
+use Rattle.reg_front.specs.declared.starts.Start.TheVariants.{Look as Looks, Hold as Holds}
 use Rattle.reg_process.specs.declared.steps.Step.{Step}
 use Rattle.reg_process.specs.declared.steps.Step.TheVariants.{Call, Take, Tick}
 use Rattle.reg_base.specs.declared.limits.TheConstants.{LAST_TIME, MOST_OPERATIONS}
 use Rattle.reg_base.specs.Memory.{register_of}
-use Rattle.reg_process.specs.Process.{State, Running, peer_at, next_of, seen_at, unsettled, time_of, clear_casts, accepts, resent}
+use Rattle.reg_process.specs.Process.{State, Running, peer_at, next_of, seen_at, unsettled, time_of, clear_casts}
+use Rattle.reg_process.specs.Process.{accepts, resent}
 use Rattle.reg_process.specs.Puts.{puts}
 use Rattle.reg_process.specs.declared.faults.ProcessFault.{ProcessFault}
-use Rattle.reg_process.specs.declared.faults.ProcessFault.TheVariants.{NoProcess, Busy, NoRegister, TooManyOperations, Ahead, Stale, ClockFull, OutOfMemory}
+use Rattle.reg_process.specs.declared.faults.ProcessFault.TheVariants.{NoProcess, Busy, NoRegister, TooManyOperations}
+use Rattle.reg_process.specs.declared.faults.ProcessFault.TheVariants.{Ahead, Stale, ClockFull, OutOfMemory}
 
 abbrev pub first_of : {X : Type 0} → Option X → Option X → Option X
 first_of (Some x) o = Some x
@@ -74,7 +78,8 @@ body_memory s room from (Ack t) = (room == 0) || nat_lt 0 (length (clear_casts (
 -- Whether a frame can be refused memory: an expected body as above, and a dropped one where there is no room for its
 -- answer, but never a count.
 abbrev pub takes_memory : State → ℕ → ℕ → Frame → Bool
-takes_memory s room from (Numbered number body) = if number == (peer_at s from).expected then body_memory s room from body else (room == 0)
+takes_memory s room from (Numbered number body) =
+    if number == (peer_at s from).expected then body_memory s room from body else (room == 0)
 takes_memory s room from (Got count) = false
 
 -- Whether a step can be refused memory: a call that is cast, a frame as above, and a tick that puts a frame.
@@ -84,7 +89,8 @@ StepTakesMemory start s room (Take from frame) = takes_memory s room from frame 
 StepTakesMemory start s room Tick = puts (resent s) (length s.peers) ≢ []
 
 abbrev pub take_fault : State → ℕ → Frame → Option ProcessFault
-take_fault s from frame = if nat_le (length s.peers) from || from == s.me then Some NoProcess else frame_fault s from frame
+take_fault s from frame =
+    if nat_le (length s.peers) from || from == s.me then Some NoProcess else frame_fault s from frame
 
 abbrev pub step_fault : (Op → ℕ → Start) → State → Step → Option ProcessFault
 step_fault start s (Call op) = call_fault start s op

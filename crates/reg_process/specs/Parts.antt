@@ -22,7 +22,8 @@ abbrev pub merged : List ℕ → List ℕ → List Unacknowledged → List Peer
 merged [] es os = []
 merged (t ∷ ts) [] os = []
 merged (t ∷ ts) (e ∷ es) [] = []
-merged (t ∷ ts) (e ∷ es) (o ∷ os) = record { seen = t; expected = e; first = o.first; pending = o.pending } ∷ merged ts es os
+merged (t ∷ ts) (e ∷ es) (o ∷ os) =
+    record { seen = t; expected = e; first = o.first; pending = o.pending } ∷ merged ts es os
 
 abbrev pub state_of : Parts → State
 state_of p = record {

@@ -1,5 +1,6 @@
 -- One process: what each event does. Promises cite it.
-use Rattle.std.specs.Prelude.{ℕ, suc, ◌+◌, ◌-◌, max, Bool, not, ◌&&◌, ◌==◌, cond, if◌then◌else◌, List, [], ◌∷◌, ◌++◌, length, map, take, drop, Option, Some, None, slice_set, slice_index_or, count_by}
+use Rattle.std.specs.Prelude.{ℕ, suc, ◌+◌, ◌-◌, max, Bool, not, ◌&&◌, ◌==◌, cond, if◌then◌else◌, List, [], ◌∷◌, ◌++◌}
+use Rattle.std.specs.Prelude.{length, map, take, drop, Option, Some, None, slice_set, slice_index_or, count_by}
 use Rattle.std.specs.List.{filter, list_any}
 use Rattle.reg_base.specs.declared.stamps.Stamp.{Stamp}
 use Rattle.reg_base.specs.declared.stamps.Delivered.{Delivered}
@@ -10,7 +11,8 @@ use Rattle.reg_frames.specs.declared.bodies.Body.TheVariants.{Cast, Ack}
 use Rattle.reg_frames.specs.declared.bodies.Frame.{Frame}
 use Rattle.reg_frames.specs.declared.bodies.Frame.TheVariants.{Numbered, Got}
 use Rattle.reg_front.specs.declared.starts.Start.{Start}
-use Rattle.reg_front.specs.declared.starts.Start.TheVariants.{Cast as Casts, CastAndAnswer as CastsAndAnswers, Look as Looks, Hold as Holds}
+use Rattle.reg_front.specs.declared.starts.Start.TheVariants.{Cast as Casts, CastAndAnswer as CastsAndAnswers}
+use Rattle.reg_front.specs.declared.starts.Start.TheVariants.{Look as Looks, Hold as Holds}
 use Rattle.reg_process.specs.declared.steps.Reply.{Reply}
 use Rattle.reg_process.specs.declared.steps.Step.{Step}
 use Rattle.reg_process.specs.declared.steps.Step.TheVariants.{Call, Take, Tick}
@@ -104,7 +106,8 @@ abbrev pub up_to_own : State → List Delivered → List Delivered
 up_to_own s cs = filter (λ c. list_any (λ d. is_own s d && at_most c.stamp d.stamp) cs) cs
 
 abbrev pub reply_after : State → List Delivered → Op → Reply
-reply_after s cs op = record { answer = answer_of op (memory_after (ops_of cs) s.copy); place = s.delivered + length cs }
+reply_after s cs op =
+    record { answer = answer_of op (memory_after (ops_of cs) s.copy); place = s.delivered + length cs }
 
 abbrev pub is_stamp : Stamp → Delivered → Bool
 is_stamp stamp c = (c.stamp.time == stamp.time) && (c.stamp.process == stamp.process)
@@ -112,8 +115,10 @@ is_stamp stamp c = (c.stamp.time == stamp.time) && (c.stamp.process == stamp.pro
 -- the reply to what runs, where these casts are delivered
 abbrev pub reply_of : State → List Delivered → Option Running → Option Reply
 reply_of s cs None = None
-reply_of s cs (Some (Own stamp op)) = if list_any (is_stamp stamp) cs then Some (reply_after s (casts_before stamp cs) op) else None
-reply_of s cs (Some (Held op)) = if count_by (is_own s) cs == unsettled s then Some (reply_after s (up_to_own s cs) op) else None
+reply_of s cs (Some (Own stamp op)) =
+    if list_any (is_stamp stamp) cs then Some (reply_after s (casts_before stamp cs) op) else None
+reply_of s cs (Some (Held op)) =
+    if count_by (is_own s) cs == unsettled s then Some (reply_after s (up_to_own s cs) op) else None
 
 abbrev pub due : State → Option Reply
 due s = reply_of s (clear_casts s) s.running
@@ -183,20 +188,39 @@ quiet s frames = (s, record { body = None; frames = frames; cast = None; deliver
 
 abbrev pub called : State → Op → Start → State × Outcome
 called s op Casts =
-    delivering (cast_made s op (Some (Own (stamp_at (s.clock + 1) s.me) op))) (Some (Cast (s.clock + 1) op)) (data_frames s (Some (Cast (s.clock + 1) op))) (Some (stamp_at (s.clock + 1) s.me)) None
+    delivering (cast_made s op (Some (Own (stamp_at (s.clock + 1) s.me) op))) (Some (Cast (s.clock + 1) op))
+    (data_frames s (Some (Cast (s.clock + 1) op))) (Some (stamp_at (s.clock + 1) s.me)) None
 called s op CastsAndAnswers =
-    delivering (cast_made s op None) (Some (Cast (s.clock + 1) op)) (data_frames s (Some (Cast (s.clock + 1) op))) (Some (stamp_at (s.clock + 1) s.me)) (Some (done_at_once s))
-called s op Looks =
-    (record s { calls = s.calls + 1; running = None }, record { body = None; frames = no_frames; cast = None; delivered = []; reply = Some (look s op) })
-called s op Holds =
-    (record s { calls = s.calls + 1; running = Some (Held op) }, record { body = None; frames = no_frames; cast = None; delivered = []; reply = None })
+    delivering (cast_made s op None) (Some (Cast (s.clock + 1) op)) (data_frames s (Some (Cast (s.clock + 1) op)))
+    (Some (stamp_at (s.clock + 1) s.me)) (Some (done_at_once s))
+called s op Looks = (
+  record s { calls = s.calls + 1; running = None },
+  record {
+    body = None;
+    frames = no_frames;
+    cast = None;
+    delivered = [];
+    reply = Some (look s op);
+  },
+)
+called s op Holds = (
+  record s { calls = s.calls + 1; running = Some (Held op) },
+  record {
+    body = None;
+    frames = no_frames;
+    cast = None;
+    delivered = [];
+    reply = None;
+  },
+)
 
 -- the peer's entry after a body of that time was accepted
 abbrev pub accepts : ℕ → ℕ → State → State
 accepts from time s =
     record s {
       clock = max s.clock time + 1;
-      peers = slice_set s.peers from (record (peer_at s from) { seen = time; expected = (peer_at s from).expected + 1 });
+      peers = slice_set s.peers from
+          (record (peer_at s from) { seen = time; expected = (peer_at s from).expected + 1 });
     }
 
 abbrev pub both_frames : (ℕ → List Frame) → (ℕ → List Frame) → ℕ → List Frame
@@ -205,7 +229,10 @@ both_frames f g r = f r ++ g r
 abbrev pub accepted : State → ℕ → Body → State × Outcome
 accepted s from (Cast t op) =
     delivering
-    (record (queues (max s.clock t + 1) (Ack (max s.clock t + 1)) (accepts from t s)) { held = insert (cast_at t from op) s.held })
+    (record (queues (max s.clock t + 1) (Ack (max s.clock t + 1)) (accepts from t s)) {
+      held = insert
+          (cast_at t from op) s.held;
+    })
     (Some (Ack (max s.clock t + 1)))
     (both_frames (got_frames from ((peer_at s from).expected + 1)) (data_frames s (Some (Ack (max s.clock t + 1)))))
     None None

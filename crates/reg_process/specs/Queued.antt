@@ -1,5 +1,6 @@
 -- The links to all processes, and the frames put on them. They carry a proof: no promise speaks of them.
-use Rattle.std.specs.Prelude.{ℕ, suc, ◌≡◌, ◌<◌, ◌≤◌, ◌+◌, ◌==◌, cond, List, [], ◌∷◌, ◌++◌, length, map, take, Option, Some, None, slice_index_or}
+use Rattle.std.specs.Prelude.{ℕ, suc, ◌≡◌, ◌<◌, ◌≤◌, ◌+◌, ◌==◌, cond, List, [], ◌∷◌, ◌++◌, length, map, take, Option}
+use Rattle.std.specs.Prelude.{Some, None, slice_index_or}
 use Rattle.std.specs.List.{range_with_len}
 use Rattle.reg_frames.specs.declared.bodies.Body.{Body}
 use Rattle.reg_frames.specs.declared.bodies.Frame.{Frame}

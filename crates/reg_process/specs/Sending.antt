@@ -32,7 +32,8 @@ puts_of (Count to count) = put_to to (Got count) ∷ []
 puts_of (Broadcast processes sent) = puts (sent_frames sent) processes
 
 -- the frames are listed, and the rest is the same
-pub record IsListed (frames : List Put) (cast : Option Stamp) (delivered : List Delivered) (reply : Option Reply) (frames' : List Put) (cast' : Option Stamp) (delivered' : List Delivered) (reply' : Option Reply) : Type 0 where
+pub record IsListed (frames : List Put) (cast : Option Stamp) (delivered : List Delivered) (reply : Option Reply)
+    (frames' : List Put) (cast' : Option Stamp) (delivered' : List Delivered) (reply' : Option Reply) : Type 0 where
   pub put : frames' ≡ frames
   pub made : cast' ≡ cast
   pub casts : delivered' ≡ delivered

@@ -1,5 +1,6 @@
 -- The parts of an event, and what they do to the state. They carry a proof: no promise speaks of them.
-use Rattle.std.specs.Prelude.{ℕ, ◌≡◌, ◌<◌, ◌+◌, length, Bool, true, false, ◌==◌, ◌||◌, not, nat_le, cond, max, List, [], ◌∷◌, Option, Some, None}
+use Rattle.std.specs.Prelude.{ℕ, ◌≡◌, ◌<◌, ◌+◌, length, Bool, true, false, ◌==◌, ◌||◌, not, nat_le, cond, max, List, []}
+use Rattle.std.specs.Prelude.{◌∷◌, Option, Some, None}
 use Rattle.reg_base.specs.declared.stamps.Delivered.{Delivered}
 use Rattle.reg_process.specs.declared.steps.Reply.{Reply}
 use Rattle.reg_base.specs.declared.stamps.Stamp.{Stamp}
@@ -10,7 +11,8 @@ use Rattle.reg_front.specs.declared.starts.Start.{Start}
 use Rattle.reg_front.specs.declared.starts.Start.TheVariants.{Cast as Casts, CastAndAnswer as CastsAndAnswers}
 use Rattle.reg_base.specs.declared.limits.TheConstants.{LAST_TIME}
 use Rattle.reg_base.specs.Order.{insert}
-use Rattle.reg_process.specs.Process.{State, Outcome, Running, Own, clear_casts, delivered_state, due, cast_made, stamp_at, cast_at, data_frames, queues, accepts, both_frames, got_frames, peer_at}
+use Rattle.reg_process.specs.Process.{State, Outcome, Running, Own, clear_casts, delivered_state, due, cast_made}
+use Rattle.reg_process.specs.Process.{stamp_at, cast_at, data_frames, queues, accepts, both_frames, got_frames, peer_at}
 use Rattle.reg_frames.specs.declared.puts.Put.{Put}
 use Rattle.reg_process.specs.declared.faults.ProcessFault.{ProcessFault}
 use Rattle.reg_process.specs.declared.faults.ProcessFault.TheVariants.{ClockFull, OutOfMemory}
@@ -19,7 +21,8 @@ use Rattle.reg_process.specs.Faults.{first_of}
 use Rattle.reg_process.specs.Events.{IsOutcome}
 
 -- the state and what goes out
-pub record Goes (n : ℕ) (r : State × Outcome) (frames : List Put) (cast : Option Stamp) (delivered : List Delivered) (reply : Option Reply) (new : State) : Type 0 where
+pub record Goes (n : ℕ) (r : State × Outcome) (frames : List Put) (cast : Option Stamp) (delivered : List Delivered)
+    (reply : Option Reply) (new : State) : Type 0 where
   pub state : new ≡ r.0
   pub outcome : IsOutcome n r.1 frames cast delivered reply
 
@@ -76,13 +79,20 @@ pub record MakesCast (s : State) (op : Op) (runs : Bool) (made : Stamp) (frames 
   pub put : frames ≡ puts (data_frames s (Some (Cast (s.clock + 1) op))) (length s.peers)
 
 abbrev pub with_cast : State → ℕ → ℕ → Op → State
-with_cast s from t op = record (queues (max s.clock t + 1) (Ack (max s.clock t + 1)) (accepts from t s)) { held = insert (cast_at t from op) s.held }
+with_cast s from t op =
+    record (queues (max s.clock t + 1) (Ack (max s.clock t + 1)) (accepts from t s)) {
+      held = insert (cast_at t from op)
+          s.held;
+    }
 
 -- a body was accepted with its cast
 pub record TakesCast (s : State) (from t : ℕ) (op : Op) (frames : List Put) (s' : State) : Type 0 where
   pub room : max s.clock t < LAST_TIME
   pub state : s' ≡ with_cast s from t op
-  pub put : frames ≡ puts (both_frames (got_frames from ((peer_at s from).expected + 1)) (data_frames s (Some (Ack (max s.clock t + 1))))) (length s.peers)
+  pub put : frames
+      ≡ puts
+      (both_frames (got_frames from ((peer_at s from).expected + 1)) (data_frames s (Some (Ack (max s.clock t + 1)))))
+      (length s.peers)
 
 -- a body without a cast was accepted
 pub record TakesAck (s : State) (from t : ℕ) (frames : List Put) (s' : State) : Type 0 where

@@ -1,5 +1,6 @@
 //! The parts of a process that has not failed.
-ghost use Rattle.std.specs.Prelude.{◌≡◌, ◌≢◌, ℕ, ◌<◌, ◌+◌, ◌≤◌, length, IfOk, OnErr, [], not, None, is_some, nat_lt, slice_get};
+ghost use Rattle.std.specs.Prelude.{◌≡◌, ◌≢◌, ℕ, ◌<◌, ◌+◌, ◌≤◌, length, IfOk, OnErr, [], not, None, is_some, nat_lt};
+ghost use Rattle.std.specs.Prelude.{slice_get};
 ghost use Rattle.reg_process.specs.Process.{pending_of, peer_at, next_of, unsettled, resent};
 ghost use Rattle.reg_process.specs.Parts.{state_of, first_parts};
 ghost use Rattle.reg_process.specs.Puts.{puts};
@@ -45,9 +46,33 @@ impl<A: Allocator + Copy> Model for Core<A> {
 
     ghost Value = { State };
 
-    ghost view = { λ c. state_of (record { me = c.me; clock = c.clock; waiting = c.waiting; expected = c.inboxes.items; outs = outs_of c.me c.outboxes; copy = c.copy; delivered = c.delivered; unsettled = c.unsettled; running = c.running; calls = c.calls }) };
+    ghost view = { λ c. state_of
+        (record {
+          me = c.me;
+          clock = c.clock;
+          waiting = c.waiting;
+          expected = c.inboxes.items;
+          outs = outs_of c.me c.outboxes;
+          copy = c.copy;
+          delivered = c.delivered;
+          unsettled = c.unsettled;
+          running = c.running;
+          calls = c.calls;
+        }) };
 
-    ghost invariant = { λ c. Good (record { me = c.me; clock = c.clock; waiting = c.waiting; expected = c.inboxes.items; outs = outs_of c.me c.outboxes; copy = c.copy; delivered = c.delivered; unsettled = c.unsettled; running = c.running; calls = c.calls }) };
+    ghost invariant = { λ c. Good
+        (record {
+          me = c.me;
+          clock = c.clock;
+          waiting = c.waiting;
+          expected = c.inboxes.items;
+          outs = outs_of c.me c.outboxes;
+          copy = c.copy;
+          delivered = c.delivered;
+          unsettled = c.unsettled;
+          running = c.running;
+          calls = c.calls;
+        }) };
 }
 
 impl<A: Allocator + Copy> Core<A> {

@@ -1,9 +1,12 @@
 //! One process, with its stop.
-ghost use Rattle.std.specs.Prelude.{◌≡◌, ◌≢◌, ℕ, [], length, ◌<◌, ◌≤◌, MatchOption, MatchResult, IfOk, IfErr, IfSome, slice_get, option_map, is_some, max, nat_lt, false, true, IsErrOf, vec_capacity, if◌then◌else◌};
+ghost use Rattle.std.specs.Prelude.{◌≡◌, ◌≢◌, ℕ, [], length, ◌<◌, ◌≤◌, MatchOption, MatchResult, IfOk, IfErr, IfSome};
+ghost use Rattle.std.specs.Prelude.{slice_get, option_map, is_some, max, nat_lt, false, true, IsErrOf, vec_capacity};
+ghost use Rattle.std.specs.Prelude.{if◌then◌else◌};
 ghost use Rattle.reg_process.specs.Process.{next_of, peer_at, pending_of, resent, unsettled};
 ghost use Rattle.reg_process.specs.Parts.{state_of, first_parts};
 ghost use Rattle.reg_process.specs.declared.steps.Step.TheVariants.{Call, Take, Tick};
-ghost use Rattle.reg_process.specs.Faults.{NewRefused, StepTakesMemory, is_cast, is_numbered as is_numbered_of, takes_memory};
+ghost use Rattle.reg_process.specs.Faults.{NewRefused, StepTakesMemory, is_cast, is_numbered as is_numbered_of};
+ghost use Rattle.reg_process.specs.Faults.{takes_memory};
 ghost use Rattle.reg_process.specs.Events.{Steps, Briefs, Refused};
 ghost use Rattle.reg_process.specs.Known.{IsNoPeer, known_of};
 ghost use Rattle.reg_process.specs.Puts.{puts};
@@ -50,7 +53,10 @@ impl<F: FrontEnd, A: Allocator + Copy> Process<F, A> {
     /// A process that did nothing yet. `NoProcess` comes exactly where the shape doesn't have it, and else only
     /// `OutOfMemory`.
     pub fn new(alloc: A, shape: Shape, me: u8) -> Result<Process<F, A>, ProcessFault>
-        ensures made { IfOk result (λ p. (me < shape.processes) × (p ≡ record { failed = false; state = state_of (first_parts me shape.processes shape.registers); room = 0 })) }
+        ensures made { IfOk result
+            (λ p. (me < shape.processes)
+            × (p
+            ≡ record { failed = false; state = state_of (first_parts me shape.processes shape.registers); room = 0 })) }
         ensures fault { IfErr result (λ fault. NewRefused shape.processes me fault) }
     {
         if u32::from(me) >= shape.processes() {
@@ -127,7 +133,8 @@ impl<F: FrontEnd, A: Allocator + Copy> Process<F, A> {
 
     /// What it knows of another process, and keeps for it. None where there is no other of this number.
     pub fn known(&self, process: u8) -> Option<Known>
-        ensures value { MatchOption result (IsNoPeer self.now.state process) (λ k. k ≡ known_of (peer_at self.now.state process)) }
+        ensures value { MatchOption result (IsNoPeer self.now.state process)
+            (λ k. k ≡ known_of (peer_at self.now.state process)) }
         ensures other { IfSome result (λ _. IsNoPeer self.now.state process → ⊥) }
     {
         if !self.core.is_peer(process) {
@@ -171,7 +178,10 @@ impl<F: FrontEnd, A: Allocator + Copy> Process<F, A> {
     /// What goes out of a tick, aside from its frames, which `resend` gives: nothing. The process stays as it is.
     /// `Failed` is the only fault. It takes no memory.
     pub fn tick_brief(&self, brief: &mut Brief<A>) -> Result<(), ProcessFault>
-        ensures ticked { MatchResult result (λ _. Briefs F.start self.now Tick (puts (resent self.now.state) (length self.now.state.peers)) brief.new.effect.cast brief.new.effect.delivered.items brief.new.effect.reply self.now) (λ fault. Refused F.start self.now Tick fault self.now) }
+        ensures ticked { MatchResult result
+            (λ _. Briefs F.start self.now Tick (puts (resent self.now.state) (length self.now.state.peers))
+            brief.new.effect.cast brief.new.effect.delivered.items brief.new.effect.reply self.now)
+            (λ fault. Refused F.start self.now Tick fault self.now) }
         ensures memory { IfErr result (λ fault. fault ≡ ProcessFault.Failed) }
     {
         if self.failed {
@@ -184,8 +194,11 @@ impl<F: FrontEnd, A: Allocator + Copy> Process<F, A> {
     /// Puts unacknowledged data frames again: on each link the first `limits::MOST_RESENT`. The process stays as it is.
     /// `Failed` and `OutOfMemory` are the only faults. It takes no memory where there is no such frame.
     pub fn tick(&mut self) -> Result<Outcome<A>, ProcessFault>
-        ensures ticked { MatchResult result (λ o. Steps F.start self.old Tick o.frames.items o.cast o.delivered.items o.reply self.new) (λ fault. Refused F.start self.old Tick fault self.new) }
-        ensures memory { IsErrOf result ProcessFault.OutOfMemory → puts (resent self.old.state) (length self.old.state.peers) ≢ [] }
+        ensures ticked { MatchResult result
+            (λ o. Steps F.start self.old Tick o.frames.items o.cast o.delivered.items o.reply self.new)
+            (λ fault. Refused F.start self.old Tick fault self.new) }
+        ensures memory { IsErrOf result ProcessFault.OutOfMemory
+            → puts (resent self.old.state) (length self.old.state.peers) ≢ [] }
     {
         if self.failed {
             return Err(ProcessFault::Failed);
@@ -204,8 +217,11 @@ impl<F: FrontEnd, A: Allocator + Copy> Process<F, A> {
     /// A count takes no memory. Where the kept list has room for the answer, neither does a dropped frame, nor an
     /// acknowledgement that makes no cast clear.
     pub fn take(&mut self, from: u8, frame: &Frame) -> Result<Outcome<A>, ProcessFault>
-        ensures taken { MatchResult result (λ o. Steps F.start self.old (Take from frame.now) o.frames.items o.cast o.delivered.items o.reply self.new) (λ fault. Refused F.start self.old (Take from frame.now) fault self.new) }
-        ensures memory { IsErrOf result ProcessFault.OutOfMemory → takes_memory self.old.state self.old.room from frame.now ≡ true }
+        ensures taken { MatchResult result
+            (λ o. Steps F.start self.old (Take from frame.now) o.frames.items o.cast o.delivered.items o.reply self.new)
+            (λ fault. Refused F.start self.old (Take from frame.now) fault self.new) }
+        ensures memory { IsErrOf result ProcessFault.OutOfMemory
+            → takes_memory self.old.state self.old.room from frame.now ≡ true }
     {
         let mut brief = self.core.nothing();
         self.take_brief(from, frame, &mut brief)?;
@@ -225,7 +241,10 @@ impl<F: FrontEnd, A: Allocator + Copy> Process<F, A> {
         frame: &Frame,
         brief: &mut Brief<A>,
     ) -> Result<(), ProcessFault>
-        ensures taken { MatchResult result (λ _. Briefs F.start self.old (Take from frame.now) (puts_of brief.new.sends) brief.new.effect.cast brief.new.effect.delivered.items brief.new.effect.reply self.new) (λ fault. Refused F.start self.old (Take from frame.now) fault self.new) }
+        ensures taken { MatchResult result
+            (λ _. Briefs F.start self.old (Take from frame.now) (puts_of brief.new.sends) brief.new.effect.cast
+            brief.new.effect.delivered.items brief.new.effect.reply self.new)
+            (λ fault. Refused F.start self.old (Take from frame.now) fault self.new) }
         ensures memory { IsErrOf result ProcessFault.OutOfMemory → takes_memory self.old.state 1 from frame.now ≡ true }
     {
         if self.failed {
@@ -246,8 +265,11 @@ impl<F: FrontEnd, A: Allocator + Copy> Process<F, A> {
     /// Calls its next operation, which starts as the front end says, and delivers what is clear. One that isn't cast
     /// takes no memory.
     pub fn call(&mut self, op: Op) -> Result<Outcome<A>, ProcessFault>
-        ensures called { MatchResult result (λ o. Steps F.start self.old (Call op) o.frames.items o.cast o.delivered.items o.reply self.new) (λ fault. Refused F.start self.old (Call op) fault self.new) }
-        ensures memory { IsErrOf result ProcessFault.OutOfMemory → is_cast (F.start op (unsettled self.old.state)) ≡ true }
+        ensures called { MatchResult result
+            (λ o. Steps F.start self.old (Call op) o.frames.items o.cast o.delivered.items o.reply self.new)
+            (λ fault. Refused F.start self.old (Call op) fault self.new) }
+        ensures memory { IsErrOf result ProcessFault.OutOfMemory
+            → is_cast (F.start op (unsettled self.old.state)) ≡ true }
     {
         let mut brief = self.core.nothing();
         self.call_brief(op, &mut brief)?;
@@ -259,8 +281,12 @@ impl<F: FrontEnd, A: Allocator + Copy> Process<F, A> {
     /// Calls its next operation as `call` does, and tells in short what is put. Where the call is refused, nothing is
     /// claimed of what is told.
     pub fn call_brief(&mut self, op: Op, brief: &mut Brief<A>) -> Result<(), ProcessFault>
-        ensures called { MatchResult result (λ _. Briefs F.start self.old (Call op) (puts_of brief.new.sends) brief.new.effect.cast brief.new.effect.delivered.items brief.new.effect.reply self.new) (λ fault. Refused F.start self.old (Call op) fault self.new) }
-        ensures memory { IsErrOf result ProcessFault.OutOfMemory → is_cast (F.start op (unsettled self.old.state)) ≡ true }
+        ensures called { MatchResult result
+            (λ _. Briefs F.start self.old (Call op) (puts_of brief.new.sends) brief.new.effect.cast
+            brief.new.effect.delivered.items brief.new.effect.reply self.new)
+            (λ fault. Refused F.start self.old (Call op) fault self.new) }
+        ensures memory { IsErrOf result ProcessFault.OutOfMemory
+            → is_cast (F.start op (unsettled self.old.state)) ≡ true }
     {
         if self.failed {
             return Err(ProcessFault::Failed);
@@ -294,8 +320,11 @@ impl<F: FrontEnd, A: Allocator + Copy> Process<F, A> {
     /// Lists the frames of an event in an empty list. Where memory is refused the process stops.
     fn tell(&mut self, list: Vec<Put, A>, brief: Brief<A>) -> Result<Outcome<A>, ProcessFault>
         requires { list.items ≡ [] }
-        ensures told { IfOk result (λ o. IsListed (puts_of brief.sends) brief.effect.cast brief.effect.delivered.items brief.effect.reply o.frames.items o.cast o.delivered.items o.reply) }
-        ensures kept { MatchResult result (λ _. self.new ≡ self.old) (λ fault. (fault ≡ ProcessFault.OutOfMemory) × (self.new ≡ record self.old { failed = true })) }
+        ensures told { IfOk result
+            (λ o. IsListed (puts_of brief.sends) brief.effect.cast brief.effect.delivered.items brief.effect.reply
+            o.frames.items o.cast o.delivered.items o.reply) }
+        ensures kept { MatchResult result (λ _. self.new ≡ self.old)
+            (λ fault. (fault ≡ ProcessFault.OutOfMemory) × (self.new ≡ record self.old { failed = true })) }
         ensures memory { IfErr result (λ _. vec_capacity list < length (puts_of brief.sends)) }
     {
         let mut frames = list;
@@ -308,8 +337,11 @@ impl<F: FrontEnd, A: Allocator + Copy> Process<F, A> {
 
     /// Makes a step: a call, a take or a tick, with the faults of each. It takes memory where these do.
     pub fn step(&mut self, step: &Step) -> Result<Outcome<A>, ProcessFault>
-        ensures stepped { MatchResult result (λ o. Steps F.start self.old step.now o.frames.items o.cast o.delivered.items o.reply self.new) (λ fault. Refused F.start self.old step.now fault self.new) }
-        ensures memory { IsErrOf result ProcessFault.OutOfMemory → StepTakesMemory F.start self.old.state self.old.room step.now }
+        ensures stepped { MatchResult result
+            (λ o. Steps F.start self.old step.now o.frames.items o.cast o.delivered.items o.reply self.new)
+            (λ fault. Refused F.start self.old step.now fault self.new) }
+        ensures memory { IsErrOf result ProcessFault.OutOfMemory
+            → StepTakesMemory F.start self.old.state self.old.room step.now }
     {
         match *step {
             Step::Call { op } => self.call(op),
@@ -331,7 +363,8 @@ fn is_numbered(frame: &Frame) -> bool
 
 /// What goes out of an event, from its frames and the rest.
 fn outcome<A: Allocator + Copy>(frames: Vec<Put, A>, effect: Effect<A>) -> Outcome<A>
-    ensures { IsListed frames.items effect.cast effect.delivered.items effect.reply result.frames.items result.cast result.delivered.items result.reply }
+    ensures { IsListed frames.items effect.cast effect.delivered.items effect.reply result.frames.items result.cast
+        result.delivered.items result.reply }
 {
     let Effect {
         cast,

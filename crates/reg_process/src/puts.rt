@@ -1,9 +1,11 @@
 //! Bodies queued for all other processes, and the frames put.
-ghost use Rattle.std.specs.Prelude.{◌≡◌, ◌≢◌, ◌<◌, ◌≤◌, ◌+◌, ◌++◌, ◌∷◌, [], length, map, replicate, IfOk, OnOk, OnErr, vec_capacity, slice_get, slice_index_or, nat_lt};
+ghost use Rattle.std.specs.Prelude.{◌≡◌, ◌≢◌, ◌<◌, ◌≤◌, ◌+◌, ◌++◌, ◌∷◌, [], length, map, replicate, IfOk, OnOk, OnErr};
+ghost use Rattle.std.specs.Prelude.{vec_capacity, slice_get, slice_index_or, nat_lt};
 ghost use Rattle.reg_links.specs.Sending.{link_to};
 ghost use Rattle.reg_base.specs.declared.limits.TheConstants.{FRAME_NUMBERS, MOST_PROCESSES};
 ghost use Rattle.reg_process.specs.Parts.{nothing};
-ghost use Rattle.reg_process.specs.Queued.{out_to, outs_of, IsNumbered, all_frames, queue_outs, IsGrown, HasNumbers, pending_in as pending_in_all, again_at, again_frames};
+ghost use Rattle.reg_process.specs.Queued.{out_to, outs_of, IsNumbered, all_frames, queue_outs, IsGrown, HasNumbers};
+ghost use Rattle.reg_process.specs.Queued.{pending_in as pending_in_all, again_at, again_frames};
 ghost use Rattle.reg_process.specs.Puts.{put_to, puts};
 ghost use Rattle.reg_process.specs.Sending.{owed, sent_frames, puts_of};
 
@@ -50,7 +52,8 @@ fn put_one<A: Allocator + Copy>(
     sent: &Sent,
 ) -> Result<(), AllocError>
     ensures frames { OnOk result (frames.new.items ≡ frames.old.items ++ map (put_to to) (sent_frames sent.now to)) }
-    ensures memory { OnErr result (vec_capacity frames.old < length frames.old.items + length (sent_frames sent.now to)) }
+    ensures memory { OnErr result
+        (vec_capacity frames.old < length frames.old.items + length (sent_frames sent.now to)) }
     ensures room { vec_capacity frames.old ≤ vec_capacity frames.new }
 {
     let Sent {
@@ -135,7 +138,8 @@ pub fn queue_on_all<A: Allocator + Copy>(
     requires me { me < length (outs_of me outboxes.old) }
     requires few { length (outs_of me outboxes.old) ≤ MOST_PROCESSES }
     requires numbers { HasNumbers (outs_of me outboxes.old) }
-    ensures frames { OnOk result (puts_of sends.new ≡ puts (all_frames got me body (outs_of me outboxes.old)) (length (outs_of me outboxes.old))) }
+    ensures frames { OnOk result (puts_of sends.new
+        ≡ puts (all_frames got me body (outs_of me outboxes.old)) (length (outs_of me outboxes.old))) }
     ensures queued { OnOk result (outs_of me outboxes.new ≡ queue_outs 0 me body (outs_of me outboxes.old)) }
     ensures grown { IsGrown (outs_of me outboxes.old) (outs_of me outboxes.new) }
     ensures length { length (outs_of me outboxes.new) ≡ length (outs_of me outboxes.old) }
@@ -175,7 +179,8 @@ fn resend_one<A: Allocator + Copy>(
     me: u8,
 ) -> Result<(), AllocError>
     requires { to < length outboxes.now.counts }
-    ensures frames { OnOk result (frames.new.items ≡ frames.old.items ++ map (put_to to) (again_at me to (link_to outboxes.now to))) }
+    ensures frames { OnOk result
+        (frames.new.items ≡ frames.old.items ++ map (put_to to) (again_at me to (link_to outboxes.now to))) }
     ensures memory { OnErr result (again_at me to (link_to outboxes.now to) ≢ []) }
 {
     if to == me {
@@ -199,8 +204,10 @@ pub fn resend_all<A: Allocator + Copy>(
 ) -> Result<(), AllocError>
     requires empty { frames.old.items ≡ [] }
     requires few { length (outs_of me outboxes.now) ≤ MOST_PROCESSES }
-    ensures frames { OnOk result (frames.new.items ≡ puts (again_frames me (outs_of me outboxes.now)) (length (outs_of me outboxes.now))) }
-    ensures memory { OnErr result (puts (again_frames me (outs_of me outboxes.now)) (length (outs_of me outboxes.now)) ≢ []) }
+    ensures frames { OnOk result
+        (frames.new.items ≡ puts (again_frames me (outs_of me outboxes.now)) (length (outs_of me outboxes.now))) }
+    ensures memory { OnErr result
+        (puts (again_frames me (outs_of me outboxes.now)) (length (outs_of me outboxes.now)) ≢ []) }
 {
     for r in 0..outboxes.processes() as u8 {
         resend_one(frames, outboxes, r, me)?;

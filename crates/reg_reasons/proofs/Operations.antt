@@ -11,10 +11,12 @@ use Rattle.reg_inputs.specs.Loads.{Load, IsLoad}
 -- the sum over what each element is seen as
 sum_seen : {X Y : Type 0} (f : Y → ℕ) (g : X → Y) (xs : List X) → sum_by f (map g xs) ≡ sum_by (λ x. f (g x)) xs
 sum_seen f g [] = refl
-sum_seen f g (x ∷ xs) = sum_by-cons f (g x) (map g xs) ∙ (ap (λ n. f (g x) + n) (sum_seen f g xs) ∙ sym (sum_by-cons (λ y. f (g y)) x xs))
+sum_seen f g (x ∷ xs) =
+    sum_by-cons f (g x) (map g xs) ∙ (ap (λ n. f (g x) + n) (sum_seen f g xs) ∙ sym (sum_by-cons (λ y. f (g y)) x xs))
 
 -- a sum of lengths, none of them above a limit
-sum_few : {X : Type 0} (most : ℕ) (xs : List (List X)) → ((k : ℕ) (x : List X) → slice_get xs k ≡ Some x → length x ≤ most) → sum_by length xs ≤ length xs * most
+sum_few : {X : Type 0} (most : ℕ) (xs : List (List X))
+    → ((k : ℕ) (x : List X) → slice_get xs k ≡ Some x → length x ≤ most) → sum_by length xs ≤ length xs * most
 sum_few most [] few = omega arith
 sum_few most (x ∷ xs) few =
     let first = few 0 x refl in
@@ -35,11 +37,13 @@ abbrev pub ops_in : {A : Type 0} → List (Vec Op A) → List (List Op)
 ops_in scripts = map (λ s. s.items) scripts
 
 -- the lengths of the lists are those of what is in them
-pub counted : {A : Type 0} (w : Load) (scripts : List (Vec Op A)) → w.scripts ≡ ops_in scripts → sum_by (λ (s : Vec Op A). length s.items) scripts ≡ sum_by length w.scripts
+pub counted : {A : Type 0} (w : Load) (scripts : List (Vec Op A)) → w.scripts ≡ ops_in scripts
+    → sum_by (λ (s : Vec Op A). length s.items) scripts ≡ sum_by length w.scripts
 counted {A} w scripts is = sym (ap (sum_by length) is ∙ sum_seen length (λ (s : Vec Op A). s.items) scripts)
 
 -- so the scripts of a workload can be counted, list by list
-pub few_counted : {A : Type 0} (w : Load) (scripts : List (Vec Op A)) → w.scripts ≡ ops_in scripts → IsLoad w → sum_by (λ (s : Vec Op A). length s.items) scripts ≤ MOST_PROCESSES * MOST_OPERATIONS
+pub few_counted : {A : Type 0} (w : Load) (scripts : List (Vec Op A)) → w.scripts ≡ ops_in scripts → IsLoad w
+    → sum_by (λ (s : Vec Op A). length s.items) scripts ≤ MOST_PROCESSES * MOST_OPERATIONS
 few_counted w scripts is load =
     let few = load_few w load in
     let same = counted w scripts is in

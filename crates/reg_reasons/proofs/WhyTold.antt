@@ -1,5 +1,6 @@
 -- What an answer says of a text, by the fault that it tells and by what was read.
-use Rattle.std.proofs.Common.{ℕ, ◌≡◌, Bool, true, false, List, [], ◌∷◌, ◌++◌, length, codes, inl, Result, Ok, Err, sym, ap, subst, ◌∙◌}
+use Rattle.std.proofs.Common.{ℕ, ◌≡◌, Bool, true, false, List, [], ◌∷◌, ◌++◌, length, codes, inl, Result, Ok, Err, sym}
+use Rattle.std.proofs.Common.{ap, subst, ◌∙◌}
 use Rattle.std.specs.Prelude.{IfOk, sum_by}
 use Rattle.reg_front.specs.Table.{front_name}
 use Rattle.reg_history.specs.Reports.{Contents, IsReport, SpellsReport}
@@ -16,13 +17,16 @@ use Rattle.reg_commands.specs.declared.kinds.Kind.{Kind}
 use Rattle.reg_commands.specs.declared.kinds.Kind.TheVariants.{Report, Schedule, Workload as WorkloadKind}
 
 -- a refused text of each kind
-pub tells_refused : (kind : Kind) (is_accepted : Bool) (answer text : List ℕ) → is_accepted ≡ false → Refuses (command_of kind) answer text → Tells kind is_accepted answer text
+pub tells_refused : (kind : Kind) (is_accepted : Bool) (answer text : List ℕ) → is_accepted ≡ false
+    → Refuses (command_of kind) answer text → Tells kind is_accepted answer text
 tells_refused Report is_accepted answer text e told = subst (λ b. Tells Report b answer text) (sym e) (inl told)
 tells_refused Schedule is_accepted answer text e told = subst (λ b. Tells Schedule b answer text) (sym e) told
 tells_refused WorkloadKind is_accepted answer text e told = subst (λ b. Tells WorkloadKind b answer text) (sym e) told
 
 -- an accepted schedule
-pub tells_schedule : (p : Plan) (is_accepted : Bool) (answer text : List ℕ) (processes registers : ℕ) (front : List ℕ) (count : ℕ) → IsPlan p → Spells text p → (run_by (start_of p.front) p).accepted ≡ p.events
+pub tells_schedule : (p : Plan) (is_accepted : Bool) (answer text : List ℕ) (processes registers : ℕ) (front : List ℕ)
+    (count : ℕ)
+    → IsPlan p → Spells text p → (run_by (start_of p.front) p).accepted ≡ p.events
     → processes ≡ p.shape.processes → registers ≡ p.shape.registers → front ≡ front_name p.front → count ≡ length p.events
     → answer ≡ subject_text (codes "a schedule: ") processes registers front count (codes " event") (codes " events") ++ (codes ", all accepted" ++ 10 ∷ []) → is_accepted ≡ true → Tells Schedule is_accepted answer text
 tells_schedule p is_accepted answer text processes registers front count good read accepted ep er ef ec said e =
@@ -42,7 +46,9 @@ if_ok P Q (Ok t) f h = f t h
 if_ok P Q (Err e) f h = tt
 
 -- a workload
-pub tells_load : (w : Load) (is_accepted : Bool) (answer text : List ℕ) (processes registers : ℕ) (front : List ℕ) (count : ℕ) → Holds text w
+pub tells_load : (w : Load) (is_accepted : Bool) (answer text : List ℕ) (processes registers : ℕ) (front : List ℕ)
+    (count : ℕ)
+    → Holds text w
     → processes ≡ w.shape.processes → registers ≡ w.shape.registers → front ≡ front_name w.front → count ≡ sum_by length w.scripts
     → answer ≡ subject_text (codes "a workload: ") processes registers front count (codes " operation") (codes " operations") ++ 10 ∷ [] → is_accepted ≡ true → Tells WorkloadKind is_accepted answer text
 tells_load w is_accepted answer text processes registers front count holds ep er ef ec said e =
@@ -51,7 +57,9 @@ tells_load w is_accepted answer text processes registers front count holds ep er
     subst (λ b. Tells WorkloadKind b answer text) (sym e) (record { work = w; holds = holds; said = said ∙ ap (λ t. t ++ 10 ∷ []) same })
 
 -- a report of which every verdict is yes
-pub agrees : (r : Contents) (v : Verdicts) (answer text : List ℕ) (processes registers : ℕ) (front : List ℕ) (count : ℕ) (tail : List ℕ) → IsReport r → SpellsReport text r → Judges r v → all_yes v ≡ true
+pub agrees : (r : Contents) (v : Verdicts) (answer text : List ℕ) (processes registers : ℕ) (front : List ℕ) (count : ℕ)
+    (tail : List ℕ)
+    → IsReport r → SpellsReport text r → Judges r v → all_yes v ≡ true
     → processes ≡ r.shape.processes → registers ≡ r.shape.registers → front ≡ r.front → count ≡ length r.entries → tail ≡ yes_text r.points
     → answer ≡ subject_text (codes "a report: ") processes registers front count (codes " entry") (codes " entries") ++ tail → Agrees answer text
 agrees r v answer text processes registers front count tail good read judged all ep er ef ec et said =

@@ -14,7 +14,11 @@ counted n one many = decimal n ++ (if n == 1 then one else many)
 -- operations or entries it has.
 abbrev pub subject_text : List ℕ → ℕ → ℕ → List ℕ → ℕ → List ℕ → List ℕ → List ℕ
 subject_text name processes registers front count one many =
-    ((((name ++ counted processes (codes " process, ") (codes " processes, ")) ++ counted registers (codes " register, ") (codes " registers, ")) ++ front) ++ codes ", ") ++ counted count one many
+    ((((name ++ counted processes (codes " process, ") (codes " processes, "))
+    ++ counted registers (codes " register, ") (codes " registers, "))
+    ++ front)
+    ++ codes ", ")
+    ++ counted count one many
 
 -- the line of the first of two verdicts that is no
 abbrev pub no_line : Verdict → Verdicts → List ℕ

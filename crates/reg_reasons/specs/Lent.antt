@@ -30,4 +30,5 @@ TellsAnyLent false is_accepted answer text = TellsLent (kind_of text) is_accepte
 
 -- the text got the answer of its kind: `Wrote` says how it was written
 abbrev pub AnswersLent : Bool → (List ℕ → Type 0) → List ℕ → Type 0
-AnswersLent is_accepted Wrote text = (answer : List ℕ) × TellsAnyLent (begins_record text) is_accepted answer text × Wrote answer
+AnswersLent is_accepted Wrote text =
+    (answer : List ℕ) × TellsAnyLent (begins_record text) is_accepted answer text × Wrote answer

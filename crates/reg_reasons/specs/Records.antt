@@ -3,7 +3,8 @@ use Rattle.std.specs.Prelude.{ℕ, ◌≡◌, Bool, true, false, List, [], ◌�
 use Rattle.std.specs.List.{starts_with}
 use Rattle.reg_front.specs.Table.{front_name}
 use Rattle.reg_commands.specs.Replays.{start_of}
-use Rattle.reg_commands.specs.declared.faults.Fault.TheVariants.{Unread, TooLong, NotText, Output, Line, Event, Workload, OutOfMemory}
+use Rattle.reg_commands.specs.declared.faults.Fault.TheVariants.{Unread, TooLong, NotText, Output, Line, Event}
+use Rattle.reg_commands.specs.declared.faults.Fault.TheVariants.{Workload, OutOfMemory}
 use Rattle.reg_node.specs.RecordLines.{Account, IsAccount, SpellsAccount}
 use Rattle.reg_verify.specs.Verifies.{IsRefused, IsUnfaithful, Runs, verify_line}
 use Rattle.reg_verify.specs.declared.faults.VerifyFault.{VerifyFault}
@@ -41,7 +42,10 @@ pub record IsRecordOfRun (answer text : List ℕ) : Type 0 where
   pub read : SpellsAccount text account
   pub world : Made
   pub runs : Runs (start_of account.front) account.shape account.steps world
-  pub said : answer ≡ subject_text (codes "a record: ") account.shape.processes account.shape.registers (front_name account.front) (length account.steps) (codes " step") (codes " steps") ++ (codes ", a run" ++ 10 ∷ [])
+  pub said : answer
+      ≡ subject_text (codes "a record: ") account.shape.processes account.shape.registers (front_name account.front)
+      (length account.steps) (codes " step") (codes " steps")
+      ++ (codes ", a run" ++ 10 ∷ [])
 
 -- whether a text that begins as a record is one of a run, and the answer that it gets
 abbrev pub TellsRecord : Bool → List ℕ → List ℕ → Type 0

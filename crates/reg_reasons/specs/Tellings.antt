@@ -1,5 +1,6 @@
 -- What is told of a text: which answer it gets, and what stops before an answer.
-use Rattle.std.specs.Prelude.{ℕ, ◌≡◌, ◌<◌, ◌⊎◌, ⊤, Bool, true, false, List, [], ◌∷◌, ◌++◌, length, sum_by, codes, Option, Some, None}
+use Rattle.std.specs.Prelude.{ℕ, ◌≡◌, ◌<◌, ◌⊎◌, ⊤, Bool, true, false, List, [], ◌∷◌, ◌++◌, length, sum_by, codes}
+use Rattle.std.specs.Prelude.{Option, Some, None}
 use Rattle.std.specs.Str.{IsUtf8}
 use Rattle.reg_base.specs.declared.limits.TheConstants.{LONGEST_INPUT}
 use Rattle.reg_front.specs.Table.{front_name}
@@ -10,7 +11,8 @@ use Rattle.reg_inputs.specs.Schedules.{Plan, IsPlan, Spells}
 use Rattle.reg_commands.specs.FaultLines.{fault_line}
 use Rattle.reg_commands.specs.Verdicts.{Judges, all_yes}
 use Rattle.reg_commands.specs.declared.faults.Fault.{Fault}
-use Rattle.reg_commands.specs.declared.faults.Fault.TheVariants.{Unread, TooLong, NotText, Output, Line, Event, Workload, OutOfMemory}
+use Rattle.reg_commands.specs.declared.faults.Fault.TheVariants.{Unread, TooLong, NotText, Output, Line, Event}
+use Rattle.reg_commands.specs.declared.faults.Fault.TheVariants.{Workload, OutOfMemory}
 use Rattle.reg_commands.specs.declared.verdicts.Verdicts.{Verdicts}
 use Rattle.reg_commands.specs.Answers.{IsRefused, IsRefusedAt, IsRefusedFor}
 use Rattle.reg_commands.specs.Plays.{Holds}
@@ -58,17 +60,24 @@ pub record IsSchedule (answer text : List ℕ) : Type 0 where
   pub good : IsPlan plan
   pub read : Spells text plan
   pub accepted : (run_by (start_of plan.front) plan).accepted ≡ plan.events
-  pub said : answer ≡ subject_text (codes "a schedule: ") plan.shape.processes plan.shape.registers (front_name plan.front) (length plan.events) (codes " event") (codes " events") ++ (codes ", all accepted" ++ 10 ∷ [])
+  pub said : answer
+      ≡ subject_text (codes "a schedule: ") plan.shape.processes plan.shape.registers (front_name plan.front)
+      (length plan.events) (codes " event") (codes " events")
+      ++ (codes ", all accepted" ++ 10 ∷ [])
 
 -- The text says a workload, and the answer says so, with how many operations it has.
 pub record IsWorkload (answer text : List ℕ) : Type 0 where
   pub work : Load
   pub holds : Holds text work
-  pub said : answer ≡ subject_text (codes "a workload: ") work.shape.processes work.shape.registers (front_name work.front) (sum_by length work.scripts) (codes " operation") (codes " operations") ++ 10 ∷ []
+  pub said : answer
+      ≡ subject_text (codes "a workload: ") work.shape.processes work.shape.registers (front_name work.front)
+      (sum_by length work.scripts) (codes " operation") (codes " operations")
+      ++ 10 ∷ []
 
 -- what stands after the numbers of a report of which every verdict is yes
 abbrev pub yes_text : Option (List Point) → List ℕ
-yes_text None = codes "; serial yes; no points, so real time is not judged: awshow find points looks for some" ++ 10 ∷ []
+yes_text None =
+    codes "; serial yes; no points, so real time is not judged: awshow find points looks for some" ++ 10 ∷ []
 yes_text (Some points) = codes "; serial yes; points yes" ++ 10 ∷ []
 
 -- The text is that of a report of which every verdict is yes, and the answer says so.
@@ -79,7 +88,10 @@ pub record Agrees (answer text : List ℕ) : Type 0 where
   pub verdicts : Verdicts
   pub judged : Judges report verdicts
   pub yes : all_yes verdicts ≡ true
-  pub said : answer ≡ subject_text (codes "a report: ") report.shape.processes report.shape.registers report.front (length report.entries) (codes " entry") (codes " entries") ++ yes_text report.points
+  pub said : answer
+      ≡ subject_text (codes "a report: ") report.shape.processes report.shape.registers report.front
+      (length report.entries) (codes " entry") (codes " entries")
+      ++ yes_text report.points
 
 -- The text is that of a report of which some verdict is no, and the answer begins with the line of the first such one.
 pub record Disagrees (answer text : List ℕ) : Type 0 where
@@ -108,7 +120,8 @@ TellsAny false is_accepted answer text = Tells (kind_of text) is_accepted answer
 
 -- the text got the answer of its kind: `Wrote` says how it was written
 abbrev pub Answers : Bool → (List ℕ → Type 0) → List ℕ → Type 0
-Answers is_accepted Wrote text = (answer : List ℕ) × TellsAny (begins_record text) is_accepted answer text × Wrote answer
+Answers is_accepted Wrote text =
+    (answer : List ℕ) × TellsAny (begins_record text) is_accepted answer text × Wrote answer
 
 -- a first part of it
 abbrev pub AnswersAny : (List ℕ → Type 0) → List ℕ → Type 0

@@ -1,7 +1,8 @@
 -- Which faults are of a text. It carries a proof: no promise speaks of it.
 use Rattle.std.specs.Prelude.{Bool, true, false}
 use Rattle.reg_commands.specs.declared.faults.Fault.{Fault}
-use Rattle.reg_commands.specs.declared.faults.Fault.TheVariants.{Unread, TooLong, NotText, Output, Line, Event, Workload, OutOfMemory}
+use Rattle.reg_commands.specs.declared.faults.Fault.TheVariants.{Unread, TooLong, NotText, Output, Line, Event}
+use Rattle.reg_commands.specs.declared.faults.Fault.TheVariants.{Workload, OutOfMemory}
 
 -- a line, an event or a document is told
 abbrev pub is_of_text : Fault → Bool

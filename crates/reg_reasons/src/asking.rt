@@ -20,7 +20,8 @@ pub struct Explain {
 impl TextCommand for Explain {
     ghost use Rattle.std.specs.Prelude.{⊤, false};
     ghost use Rattle.reg_commands.specs.declared.command.Command.TheVariants.{Play, Replay};
-    ghost use Rattle.reg_commands.specs.declared.faults.Fault.TheVariants.{Unread, TooLong, NotText, Output, Line, Event, Workload, OutOfMemory};
+    ghost use Rattle.reg_commands.specs.declared.faults.Fault.TheVariants.{Unread, TooLong, NotText, Output, Line};
+    ghost use Rattle.reg_commands.specs.declared.faults.Fault.TheVariants.{Event, Workload, OutOfMemory};
 
     type Fault = Fault;
 
@@ -61,7 +62,8 @@ pub struct ExplainLent;
 impl TextCommand for ExplainLent {
     ghost use Rattle.std.specs.Prelude.{⊤, false};
     ghost use Rattle.reg_commands.specs.declared.command.Command.TheVariants.{Play, Replay};
-    ghost use Rattle.reg_commands.specs.declared.faults.Fault.TheVariants.{Unread, TooLong, NotText, Output, Line, Event, Workload, OutOfMemory};
+    ghost use Rattle.reg_commands.specs.declared.faults.Fault.TheVariants.{Unread, TooLong, NotText, Output, Line};
+    ghost use Rattle.reg_commands.specs.declared.faults.Fault.TheVariants.{Event, Workload, OutOfMemory};
 
     type Fault = Fault;
 

@@ -35,7 +35,9 @@ fn put_counted<W: Write>(sink: &mut Sink<'_, W>, count: u64, one: &str, many: &s
 }
 
 fn put_subject<W: Write>(sink: &mut Sink<'_, W>, subject: Subject<'_>)
-    ensures { Puts W.contents sink.old sink.new (subject_text subject.entry.name.now subject.entry.processes subject.entry.registers subject.entry.front.now subject.entry.count subject.entry.one.now subject.entry.many.now) }
+    ensures { Puts W.contents sink.old sink.new
+        (subject_text subject.entry.name.now subject.entry.processes subject.entry.registers subject.entry.front.now
+        subject.entry.count subject.entry.one.now subject.entry.many.now) }
 {
     sink.put(subject.name.as_bytes());
     put_counted(sink, subject.processes as u64, " process, ", " processes, ");
@@ -56,7 +58,10 @@ pub fn line_of_subject<A: Allocator + Copy>(
     subject: Subject<'_>,
     tail: &str,
 ) -> Result<Vec<u8, A>, AllocError>
-    ensures { IfOk result (λ v. v.items ≡ subject_text subject.entry.name.now subject.entry.processes subject.entry.registers subject.entry.front.now subject.entry.count subject.entry.one.now subject.entry.many.now ++ tail.now) }
+    ensures { IfOk result (λ v. v.items
+        ≡ subject_text subject.entry.name.now subject.entry.processes subject.entry.registers subject.entry.front.now
+        subject.entry.count subject.entry.one.now subject.entry.many.now
+        ++ tail.now) }
 {
     let mut line = Vec::new(alloc);
     let mut sink = Sink::new(&mut line);

@@ -19,7 +19,8 @@ fn refused<A: Allocator + Copy>(
     text: &str,
     fault: VerifyFault,
 ) -> Result<Explanation<A>, AllocError>
-    ensures { IfOk result (λ t. (rest : List ℕ) × (t.answer.items ≡ verify_line fault ++ rest) × (t.is_accepted ≡ false)) }
+    ensures { IfOk result
+        (λ t. (rest : List ℕ) × (t.answer.items ≡ verify_line fault ++ rest) × (t.is_accepted ≡ false)) }
 {
     let line = line_of_fault(alloc, fault)?;
     let notes = explain_record(alloc, text, fault)?;

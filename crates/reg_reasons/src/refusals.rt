@@ -58,7 +58,12 @@ pub(crate) fn accepted<A: Allocator + Copy>(
     subject: Subject<'_>,
     tail: &str,
 ) -> Result<Explanation<A>, AllocError>
-    ensures { IfOk result (λ t. (t.answer.items ≡ subject_text subject.entry.name.now subject.entry.processes subject.entry.registers subject.entry.front.now subject.entry.count subject.entry.one.now subject.entry.many.now ++ tail.now) × (t.is_accepted ≡ true)) }
+    ensures { IfOk result
+        (λ t. (t.answer.items
+        ≡ subject_text subject.entry.name.now subject.entry.processes subject.entry.registers subject.entry.front.now
+        subject.entry.count subject.entry.one.now subject.entry.many.now
+        ++ tail.now)
+        × (t.is_accepted ≡ true)) }
 {
     let answer = line_of_subject(alloc, subject, tail)?;
     Ok(Explanation {
@@ -75,7 +80,8 @@ pub(crate) fn refused<D: Documents, A: Allocator + Copy>(
     text: &str,
     fault: Fault,
 ) -> Result<Explanation<A>, AllocError>
-    ensures { IfOk result (λ t. (rest : List ℕ) × (t.answer.items ≡ fault_line fault ++ rest) × (t.is_accepted ≡ false)) }
+    ensures { IfOk result
+        (λ t. (rest : List ℕ) × (t.answer.items ≡ fault_line fault ++ rest) × (t.is_accepted ≡ false)) }
 {
     let line = line_of_fault(alloc, fault)?;
     let notes = explain_fault(alloc, documents, command_of(kind), text, fault)?;

@@ -1,5 +1,6 @@
 -- That a run with room for enough events can come to rest: by ticks, each with one frame passed on.
-use Rattle.std.proofs.Common.{◌≡◌, ℕ, zero, suc, ◌+◌, ◌*◌, ◌<◌, ◌≤◌, Bool, true, false, List, [], ◌∷◌, ◌++◌, length, Option, Some, None, refl, sym, ap, ◌∙◌, subst, inl, inr, arith, length-append}
+use Rattle.std.proofs.Common.{◌≡◌, ℕ, zero, suc, ◌+◌, ◌*◌, ◌<◌, ◌≤◌, Bool, true, false, List, [], ◌∷◌, ◌++◌, length}
+use Rattle.std.proofs.Common.{Option, Some, None, refl, sym, ap, ◌∙◌, subst, inl, inr, arith, length-append}
 use Rattle.std.specs.Prelude.{cond, ◌==◌, nat_lt, slice_get}
 use Rattle.std.proofs.lemmas.Bool.{lt-ltb, ne_eqb, cases_lt, cond-true}
 use Rattle.reg_base.specs.declared.limits.TheConstants.{MOST_EVENTS}
@@ -22,7 +23,8 @@ use Rattle.reg_world.proofs.run.Begun.{again}
 use Rattle.reg_world.proofs.witness.Promised.{rests}
 use Rattle.reg_base.specs.Sums.{total}
 use Rattle.reg_records.specs.Rest.{put_for, most_to_rest, AreLater, CanRest}
-use Rattle.reg_records.specs.RestParts.{nodes_in, link_in, pending_in, distance_in, IsGoingOn, Nears, IsPending, IsAgain, Passing, Passes, Ticked}
+use Rattle.reg_records.specs.RestParts.{nodes_in, link_in, pending_in, distance_in, IsGoingOn, Nears, IsPending}
+use Rattle.reg_records.specs.RestParts.{IsAgain, Passing, Passes, Ticked}
 use Rattle.reg_base.proofs.Totals.{total_none, total_some}
 use Rattle.reg_records.proofs.EntryFacts.{pending_some}
 use Rattle.reg_records.proofs.Nearer.{pending_within}
@@ -33,10 +35,12 @@ use Rattle.reg_records.proofs.GoingOn.{at_behind}
 use Rattle.reg_records.proofs.Settling.{nears_none, nears_both, goes_on}
 
 -- an event that no fault applies to
-no_fault : (failed few : Bool) (o : Option WorldFault) → failed ≡ false → few ≡ true → o ≡ None → cond failed (Some Failed) (cond few o (Some TooManyEvents)) ≡ None
+no_fault : (failed few : Bool) (o : Option WorldFault) → failed ≡ false → few ≡ true → o ≡ None
+    → cond failed (Some Failed) (cond few o (Some TooManyEvents)) ≡ None
 no_fault failed few o e f g = rw (e, f, g) refl
 
-accepts : (start : Op → ℕ → Start) (m : Made) (e : Event) → IsGoingOn start m → length m.accepted < MOST_EVENTS → event_fault m.processes m.registers (nodes_in start m) e ≡ None → Accepts start m e (with_event start m e)
+accepts : (start : Op → ℕ → Start) (m : Made) (e : Event) → IsGoingOn start m → length m.accepted < MOST_EVENTS
+    → event_fault m.processes m.registers (nodes_in start m) e ≡ None → Accepts start m e (with_event start m e)
 accepts start m e G few none =
     let count = ap length G.accepted in
     record {
@@ -47,10 +51,12 @@ accepts start m e G few none =
 tick_allowed : (n registers p : ℕ) (w : Nodes) → p < n → event_fault n registers w (Tick p) ≡ None
 tick_allowed n registers p w l = cond-true (nat_lt p n) None (Some NoProcess) (lt-ltb p n l)
 
-take_tests : (a b c : Bool) (o : Option Frame) (f : Frame) → a ≡ true → b ≡ true → c ≡ false → o ≡ Some f → cond a (cond b (cond c (Some NoFrame) (frame_fault o)) (Some NoProcess)) (Some NoProcess) ≡ None
+take_tests : (a b c : Bool) (o : Option Frame) (f : Frame) → a ≡ true → b ≡ true → c ≡ false → o ≡ Some f
+    → cond a (cond b (cond c (Some NoFrame) (frame_fault o)) (Some NoProcess)) (Some NoProcess) ≡ None
 take_tests a b c o f e g h i = rw (e, g, h, i) refl
 
-take_allowed : (n registers a p number : ℕ) (w : Nodes) (f : Frame) → a < n → p < n → (a ≡ p → ⊥) → slice_get ((w a).wire p) number ≡ Some f → event_fault n registers w (Take a p number) ≡ None
+take_allowed : (n registers a p number : ℕ) (w : Nodes) (f : Frame) → a < n → p < n → (a ≡ p → ⊥)
+    → slice_get ((w a).wire p) number ≡ Some f → event_fault n registers w (Take a p number) ≡ None
 take_allowed n registers a p number w f la lp ne at = take_tests (nat_lt a n) (nat_lt p n) (a == p) (slice_get ((w a).wire p) number) f (lt-ltb a n la) (lt-ltb p n lp) (ne_eqb a p ne) at
 
 module _ (start : Op → ℕ → Start) where

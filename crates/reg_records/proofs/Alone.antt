@@ -1,5 +1,6 @@
 -- A process after its own entries: what the others did doesn't matter.
-use Rattle.std.proofs.Common.{◌≡◌, ◌⊎◌, inl, inr, ℕ, zero, suc, ◌+◌, ◌<◌, ◌≤◌, List, [], ◌∷◌, ◌++◌, length, take, get_or, true, false, Option, Some, None, ap, sym, ◌∙◌, subst, arith}
+use Rattle.std.proofs.Common.{◌≡◌, ◌⊎◌, inl, inr, ℕ, zero, suc, ◌+◌, ◌<◌, ◌≤◌, List, [], ◌∷◌, ◌++◌, length, take}
+use Rattle.std.proofs.Common.{get_or, true, false, Option, Some, None, ap, sym, ◌∙◌, subst, arith}
 use Rattle.std.specs.Prelude.{◌==◌}
 use Rattle.std.proofs.lemmas.Bool.{cases_order, cases_eq, eq-eqb, ne_eqb}
 use Rattle.std.proofs.lemmas.List.Sums.{count_by_more_yes, count_by_more_no}
@@ -35,7 +36,8 @@ node_after start shape logs p zero = empty shape.processes shape.registers p
 node_after start shape logs p (suc k) = after_entry start (node_after start shape logs p k) (entry_of logs p k)
 
 -- one more mention of p, or of another process
-pub mention_more : (order : List ℕ) (k p : ℕ) → IsAt order k p → mentions p (take (suc k) order) ≡ suc (mentions p (take k order))
+pub mention_more : (order : List ℕ) (k p : ℕ) → IsAt order k p
+    → mentions p (take (suc k) order) ≡ suc (mentions p (take k order))
 mention_more order k p at =
     let yes : (get_or order k 0 == p) ≡ true = eq-eqb (get_or order k 0) p (get_or_from_slice_get order k p 0 at) in
     let more : mentions p (take (k + 1) order) ≡ mentions p (take k order) + 1 = count_by_more_yes (λ q. q == p) order k 0 (slice_get_within order k p at) yes in
@@ -43,7 +45,8 @@ mention_more order k p at =
     let sum : mentions p (take k order) + 1 ≡ suc (mentions p (take k order)) = omega arith in
     subst (λ (j : ℕ). mentions p (take j order) ≡ suc (mentions p (take k order))) next (more ∙ sum)
 
-pub mention_same : (order : List ℕ) (k p q : ℕ) → IsAt order k q → (q ≡ p → ⊥) → mentions p (take (suc k) order) ≡ mentions p (take k order)
+pub mention_same : (order : List ℕ) (k p q : ℕ) → IsAt order k q → (q ≡ p → ⊥)
+    → mentions p (take (suc k) order) ≡ mentions p (take k order)
 mention_same order k p q at other =
     let no : (get_or order k 0 == p) ≡ false = ne_eqb (get_or order k 0) p (λ e. other (sym (get_or_from_slice_get order k q 0 at) ∙ e)) in
     let more : mentions p (take (k + 1) order) ≡ mentions p (take k order) = count_by_more_no (λ r. r == p) order k 0 (slice_get_within order k q at) no in
@@ -106,7 +109,9 @@ module _ (start : Op → ℕ → Start) (shape : Extent) (logs : List (List LogE
       by (Some entry) = at_front ((node_after start shape logs p k).wire q) ((step start (node_after start shape logs p k).state entry.step).1.frames q) m frame at
 
   -- what was put stays put
-  pub wire_grows : (p q m : ℕ) (frame : Frame) (i j : ℕ) → i ≤ j → IsAt ((node_after start shape logs p i).wire q) m frame → IsAt ((node_after start shape logs p j).wire q) m frame
+  pub wire_grows : (p q m : ℕ) (frame : Frame) (i j : ℕ) → i ≤ j
+      → IsAt ((node_after start shape logs p i).wire q) m frame
+      → IsAt ((node_after start shape logs p j).wire q) m frame
   wire_grows p q m frame i zero le at = let e : i ≡ zero = omega arith in subst (λ (k : ℕ). IsAt ((node_after start shape logs p k).wire q) m frame) e at
   wire_grows p q m frame i (suc j) le at = by (λ (h : i ≤ j). wire_grows p q m frame i j h at) (cases_order i (suc j))
     where

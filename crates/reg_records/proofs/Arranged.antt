@@ -1,5 +1,6 @@
 -- The search overlooks no arrangement.
-use Rattle.std.proofs.Common.{◌≡◌, ℕ, zero, suc, ◌<◌, inl, inr, Bool, true, false, not, List, [], ◌∷◌, map, Option, Some, None, refl, sym, ap, ◌∙◌, subst, arith}
+use Rattle.std.proofs.Common.{◌≡◌, ℕ, zero, suc, ◌<◌, inl, inr, Bool, true, false, not, List, [], ◌∷◌, map, Option}
+use Rattle.std.proofs.Common.{Some, None, refl, sym, ap, ◌∙◌, subst, arith}
 use Rattle.std.specs.Prelude.{◌&&◌, ◌||◌, ◌==◌, nat_lt, cond}
 use Rattle.std.specs.List.{list_any, list_all}
 use Rattle.std.proofs.lemmas.Bool.{eqb-true, eq-eqb, ltb-true, and_parts, and_from, not-true, false≢true}
@@ -14,7 +15,8 @@ use Rattle.reg_checkers.specs.Orders.{IsDistinct, KeepsOwnOrder}
 use Rattle.reg_checkers.proofs.Places.{IsAt-map}
 use Rattle.reg_world.proofs.lists.Members.{in_at}
 use Rattle.reg_world.proofs.lists.Rises.{in_kept, kept_in}
-use Rattle.reg_records.proofs.Search.{Fact, is_id, same_answer, is_told, is_finished, is_own_before, may_come, without, none_legal, always_before}
+use Rattle.reg_records.proofs.Search.{Fact, is_id, same_answer, is_told, is_finished, is_own_before, may_come, without}
+use Rattle.reg_records.proofs.Search.{none_legal, always_before}
 use Rattle.reg_process.proofs.Deliver.{any_found}
 
 abbrev pub ids_of : List Fact → List OpId
@@ -76,7 +78,8 @@ may fs m x xs A = and_from (is_told x.told (answer_of x.op m)) (not (list_any (i
     none false t = t
 
 -- the others are arranged after it
-rest : (fs : List Fact) (m : Memory) (x : Fact) (xs : List Fact) → IsArranged fs m (x ∷ xs) → IsArranged (without x.id fs) (after x.op m) xs
+rest : (fs : List Fact) (m : Memory) (x : Fact) (xs : List Fact) → IsArranged fs m (x ∷ xs)
+    → IsArranged (without x.id fs) (after x.op m) xs
 rest fs m x xs A = record {
   known = λ f i. kept_in (λ f. not (is_id f.id x.id)) f fs (A.known f (inr i)) (not_from (is_id f.id x.id) (other f i (is_id f.id x.id) refl));
   all = λ f i done.
@@ -101,7 +104,8 @@ or_right_of : (a b : Bool) → a ≡ true → (not a || b) ≡ true → b ≡ tr
 or_right_of true b e h = h
 or_right_of false b e h = absurd (false≢true e)
 
-pub none_arranged : (n : ℕ) (fs : List Fact) (m : Memory) (xs : List Fact) → none_legal n fs m ≡ true → IsArranged fs m xs → ⊥
+pub none_arranged : (n : ℕ) (fs : List Fact) (m : Memory) (xs : List Fact) → none_legal n fs m ≡ true
+    → IsArranged fs m xs → ⊥
 none_arranged zero fs m xs h A = false≢true h
 none_arranged (suc n) fs m xs h A = go xs A (λ gs m' ys. none_arranged n gs m' ys)
   where
@@ -115,7 +119,8 @@ none_arranged (suc n) fs m xs h A = go xs A (λ gs m' ys. none_arranged n gs m' 
         next (without x.id fs) (after x.op m) xs (or_right_of (may_come fs m x) (none_legal n (without x.id fs) (after x.op m)) (may fs m x xs A) here) (rest fs m x xs A)
 
 -- in an arrangement that the search allows, a does not stand before b
-pub never_before : (b a : OpId) (n : ℕ) (fs : List Fact) (m : Memory) (xs : List Fact) → always_before b a n fs m ≡ true → IsArranged fs m xs → (i j : ℕ) → IsAt (ids_of xs) i a → IsAt (ids_of xs) j b → i < j → ⊥
+pub never_before : (b a : OpId) (n : ℕ) (fs : List Fact) (m : Memory) (xs : List Fact) → always_before b a n fs m ≡ true
+    → IsArranged fs m xs → (i j : ℕ) → IsAt (ids_of xs) i a → IsAt (ids_of xs) j b → i < j → ⊥
 never_before b a zero fs m xs h A = λ i j at1 at2 less. false≢true h
 never_before b a (suc n) fs m xs h A = go xs A (λ gs m' ys. never_before b a n gs m' ys)
   where

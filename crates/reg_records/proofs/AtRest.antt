@@ -1,5 +1,6 @@
 -- A run is at no distance from rest exactly where nothing is pending.
-use Rattle.std.proofs.Common.{◌≡◌, ℕ, ◌+◌, ◌-◌, ◌*◌, ◌<◌, Bool, true, false, List, length, cond, refl, ap, ◌∙◌, inl, inr, arith, length-drop}
+use Rattle.std.proofs.Common.{◌≡◌, ℕ, ◌+◌, ◌-◌, ◌*◌, ◌<◌, Bool, true, false, List, length, cond, refl, ap, ◌∙◌, inl}
+use Rattle.std.proofs.Common.{inr, arith, length-drop}
 use Rattle.std.specs.Prelude.{◌==◌, ◌↔◌}
 use Rattle.std.specs.List.{count_by}
 use Rattle.std.proofs.lemmas.Bool.{cases_eq, cond-true, eq-eqb}
@@ -48,7 +49,8 @@ module _ (n registers k : ℕ) (w : Nodes) (I : Inv n registers k w) (none : All
       nothing : (a c m : ℕ) → a ≡ 0 → c ≡ 0 → a + c * m ≡ 0
       nothing a c m e f = let g : c * m ≡ 0 * m = ap (λ z. z * m) f in omega (arith, e, g)
 
-pub rests_at_none : (start : Op → ℕ → Start) (n registers : ℕ) (events : List Event) → AllAcknowledged n (whole start n registers events).nodes ↔ distance n (whole start n registers events).nodes ≡ 0
+pub rests_at_none : (start : Op → ℕ → Start) (n registers : ℕ) (events : List Event)
+    → AllAcknowledged n (whole start n registers events).nodes ↔ distance n (whole start n registers events).nodes ≡ 0
 rests_at_none start n registers events =
     let w = whole start n registers events in (
       λ none. at_rest n registers (length w.accepted) w.nodes (inv_of start n registers events) none,

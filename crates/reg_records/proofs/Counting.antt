@@ -1,10 +1,12 @@
-use Rattle.std.proofs.Common.{◌≡◌, ◌≢◌, ◌==◌, ◌<◌, ◌+◌, ℕ, List, length, get_or, set, take, ap, sym, ◌∙◌, get_or-set_same, get_or-set_other, inl, inr}
+use Rattle.std.proofs.Common.{◌≡◌, ◌≢◌, ◌==◌, ◌<◌, ◌+◌, ℕ, List, length, get_or, set, take, ap, sym, ◌∙◌}
+use Rattle.std.proofs.Common.{get_or-set_same, get_or-set_other, inl, inr}
 use Rattle.std.proofs.lemmas.Bool.Decides.{eqb_tells}
 use Rattle.std.proofs.lemmas.List.Sums.{count_by_more_yes, count_by_more_no}
 use Rattle.reg_records.specs.Records.{mentions}
 use Rattle.reg_records.specs.Playing.{AreTallied}
 
-pub tallied-bump : (counts order : List ℕ) (place q n : ℕ) → place < length order → q ≡ get_or order place 0 → q < length counts
+pub tallied-bump : (counts order : List ℕ) (place q n : ℕ) → place < length order → q ≡ get_or order place 0
+    → q < length counts
     → n ≡ get_or counts q 0 → AreTallied counts order place → (p : ℕ) → p < length counts → get_or (set counts q (n + 1)) p 0 ≡ mentions p (take (place + 1) order)
 tallied-bump counts order place q n here is in_counts old tallied p h =
     elim (eqb_tells (get_or order place 0) p) [

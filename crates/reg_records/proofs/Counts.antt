@@ -1,5 +1,6 @@
 -- Lists by how often they mention each process.
-use Rattle.std.proofs.Common.{◌≡◌, ◌⊎◌, inl, inr, ℕ, suc, ◌+◌, ◌<◌, ◌≤◌, Bool, cond, List, [], ◌∷◌, length, refl, ap, sym, ◌∙◌, arith}
+use Rattle.std.proofs.Common.{◌≡◌, ◌⊎◌, inl, inr, ℕ, suc, ◌+◌, ◌<◌, ◌≤◌, Bool, cond, List, [], ◌∷◌, length, refl, ap}
+use Rattle.std.proofs.Common.{sym, ◌∙◌, arith}
 use Rattle.std.specs.Prelude.{◌==◌}
 use Rattle.std.proofs.lemmas.Bool.{cases_eq, eq-eqb, ne_eqb}
 use Rattle.std.proofs.lemmas.List.Sums.{sum_by-cons}
@@ -58,7 +59,8 @@ no_longer (x ∷ xs) ys less =
     by r p (inr off) = let h = head_no p x xs off in let l = less p in let there = r.others p off in omega (arith, h, l, there)
 
 -- and it is shorter, if it mentions something less often
-pub shorter : (xs ys : List ℕ) (q : ℕ) → ((p : ℕ) → mentions p xs ≤ mentions p ys) → mentions q xs < mentions q ys → length xs < length ys
+pub shorter : (xs ys : List ℕ) (q : ℕ) → ((p : ℕ) → mentions p xs ≤ mentions p ys) → mentions q xs < mentions q ys
+    → length xs < length ys
 shorter xs ys q less fewer = no_longer (q ∷ xs) ys (λ p. by p (cases_eq q p))
   where
     by : (p : ℕ) → (q ≡ p) ⊎ (q ≡ p → ⊥) → mentions p (q ∷ xs) ≤ mentions p ys

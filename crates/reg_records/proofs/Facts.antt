@@ -1,5 +1,6 @@
 -- The operations of a history, each with its answer; a serial order of the history arranges them.
-use Rattle.std.proofs.Common.{◌≡◌, ℕ, zero, suc, true, List, [], ◌∷◌, take, replicate, Option, Some, None, refl, sym, ap, ◌∙◌, subst, inl, inr}
+use Rattle.std.proofs.Common.{◌≡◌, ℕ, zero, suc, true, List, [], ◌∷◌, take, replicate, Option, Some, None, refl, sym}
+use Rattle.std.proofs.Common.{ap, ◌∙◌, subst, inl, inr}
 use Rattle.std.specs.Prelude.{cond}
 use Rattle.std.specs.List.{AllZip}
 use Rattle.std.proofs.lemmas.Bool.{cond_both, false≢true}
@@ -42,20 +43,23 @@ answer_found id (Answered at other x ∷ h) y e =
     (λ same q. (at, (0, (λ i. Some (Answered at (is_id_same other id same i) (same_Some x y q i))))))
     (λ _ q. let r = answer_found id h y q in (r.0, (suc r.1.0, r.1.1))) e
 
-fact_called : (h es : List Entry) (f : Fact) → In f (facts_in h es) → ((at : ℕ) × IsCalled es f.id at f.op) × (f.told ≡ answer_for f.id h)
+fact_called : (h es : List Entry) (f : Fact) → In f (facts_in h es)
+    → ((at : ℕ) × IsCalled es f.id at f.op) × (f.told ≡ answer_for f.id h)
 fact_called h [] f i = absurd i
 fact_called h (Called at id op ∷ es) f (inl e) = ((at, (0, (λ i. Some (Called at ((sym e i).id) ((sym e i).op))))), ap (λ (z : Fact). z.told) e ∙ ap (λ (z : Fact). answer_for z.id h) (sym e))
 fact_called h (Called at id op ∷ es) f (inr i) = let r = fact_called h es f i in ((r.0.0, (suc r.0.1.0, r.0.1.1)), r.1)
 fact_called h (Answered at id x ∷ es) f i = let r = fact_called h es f i in ((r.0.0, (suc r.0.1.0, r.0.1.1)), r.1)
 
-called_fact : (h es : List Entry) (k at : ℕ) (id : OpId) (op : Op) → IsAt es k (Called at id op) → In (fact h id op) (facts_in h es)
+called_fact : (h es : List Entry) (k at : ℕ) (id : OpId) (op : Op) → IsAt es k (Called at id op)
+    → In (fact h id op) (facts_in h es)
 called_fact h [] k at id op here = absurd (none-some (Called at id op) here)
 called_fact h (Called t i o ∷ es) zero at id op here = inl (first (same_Some (Called t i o) (Called at id op) here))
   where
     first : Called t i o ≡ Called at id op → fact h id op ≡ fact h i o
     first e = cc
 called_fact h (Called t i o ∷ es) (suc k) at id op here = inr (called_fact h es k at id op here)
-called_fact h (Answered t i x ∷ es) zero at id op here = absurd (other (same_Some (Answered t i x) (Called at id op) here))
+called_fact h (Answered t i x ∷ es) zero at id op here =
+    absurd (other (same_Some (Answered t i x) (Called at id op) here))
   where
     other : Answered t i x ≡ Called at id op → ⊥
     other e = cc
@@ -94,7 +98,9 @@ module _ (h : List Entry) where
   )
 
 -- a serial order of a history arranges its operations
-pub arranged : (n registers : ℕ) (h : List Entry) → IsHistory n registers h → (ids : List OpId) → (serial : IsSerial registers h ids) → (xs : List Fact) × (ids_of xs ≡ ids) × IsArranged (facts_in h h) (replicate registers 0) xs
+pub arranged : (n registers : ℕ) (h : List Entry) → IsHistory n registers h → (ids : List OpId)
+    → (serial : IsSerial registers h ids)
+    → (xs : List Fact) × (ids_of xs ≡ ids) × IsArranged (facts_in h h) (replicate registers 0) xs
 arranged n registers h good ids serial =
     let legal = serial.legal in
     let xs = facts_of h ids legal.ops in

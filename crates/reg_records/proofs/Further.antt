@@ -1,6 +1,7 @@
 -- How far runs go: what may go now may still go after others went.
 use Rattle.std.proofs.Math.Seq.{take-length}
-use Rattle.std.proofs.Common.{◌≡◌, ◌⊎◌, inl, inr, ℕ, zero, suc, ◌<◌, ◌≤◌, List, length, take, Bool, true, not, Some, None, ap, sym, ◌∙◌, subst, arith}
+use Rattle.std.proofs.Common.{◌≡◌, ◌⊎◌, inl, inr, ℕ, zero, suc, ◌<◌, ◌≤◌, List, length, take, Bool, true, not, Some}
+use Rattle.std.proofs.Common.{None, ap, sym, ◌∙◌, subst, arith}
 use Rattle.std.specs.Prelude.{◌==◌, ◌&&◌, cond, nat_lt, slice_get}
 use Rattle.std.specs.Option.{is_some}
 use Rattle.std.proofs.lemmas.Bool.{cases_eq, lt-ltb}
@@ -31,7 +32,8 @@ use Rattle.reg_records.specs.Placing.{NoEntry}
 
 -- a step that one of two worlds accepts is accepted by the other, if its process is the same there and the event is one
 -- of that step
-step_there : (n registers : ℕ) (x y : Nodes) (q : ℕ) (made : Step) (e f : Event) → (x q).state ≡ (y q).state → step_of n registers y f ≡ Some (q, made) → IsEventOf x q made e → step_of n registers x e ≡ Some (q, made)
+step_there : (n registers : ℕ) (x y : Nodes) (q : ℕ) (made : Step) (e f : Event) → (x q).state ≡ (y q).state
+    → step_of n registers y f ≡ Some (q, made) → IsEventOf x q made e → step_of n registers x e ≡ Some (q, made)
 step_there n registers x y q (Call op) e f same moves is =
     ap (step_of n registers x) is
     ∙ (ap (λ (s : State). cond (nat_lt q n && (not (is_some s.running) && (nat_lt (register_of op) registers && nat_lt s.calls MOST_OPERATIONS))) (Some (q, Call op)) None) same
@@ -48,7 +50,8 @@ step_there n registers x y q Tick e f same moves is =
     ap (step_of n registers x) is ∙ (sym (ap (step_of n registers y) (event_moves n registers y q Tick f moves)) ∙ moves)
 
 -- and so is an entry
-entry_there : (start : Op → ℕ → Start) (u v : Made) (q : ℕ) (entry : LogEntry) (e f : Event) → u.processes ≡ v.processes → u.registers ≡ v.registers → length (run_in start u).accepted < MOST_EVENTS
+entry_there : (start : Op → ℕ → Start) (u v : Made) (q : ℕ) (entry : LogEntry) (e f : Event) → u.processes ≡ v.processes
+    → u.registers ≡ v.registers → length (run_in start u).accepted < MOST_EVENTS
     → ((run_in start u).nodes q).state ≡ ((run_in start v).nodes q).state → move_of v.processes v.registers (run_in start v) f ≡ Some (q, entry.step) → reply_in start v f ≡ entry.reply
     → IsEventOf (run_in start u).nodes q entry.step e → IsEntry start u q entry e
 entry_there start u v q entry e f processes registers room same moves reply is = record { move = move; reply = told }
@@ -69,7 +72,9 @@ entry_there start u v q entry e f processes registers room same moves reply is =
         ∙ (ap (λ (s : State). (step start s entry.step).1.reply) same ∙ (sym (ap (reply_of_move start (run_in start v)) moves) ∙ reply))
 
 -- one mention more, where there are no more mentions of a process than so many, and at that many none of it
-turn_within : (start : Op → ℕ → Start) (logs : List (List LogEntry)) (order : List ℕ) (k p most : ℕ) (old new : Made) → (t : Turn start order logs k old new) → mentions p (take k order) ≤ most → (t.process ≡ p → mentions p (take k order) ≡ most → ⊥)
+turn_within : (start : Op → ℕ → Start) (logs : List (List LogEntry)) (order : List ℕ) (k p most : ℕ) (old new : Made)
+    → (t : Turn start order logs k old new) → mentions p (take k order) ≤ most
+    → (t.process ≡ p → mentions p (take k order) ≡ most → ⊥)
     → mentions p (take (suc k) order) ≤ most
 turn_within start logs order k p most old new t le off = by (cases_eq t.process p)
   where

@@ -1,5 +1,6 @@
 -- What the search tells of the serial orders of a history, and that an overtaken operation leaves no room for points.
-use Rattle.std.proofs.Common.{◌≡◌, ℕ, suc, ◌<◌, ◌⊎◌, inl, inr, true, false, List, length, map, replicate, sym, ap, ◌∙◌, subst, arith}
+use Rattle.std.proofs.Common.{◌≡◌, ℕ, suc, ◌<◌, ◌⊎◌, inl, inr, true, false, List, length, map, replicate, sym, ap, ◌∙◌}
+use Rattle.std.proofs.Common.{subst, arith}
 use Rattle.std.specs.Prelude.{slice_get}
 use Rattle.std.proofs.lemmas.Bool.{cases_order, false≢true}
 use Rattle.std.proofs.lemmas.Option.{same_Some}
@@ -21,11 +22,14 @@ use Rattle.reg_records.proofs.Arranged.{same_is_id, never_before}
 use Rattle.reg_records.proofs.Facts.{facts_in, arranged}
 
 -- the history of a run is in place
-pub given_in_place : (start : Op → ℕ → Start) (n registers : ℕ) (events : List Event) (h : List Entry) → KeepsLaws start → Gives start n registers events h → IsHistory n registers h
-given_in_place start n registers events h laws gives = subst (IsHistory n registers) gives.history (in_place start n registers laws events)
+pub given_in_place : (start : Op → ℕ → Start) (n registers : ℕ) (events : List Event) (h : List Entry) → KeepsLaws start
+    → Gives start n registers events h → IsHistory n registers h
+given_in_place start n registers events h laws gives =
+    subst (IsHistory n registers) gives.history (in_place start n registers laws events)
 
 -- every serial order has b before a
-pub always : (n registers : ℕ) (h : List Entry) → IsHistory n registers h → (b a : OpId) → is_id b a ≡ false → always_before b a (suc (length (facts_in h h))) (facts_in h h) (replicate registers 0) ≡ true
+pub always : (n registers : ℕ) (h : List Entry) → IsHistory n registers h → (b a : OpId) → is_id b a ≡ false
+    → always_before b a (suc (length (facts_in h h))) (facts_in h h) (replicate registers 0) ≡ true
     → (ids : List OpId) → IsSerial registers h ids → (i j : ℕ) → IsAt ids i b → IsAt ids j a → i < j
 always n registers h good b a apart found ids serial i j at1 at2 = go (cases_order i j)
   where
@@ -37,7 +41,8 @@ always n registers h good b a apart found ids serial i j at1 at2 = go (cases_ord
         absurd (never_before b a (suc (length (facts_in h h))) (facts_in h h) (replicate registers 0) xs.0 found xs.2 j i (subst (λ (l : List OpId). IsAt l j a) (sym xs.1) at2) (subst (λ (l : List OpId). IsAt l i b) (sym xs.1) at1) more)
 
 -- no point order has both in their real time and in that order
-pub no_points : (n registers : ℕ) (h : List Entry) (a b : OpId) → IsHistory n registers h → Overtakes registers h b a → (points : List Point) → IsPointOrder registers h points → ⊥
+pub no_points : (n registers : ℕ) (h : List Entry) (a b : OpId) → IsHistory n registers h → Overtakes registers h b a
+    → (points : List Point) → IsPointOrder registers h points → ⊥
 no_points n registers h a b good over points order =
     let e = over.earlier in
     let i = order.selection.finished b over.finished in

@@ -1,5 +1,6 @@
 -- What a process does in a run is decided by its own steps.
-use Rattle.std.proofs.Common.{◌≡◌, ℕ, ◌-◌, Bool, true, false, List, [], ◌∷◌, ◌++◌, map, Option, Some, None, refl, sym, ap, ◌∙◌, append_assoc}
+use Rattle.std.proofs.Common.{◌≡◌, ℕ, ◌-◌, Bool, true, false, List, [], ◌∷◌, ◌++◌, map, Option, Some, None, refl, sym}
+use Rattle.std.proofs.Common.{ap, ◌∙◌, append_assoc}
 use Rattle.std.specs.Prelude.{◌==◌, cond}
 use Rattle.std.proofs.lemmas.Bool.{eqb-true}
 use Rattle.std.proofs.lemmas.List.{append-nil}
@@ -14,7 +15,8 @@ use Rattle.reg_process.specs.Process.{State, Outcome, step}
 use Rattle.reg_world.specs.Nodes.{Node, op_in, after_step}
 use Rattle.reg_world.specs.NodeParts.{nodes_after}
 use Rattle.reg_world.specs.World.{World, move_of, happens, run, empty_world, whole}
-use Rattle.reg_world.proofs.run.Traced.{Called, Answered, Past, Trace, called_in, answered_in, past_after, pasts_after, traced}
+use Rattle.reg_world.proofs.run.Traced.{Called, Answered, Past, Trace, called_in, answered_in, past_after, pasts_after}
+use Rattle.reg_world.proofs.run.Traced.{traced}
 use Rattle.reg_world.proofs.run.Along.{traced_more}
 use Rattle.reg_world.proofs.lists.Members.{map_append, from_end}
 use Rattle.reg_records.specs.Steps.{step_in, steps_from, steps_of}
@@ -54,20 +56,25 @@ abbrev pub lives : (Op → ℕ → Start) → Life → List Step → Life
 lives start x [] = x
 lives start x (e ∷ es) = lives start (life_after start x e) es
 
-lives_on : (start : Op → ℕ → Start) (x : Life) (es more : List Step) → lives start x (es ++ more) ≡ lives start (lives start x es) more
+lives_on : (start : Op → ℕ → Start) (x : Life) (es more : List Step)
+    → lives start x (es ++ more) ≡ lives start (lives start x es) more
 lives_on start x [] more = refl
 lives_on start x (e ∷ es) more = lives_on start (life_after start x e) es more
 
-asked_when : (at : ℕ) (e : Step) (cast : Option Stamp) → map asked (called_in at e cast) ≡ map asked (called_in 0 e cast)
+asked_when : (at : ℕ) (e : Step) (cast : Option Stamp)
+    → map asked (called_in at e cast) ≡ map asked (called_in 0 e cast)
 asked_when at (Call op) cast = refl
 asked_when at (Take from frame) cast = refl
 asked_when at Tick cast = refl
 
-told_when : (at number : ℕ) (op : Op) (reply : Option Reply) → map told (answered_in at number op reply) ≡ map told (answered_in 0 number op reply)
+told_when : (at number : ℕ) (op : Op) (reply : Option Reply)
+    → map told (answered_in at number op reply) ≡ map told (answered_in 0 number op reply)
 told_when at number op None = refl
 told_when at number op (Some reply) = refl
 
-life_more : (start : Op → ℕ → Start) (at : ℕ) (x : Node) (h : Past) (e : Step) → life_of (after_step start x e) (past_after at x.state h e (step start x.state e)) ≡ life_after start (life_of x h) e
+life_more : (start : Op → ℕ → Start) (at : ℕ) (x : Node) (h : Past) (e : Step)
+    → life_of (after_step start x e) (past_after at x.state h e (step start x.state e))
+    ≡ life_after start (life_of x h) e
 life_more start at x h e =
     let r : State × Outcome = step start x.state e in
     let calls : map asked (h.calls ++ called_in at e r.1.cast) ≡ map asked h.calls ++ map asked (called_in 0 e r.1.cast) =
@@ -80,7 +87,8 @@ abbrev pub life_in : Trace → ℕ → Life
 life_in v p = life_of (v.nodes p) (v.pasts p)
 
 -- one move of a run is one step of the life of its process, and none of another's
-life_moved : (start : Op → ℕ → Start) (v : Trace) (m : Option (ℕ × Step)) (p : ℕ) → life_of (nodes_after start v.nodes m p) (pasts_after start v m p) ≡ lives start (life_in v p) (step_in p m)
+life_moved : (start : Op → ℕ → Start) (v : Trace) (m : Option (ℕ × Step)) (p : ℕ)
+    → life_of (nodes_after start v.nodes m p) (pasts_after start v m p) ≡ lives start (life_in v p) (step_in p m)
 life_moved start v None p = refl
 life_moved start v (Some m) p = go (p == m.0) (λ e. eqb-true p m.0 e)
   where
@@ -94,14 +102,18 @@ life_moved start v (Some m) p = go (p == m.0) (λ e. eqb-true p m.0 e)
     go true is = life_more start v.count (v.nodes m.0) (v.pasts m.0) m.1 ∙ ap (λ q. life_after start (life_in v q) m.1) (sym (is refl))
     go false is = refl
 
-pub steps_more : (start : Op → ℕ → Start) (n registers p : ℕ) (es : List Event) (e : Event) (w : World) → steps_from start n registers p (es ++ e ∷ []) w ≡ steps_from start n registers p es w ++ step_in p (move_of n registers (run start n registers es w) e)
+pub steps_more : (start : Op → ℕ → Start) (n registers p : ℕ) (es : List Event) (e : Event) (w : World)
+    → steps_from start n registers p (es ++ e ∷ []) w
+    ≡ steps_from start n registers p es w ++ step_in p (move_of n registers (run start n registers es w) e)
 steps_more start n registers p [] e w = append-nil (step_in p (move_of n registers w e))
 steps_more start n registers p (x ∷ es) e w =
     ap (λ l. step_in p (move_of n registers w x) ++ l) (steps_more start n registers p es e (happens start n registers w x))
     ∙ sym (append_assoc (step_in p (move_of n registers w x)) (steps_from start n registers p es (happens start n registers w x)) _)
 
 -- the life of a process in a run is that of its steps
-pub life_is : (start : Op → ℕ → Start) (n registers : ℕ) (events : List Event) (p : ℕ) → life_in (traced start n registers events) p ≡ lives start (life_in (traced start n registers []) p) (steps_of start n registers events p)
+pub life_is : (start : Op → ℕ → Start) (n registers : ℕ) (events : List Event) (p : ℕ)
+    → life_in (traced start n registers events) p
+    ≡ lives start (life_in (traced start n registers []) p) (steps_of start n registers events p)
 life_is start n registers events p = from_end (λ es. life_in (traced start n registers es) p ≡ lives start (life_in (traced start n registers []) p) (steps_of start n registers es p)) refl
     (λ es e h.
     let v = traced start n registers es in

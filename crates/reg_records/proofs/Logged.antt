@@ -1,5 +1,6 @@
 -- Logs decide the steps of their processes, whatever the order of their entries.
-use Rattle.std.proofs.Common.{◌≡◌, ℕ, zero, suc, ◌+◌, ◌<◌, true, false, List, [], ◌∷◌, ◌++◌, length, map, take, get_or, Some, None, refl, sym, ap, ◌∙◌, subst, inl, inr, arith}
+use Rattle.std.proofs.Common.{◌≡◌, ℕ, zero, suc, ◌+◌, ◌<◌, true, false, List, [], ◌∷◌, ◌++◌, length, map, take, get_or}
+use Rattle.std.proofs.Common.{Some, None, refl, sym, ap, ◌∙◌, subst, inl, inr, arith}
 use Rattle.std.specs.Prelude.{◌==◌, cond}
 use Rattle.std.proofs.lemmas.Bool.{eq-eqb, ne_eqb}
 use Rattle.std.proofs.lemmas.Bool.Decides.{eqb_tells}
@@ -33,18 +34,21 @@ log_of (log ∷ logs) (suc p) = log_of logs p
 no_entry : (k : ℕ) (e : LogEntry) → IsAt [] k e → ⊥
 no_entry k e h = cc
 
-entry_at : (logs : List (List LogEntry)) (p k : ℕ) (e : LogEntry) → entry_of logs p k ≡ Some e → IsAt (log_of logs p) k e
+entry_at : (logs : List (List LogEntry)) (p k : ℕ) (e : LogEntry) → entry_of logs p k ≡ Some e
+    → IsAt (log_of logs p) k e
 entry_at [] p k e h = absurd (none-some e h)
 entry_at (log ∷ logs) zero k e h = h
 entry_at (log ∷ logs) (suc p) k e h = entry_at logs p k e h
 
-no_entry_at : (logs : List (List LogEntry)) (p k : ℕ) → (p < length logs → entry_of logs p k ≡ None) → (e : LogEntry) → IsAt (log_of logs p) k e → ⊥
+no_entry_at : (logs : List (List LogEntry)) (p k : ℕ) → (p < length logs → entry_of logs p k ≡ None) → (e : LogEntry)
+    → IsAt (log_of logs p) k e → ⊥
 no_entry_at [] p k none e h = no_entry k e h
 no_entry_at (log ∷ logs) zero k none e h = none-some e (sym (none (omega arith)) ∙ h)
 no_entry_at (log ∷ logs) (suc p) k none e h = no_entry_at logs p k (λ l. none (omega (arith, l))) e h
 
 -- one more step of a log
-map_step_more : (log : List LogEntry) (k : ℕ) (e : LogEntry) → IsAt log k e → map (λ x. x.step) (take (suc k) log) ≡ map (λ x. x.step) (take k log) ++ e.step ∷ []
+map_step_more : (log : List LogEntry) (k : ℕ) (e : LogEntry) → IsAt log k e
+    → map (λ x. x.step) (take (suc k) log) ≡ map (λ x. x.step) (take k log) ++ e.step ∷ []
 map_step_more [] k e h = absurd (no_entry k e h)
 map_step_more (x ∷ log) zero e h = ap (λ (y : LogEntry). y.step ∷ []) (same x e h)
   where
@@ -113,7 +117,8 @@ module _ (start : Op → ℕ → Start) (shape : Extent) (order : List ℕ) (log
       ∙ (ap (λ l. l ++ step_in p (Some (turn.process, turn.entry.step))) (plays_steps k before plays p) ∙ one_more k before w turn p)))
 
   -- in a faithful record each process makes the steps of its log, all of them
-  pub faithful_steps : (w : Made) → IsFaithful start shape order logs w → (p : ℕ) → steps_of start shape.processes shape.registers w.accepted p ≡ map (λ x. x.step) (log_of logs p)
+  pub faithful_steps : (w : Made) → IsFaithful start shape order logs w → (p : ℕ)
+      → steps_of start shape.processes shape.registers w.accepted p ≡ map (λ x. x.step) (log_of logs p)
   unfolding Steps
   faithful_steps w faithful p =
       let shapes = plays_shape (length order) w faithful.plays in
@@ -123,7 +128,11 @@ module _ (start : Op → ℕ → Start) (shape : Extent) (order : List ℕ) (log
       ∙ ap (map (λ x. x.step)) (ap (λ m. take m (log_of logs p)) last ∙ take_all (log_of logs p) (mentions p order) (no_entry_at logs p (mentions p order) (faithful.all p))))
 
 -- the runs of the same logs, in whatever orders, have one witness
-pub one_witness_of_logs : (start : Op → ℕ → Start) (shape : Extent) (logs : List (List LogEntry)) (order other : List ℕ) (u v : Made) (ids others : List OpId) → KeepsLaws start → IsFaithful start shape order logs u → IsFaithful start shape other logs v → IsWitness (run_of u.registers (run_in start u)) ids → IsWitness (run_of v.registers (run_in start v)) others → ids ≡ others
+pub one_witness_of_logs : (start : Op → ℕ → Start) (shape : Extent) (logs : List (List LogEntry)) (order other : List ℕ)
+    (u v : Made) (ids others : List OpId)
+    → KeepsLaws start → IsFaithful start shape order logs u → IsFaithful start shape other logs v
+    → IsWitness (run_of u.registers (run_in start u)) ids → IsWitness (run_of v.registers (run_in start v)) others
+    → ids ≡ others
 one_witness_of_logs start shape logs order other u v ids others laws one two here there =
     let a = plays_shape start shape order logs (length order) u one.plays in
     let b = plays_shape start shape other logs (length other) v two.plays in

@@ -1,5 +1,6 @@
 -- What an accepted event does to the world.
-use Rattle.std.proofs.Common.{◌≡◌, ℕ, ◌<◌, ◌≤◌, Bool, true, false, [], ◌∷◌, ◌++◌, length, Option, Some, None, refl, sym, ap, ◌∙◌, subst, arith, length-append}
+use Rattle.std.proofs.Common.{◌≡◌, ℕ, ◌<◌, ◌≤◌, Bool, true, false, [], ◌∷◌, ◌++◌, length, Option, Some, None, refl, sym}
+use Rattle.std.proofs.Common.{ap, ◌∙◌, subst, arith, length-append}
 use Rattle.std.specs.Prelude.{cond, ◌==◌, ◌&&◌, not, nat_lt, slice_get}
 use Rattle.std.proofs.lemmas.Bool.{lt-ltb, ne_eqb, cond-true}
 use Rattle.reg_base.specs.declared.limits.TheConstants.{MOST_EVENTS}
@@ -27,21 +28,26 @@ pub record Stepped (start : Op → ℕ → Start) (old : Made) (e : Event) (m : 
   pub moves : Moves start old new
   pub accepted : new.accepted ≡ old.accepted ++ e ∷ []
 
-has_room : (failed few : Bool) (o : Option WorldFault) → cond failed (Some Failed) (cond few o (Some TooManyEvents)) ≡ None → few ≡ true
+has_room : (failed few : Bool) (o : Option WorldFault)
+    → cond failed (Some Failed) (cond few o (Some TooManyEvents)) ≡ None → few ≡ true
 has_room true few o h = absurd (cc)
 has_room false true o h = refl
 has_room false false o h = absurd (cc)
 
 -- no frame leaves its wire
-wires_grow : (start : Op → ℕ → Start) (w : Nodes) (m : ℕ × Step) (a b : ℕ) → put_for w a b ≤ put_for (put w m.0 (after_step start (w m.0) m.1)) a b
-wires_grow start w m a b = put_cases (λ (z : Node). put_for w a b ≤ length (z.wire b)) w m.0 (after_step start (w m.0) m.1) a
+wires_grow : (start : Op → ℕ → Start) (w : Nodes) (m : ℕ × Step) (a b : ℕ)
+    → put_for w a b ≤ put_for (put w m.0 (after_step start (w m.0) m.1)) a b
+wires_grow start w m a b =
+    put_cases (λ (z : Node). put_for w a b ≤ length (z.wire b)) w m.0 (after_step start (w m.0) m.1) a
     (λ e.
     let x = length-append ((w m.0).wire b) ((step start (w m.0).state m.1).1.frames b) in
     let y = ap (λ z. put_for w z b) e in
     omega (arith, x, y))
     (λ _. omega arith)
 
-pub stepped : (start : Op → ℕ → Start) (old new : Made) (e : Event) (m : ℕ × Step) → IsGoingOn start old → Accepts start old e new → step_of old.processes old.registers (nodes_in start old) e ≡ Some m → Stepped start old e m new
+pub stepped : (start : Op → ℕ → Start) (old new : Made) (e : Event) (m : ℕ × Step) → IsGoingOn start old
+    → Accepts start old e new → step_of old.processes old.registers (nodes_in start old) e ≡ Some m
+    → Stepped start old e m new
 stepped start old new e m G A is =
     let w = run_in start old in
     let n = old.processes in
@@ -66,10 +72,12 @@ stepped start old new e m G A is =
 pub ticks : (n registers : ℕ) (w : Nodes) (p : ℕ) → p < n → step_of n registers w (Tick p) ≡ Some (p, TickStep)
 ticks n registers w p l = cond-true (nat_lt p n) (Some (p, TickStep)) None (lt-ltb p n l)
 
-take_tests : (a b c : Bool) (o : Option (ℕ × Step)) → a ≡ true → b ≡ true → c ≡ false → cond (a && (b && not c)) o None ≡ o
+take_tests : (a b c : Bool) (o : Option (ℕ × Step)) → a ≡ true → b ≡ true → c ≡ false
+    → cond (a && (b && not c)) o None ≡ o
 take_tests a b c o e f g = rw (e, f, g) refl
 
-pub takes : (n registers : ℕ) (w : Nodes) (a p number : ℕ) (f : Frame) → a < n → p < n → (a ≡ p → ⊥) → slice_get ((w a).wire p) number ≡ Some f → step_of n registers w (Take a p number) ≡ Some (p, TakeStep a f)
+pub takes : (n registers : ℕ) (w : Nodes) (a p number : ℕ) (f : Frame) → a < n → p < n → (a ≡ p → ⊥)
+    → slice_get ((w a).wire p) number ≡ Some f → step_of n registers w (Take a p number) ≡ Some (p, TakeStep a f)
 takes n registers w a p number f la lp ne at =
     take_tests (nat_lt a n) (nat_lt p n) (a == p) (take_step a p (slice_get ((w a).wire p) number)) (lt-ltb a n la) (lt-ltb p n lp) (ne_eqb a p ne)
     ∙ ap (take_step a p) at

@@ -43,7 +43,8 @@ module _ (n p : ℕ) (w : Nodes) (y : Node) (l : p < n) (Q : QueuesNoCast (w p) 
       ∙ ap (λ c. pending_of y.state.peers + c * (n - 1)) (casts_same p y)
 
   -- what the process has less to have acknowledged, the run is nearer to rest
-  pub nearer_by : (fall : ℕ) → pending_of y.state.peers + casts_for n w p y * (n - 1) + fall ≡ left_at n w p → distance n (put w p y) + fall ≡ distance n w
+  pub nearer_by : (fall : ℕ) → pending_of y.state.peers + casts_for n w p y * (n - 1) + fall ≡ left_at n w p
+      → distance n (put w p y) + fall ≡ distance n w
   nearer_by fall h =
       let t = total_one n p (left_at n (put w p y)) (left_at n w) l (λ q _ ne. left_other q ne) in
       sums (distance n (put w p y)) (distance n w) (left_at n (put w p y) p) (left_at n w p) (pending_of y.state.peers + casts_for n w p y * (n - 1)) fall t left_own h
@@ -52,7 +53,9 @@ module _ (n p : ℕ) (w : Nodes) (y : Node) (l : p < n) (Q : QueuesNoCast (w p) 
       sums a b c d e fall t o h = omega (arith, t, o, h)
 
 -- where it accepts nothing
-pub casts_kept : (n p : ℕ) (w : Nodes) (y : Node) → ((q : ℕ) → q < n → (q ≡ p → ⊥) → (peer_at y.state q).expected ≡ (peer_at (w p).state q).expected) → casts_for n w p y ≡ casts_to n w p
+pub casts_kept : (n p : ℕ) (w : Nodes) (y : Node)
+    → ((q : ℕ) → q < n → (q ≡ p → ⊥) → (peer_at y.state q).expected ≡ (peer_at (w p).state q).expected)
+    → casts_for n w p y ≡ casts_to n w p
 casts_kept n p w y h = total_same n (λ q. cond (q == p) 0 (count_by is_cast (drop (peer_at y.state q).expected (w q).queued))) (λ q. cond (q == p) 0 (casts_between w q p))
     (λ q l. elim (cases_eq q p) [
       | inl e ↦ cond-true (q == p) 0 _ (eq-eqb q p e) ∙ sym (cond-true (q == p) 0 _ (eq-eqb q p e))
@@ -60,7 +63,10 @@ casts_kept n p w y h = total_same n (λ q. cond (q == p) 0 (count_by is_cast (dr
     ])
 
 -- and where it accepts something of one process alone
-pub casts_fewer : (n p a : ℕ) (w : Nodes) (y : Node) → a < n → (a ≡ p → ⊥) → ((q : ℕ) → q < n → (q ≡ a → ⊥) → (peer_at y.state q).expected ≡ (peer_at (w p).state q).expected) → casts_for n w p y + casts_between w a p ≡ casts_to n w p + count_by is_cast (drop (peer_at y.state a).expected (w a).queued)
+pub casts_fewer : (n p a : ℕ) (w : Nodes) (y : Node) → a < n → (a ≡ p → ⊥)
+    → ((q : ℕ) → q < n → (q ≡ a → ⊥) → (peer_at y.state q).expected ≡ (peer_at (w p).state q).expected)
+    → casts_for n w p y + casts_between w a p
+    ≡ casts_to n w p + count_by is_cast (drop (peer_at y.state a).expected (w a).queued)
 casts_fewer n p a w y la ne h =
     let f : ℕ → ℕ = λ q. cond (q == p) 0 (count_by is_cast (drop (peer_at y.state q).expected (w q).queued)) in
     let g : ℕ → ℕ = λ q. cond (q == p) 0 (casts_between w q p) in

@@ -1,5 +1,6 @@
 -- Runs in which each process makes the same steps have one witness.
-use Rattle.std.proofs.Common.{◌≡◌, ℕ, zero, suc, ◌<◌, List, [], ◌∷◌, ◌++◌, length, map, Some, refl, sym, ap, ◌∙◌, subst, inl, inr, arith, length-append}
+use Rattle.std.proofs.Common.{◌≡◌, ℕ, zero, suc, ◌<◌, List, [], ◌∷◌, ◌++◌, length, map, Some, refl, sym, ap, ◌∙◌, subst}
+use Rattle.std.proofs.Common.{inl, inr, arith, length-append}
 use Rattle.std.specs.Prelude.{slice_get}
 use Rattle.std.proofs.lemmas.List.{append-nil, length-map}
 use Rattle.std.proofs.lemmas.Option.{same_Some}
@@ -122,7 +123,9 @@ module _ (start : Op → ℕ → Start) (n registers : ℕ) (laws : KeepsLaws st
       omega (arith, less, none))
 
 -- the same casts stand in the order of both
-same_order : (start : Op → ℕ → Start) (n registers : ℕ) → KeepsLaws start → (a b : List Event) → HaveSameSteps start n registers a b → map delivered_of (whole start n registers a).order ≡ map delivered_of (whole start n registers b).order
+same_order : (start : Op → ℕ → Start) (n registers : ℕ) → KeepsLaws start → (a b : List Event)
+    → HaveSameSteps start n registers a b
+    → map delivered_of (whole start n registers a).order ≡ map delivered_of (whole start n registers b).order
 same_order start n registers laws a b same = go n refl
   where
     back : HaveSameSteps start n registers b a
@@ -135,7 +138,9 @@ same_order start n registers laws a b same = go n refl
         (order_within start n registers laws a b same (omega (arith, e))) (order_within start n registers laws b a back (omega (arith, e)))
 
 -- a cast that stands in the order of one stands at its place in that of the other
-first_in : (start : Op → ℕ → Start) (n registers : ℕ) (laws : KeepsLaws start) (a b : List Event) → HaveSameSteps start n registers a b → (k : ℕ) (f : First) → IsAt (whole start n registers a).order k f → (g : First) × IsAt (whole start n registers b).order k g × (g.id ≡ f.id) × (g.op ≡ f.op)
+first_in : (start : Op → ℕ → Start) (n registers : ℕ) (laws : KeepsLaws start) (a b : List Event)
+    → HaveSameSteps start n registers a b → (k : ℕ) (f : First) → IsAt (whole start n registers a).order k f
+    → (g : First) × IsAt (whole start n registers b).order k g × (g.id ≡ f.id) × (g.op ≡ f.op)
 first_in start n registers laws a b same k f at =
     let Wb = whole start n registers b in
     let there = IsAt-map delivered_of (whole start n registers a).order k f at in
@@ -145,8 +150,12 @@ first_in start n registers laws a b same k f at =
     (g.0, g.1, id, ap (λ (d : Delivery). d.op) g.2)
 
 -- what has a key in one has it in the other
-key_in : (start : Op → ℕ → Start) (n registers : ℕ) (laws : KeepsLaws start) (a b : List Event) → HaveSameSteps start n registers a b → (id : OpId) (k : Key) → HasKey (run_of registers (whole start n registers a)) id k → HasKey (run_of registers (whole start n registers b)) id k
-key_in start n registers laws a b same id k (Copied q at is e) = Copied q (read_in start n registers laws a b same q at) is e
+key_in : (start : Op → ℕ → Start) (n registers : ℕ) (laws : KeepsLaws start) (a b : List Event)
+    → HaveSameSteps start n registers a b → (id : OpId) (k : Key)
+    → HasKey (run_of registers (whole start n registers a)) id k
+    → HasKey (run_of registers (whole start n registers b)) id k
+key_in start n registers laws a b same id k (Copied q at is e) =
+    Copied q (read_in start n registers laws a b same q at) is e
 key_in start n registers laws a b same id k (Delivered place c at is kept e) =
     let g = first_in start n registers laws a b same place c at in
     Delivered place g.0 g.1 (g.2 ∙ is) (go g.0 g.2 g.3 kept) e
@@ -181,7 +190,8 @@ rest_rises : (x : Keyed) (w : List Keyed) → Rises (x ∷ w) → Rises w
 rest_rises x w rises i j y z at1 at2 less = rises (suc i) (suc j) y z at1 at2 (omega (arith, less))
 
 -- the first of one rising list is the first of another with the same members
-same_first : (x y : Keyed) (v w : List Keyed) → Rises (x ∷ v) → Rises (y ∷ w) → Within (x ∷ v) (y ∷ w) → Within (y ∷ w) (x ∷ v) → x ≡ y
+same_first : (x y : Keyed) (v w : List Keyed) → Rises (x ∷ v) → Rises (y ∷ w) → Within (x ∷ v) (y ∷ w)
+    → Within (y ∷ w) (x ∷ v) → x ≡ y
 same_first x y v w up1 up2 into back = go (into x 0 refl) (back y 0 refl)
   where
     go : ((j : ℕ) × IsAt (y ∷ w) j x) → ((i : ℕ) × IsAt (x ∷ v) i y) → x ≡ y
@@ -218,7 +228,10 @@ same_lists (x ∷ v) (y ∷ w) up1 up2 into back =
     (λ i. first i ∷ rest i)
 
 -- the witnesses of both are one list
-pub one_witness : (start : Op → ℕ → Start) (n registers : ℕ) (a b : List Event) (ids others : List OpId) → KeepsLaws start → HaveSameSteps start n registers a b → IsWitness (run_of registers (whole start n registers a)) ids → IsWitness (run_of registers (whole start n registers b)) others → ids ≡ others
+pub one_witness : (start : Op → ℕ → Start) (n registers : ℕ) (a b : List Event) (ids others : List OpId)
+    → KeepsLaws start → HaveSameSteps start n registers a b
+    → IsWitness (run_of registers (whole start n registers a)) ids
+    → IsWitness (run_of registers (whole start n registers b)) others → ids ≡ others
 one_witness start n registers a b ids others laws same (v, keyed, is) (w, keyed_too, is_too) =
     is ∙ (ap (map (λ (e : Keyed). e.id)) (same_lists v w keyed.rising keyed_too.rising
     (λ x i at. keyed_too.all x (key_in start n registers laws a b same x.id x.key (keyed.each i x at)))

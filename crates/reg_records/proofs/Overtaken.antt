@@ -7,7 +7,11 @@ use Rattle.reg_front.specs.Keeps.{local_read_keeps, local_write_keeps}
 use Rattle.reg_checkers.specs.History.{IsHistory}
 use Rattle.reg_world.specs.World.{op_id}
 use Rattle.reg_records.specs.Overtaking.{Overtakes}
-use Rattle.reg_records.specs.Runs.{stale_read, stale_read_history, stale_after_swap, stale_after_swap_history, stale_after_cas, stale_after_cas_history, new_then_old, new_then_old_history, new_then_old_at_once_history, unseen_write, unseen_write_history, overtaking_swap, overtaking_swap_history, overtaking_cas, overtaking_cas_history, overtaking_write, overtaking_write_history}
+use Rattle.reg_records.specs.Runs.{stale_read, stale_read_history, stale_after_swap, stale_after_swap_history}
+use Rattle.reg_records.specs.Runs.{stale_after_cas, stale_after_cas_history, new_then_old, new_then_old_history}
+use Rattle.reg_records.specs.Runs.{new_then_old_at_once_history, unseen_write, unseen_write_history, overtaking_swap}
+use Rattle.reg_records.specs.Runs.{overtaking_swap_history, overtaking_cas, overtaking_cas_history, overtaking_write}
+use Rattle.reg_records.specs.Runs.{overtaking_write_history}
 use Rattle.reg_records.proofs.Given.{given_in_place, always}
 
 pub stale_read_in_place : IsHistory 3 1 stale_read_history

@@ -12,10 +12,12 @@ use Rattle.reg_frames.specs.declared.bodies.Body.TheVariants.{Cast, Ack}
 use Rattle.reg_frames.specs.declared.bodies.Frame.{Frame}
 use Rattle.reg_frames.specs.declared.bodies.Frame.TheVariants.{Numbered, Got}
 use Rattle.reg_front.specs.declared.starts.Start.{Start}
-use Rattle.reg_front.specs.declared.starts.Start.TheVariants.{Cast as Casts, CastAndAnswer as CastsAndAnswers, Look as Looks, Hold as Holds}
+use Rattle.reg_front.specs.declared.starts.Start.TheVariants.{Cast as Casts, CastAndAnswer as CastsAndAnswers}
+use Rattle.reg_front.specs.declared.starts.Start.TheVariants.{Look as Looks, Hold as Holds}
 use Rattle.reg_process.specs.declared.steps.Step.{Step}
 use Rattle.reg_process.specs.declared.steps.Step.TheVariants.{Call as CallStep, Take as TakeStep, Tick as TickStep}
-use Rattle.reg_process.specs.Process.{State, Peer, no_peer, peer_at, step, called, taken, accepted, quiet, got_frames, accepts, queue_from, unsettled}
+use Rattle.reg_process.specs.Process.{State, Peer, no_peer, peer_at, step, called, taken, accepted, quiet, got_frames}
+use Rattle.reg_process.specs.Process.{accepts, queue_from, unsettled}
 use Rattle.reg_process.proofs.Again.{replicate_at}
 use Rattle.reg_process.proofs.Peers.{queue_same}
 use Rattle.reg_process.specs.declared.events.Event.{Event}
@@ -41,12 +43,15 @@ abbrev MovesOther : Option (ℕ × Step) → Type 0
 MovesOther None = Unit {0}
 MovesOther (Some m) = TakesOther m.0 m.1
 
-queued_own : (p : ℕ) (body : Body) (me : ℕ) (ps : List Peer) → me ≡ p → (slice_index_or ps p no_peer).pending ≡ [] → (slice_index_or (queue_from 0 me body ps) p no_peer).pending ≡ []
+queued_own : (p : ℕ) (body : Body) (me : ℕ) (ps : List Peer) → me ≡ p → (slice_index_or ps p no_peer).pending ≡ []
+    → (slice_index_or (queue_from 0 me body ps) p no_peer).pending ≡ []
 queued_own p body me ps e h = ap (λ (z : Peer). z.pending) (queue_same body 0 me ps p (omega (arith, e))) ∙ h
 
 called_own : (p : ℕ) (s : State) (op : Op) (st : Start) → IsOwn p s → IsOwn p (called s op st).0
-called_own p s op Casts O = record { me = O.me; pending = queued_own p (Cast (s.clock + 1) op) s.me s.peers O.me O.pending }
-called_own p s op CastsAndAnswers O = record { me = O.me; pending = queued_own p (Cast (s.clock + 1) op) s.me s.peers O.me O.pending }
+called_own p s op Casts O =
+    record { me = O.me; pending = queued_own p (Cast (s.clock + 1) op) s.me s.peers O.me O.pending }
+called_own p s op CastsAndAnswers O =
+    record { me = O.me; pending = queued_own p (Cast (s.clock + 1) op) s.me s.peers O.me O.pending }
 called_own p s op Looks O = record { me = O.me; pending = O.pending }
 called_own p s op Holds O = record { me = O.me; pending = O.pending }
 
@@ -66,7 +71,8 @@ taken_own p s a (Got count) ne O = record {
   pending = ap (λ (z : Peer). z.pending) (get_or-set_other s.peers a p (record (peer_at s a) { first = max (peer_at s a).first count; pending = drop (count - (peer_at s a).first) (peer_at s a).pending }) no_peer (λ e. ne (sym e))) ∙ O.pending;
 }
 
-step_own : (start : Op → ℕ → Start) (p : ℕ) (s : State) (e : Step) → TakesOther p e → IsOwn p s → IsOwn p (step start s e).0
+step_own : (start : Op → ℕ → Start) (p : ℕ) (s : State) (e : Step) → TakesOther p e → IsOwn p s
+    → IsOwn p (step start s e).0
 step_own start p s (CallStep op) ne O = called_own p s op (start op (unsettled s)) O
 step_own start p s (TakeStep a f) ne O = taken_own p s a f ne O
 step_own start p s TickStep ne O = O
@@ -87,13 +93,15 @@ event_other n registers w (Take a p number) =
     (λ _. tt)
 event_other n registers w (Tick p) = cond_both (nat_lt p n) (Some (p, TickStep)) None MovesOther (λ _. tt) (λ _. tt)
 
-own_after : (start : Op → ℕ → Start) (w : Nodes) (m : Option (ℕ × Step)) → MovesOther m → ((p : ℕ) → IsOwn p (w p).state) → (p : ℕ) → IsOwn p (nodes_after start w m p).state
+own_after : (start : Op → ℕ → Start) (w : Nodes) (m : Option (ℕ × Step)) → MovesOther m
+    → ((p : ℕ) → IsOwn p (w p).state) → (p : ℕ) → IsOwn p (nodes_after start w m p).state
 own_after start w None ne O = O
 own_after start w (Some m) ne O = λ q. put_cases (λ (z : Node). IsOwn q z.state) w m.0 (after_step start (w m.0) m.1) q
     (λ e. subst (λ r. IsOwn r (step start (w m.0).state m.1).0) (sym e) (step_own start m.0 (w m.0).state m.1 ne (O m.0)))
     (λ _. O q)
 
-pub none_own : (start : Op → ℕ → Start) (n registers : ℕ) (events : List Event) (p : ℕ) → IsOwn p ((whole start n registers events).nodes p).state
+pub none_own : (start : Op → ℕ → Start) (n registers : ℕ) (events : List Event) (p : ℕ)
+    → IsOwn p ((whole start n registers events).nodes p).state
 none_own start n registers events =
     along start n registers (λ v. (p : ℕ) → IsOwn p (v.nodes p).state)
     (λ p. record { me = refl; pending = ap (λ (z : Peer). z.pending) (replicate_at n p no_peer) })

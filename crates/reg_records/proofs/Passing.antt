@@ -1,5 +1,6 @@
 -- Passing on the frames that a tick put again on one link.
-use Rattle.std.proofs.Common.{◌≡◌, ℕ, zero, suc, ◌+◌, ◌*◌, ◌<◌, ◌≤◌, min, List, [], ◌∷◌, ◌++◌, length, take, Some, refl, sym, ap, ◌∙◌, arith, length-append, length-take}
+use Rattle.std.proofs.Common.{◌≡◌, ℕ, zero, suc, ◌+◌, ◌*◌, ◌<◌, ◌≤◌, min, List, [], ◌∷◌, ◌++◌, length, take, Some, refl}
+use Rattle.std.proofs.Common.{sym, ap, ◌∙◌, arith, length-append, length-take}
 use Rattle.std.specs.Prelude.{◌==◌, slice_get}
 use Rattle.std.proofs.lemmas.Bool.{cond-false, ne_eqb}
 use Rattle.reg_base.specs.declared.limits.TheConstants.{MOST_RESENT, MOST_EVENTS}
@@ -20,14 +21,17 @@ use Rattle.reg_world.proofs.one_order.NodeLaws.{inv_of}
 use Rattle.reg_records.proofs.Few.{numbered_many}
 use Rattle.reg_records.specs.declared.faults.SettleFault.{SettleFault}
 use Rattle.reg_records.specs.Rest.{distance, put_for}
-use Rattle.reg_records.specs.RestParts.{nodes_in, link_in, pending_in, distance_in, IsGoingOn, Misses, Halts, IsAgain, Passing, Passes}
+use Rattle.reg_records.specs.RestParts.{nodes_in, link_in, pending_in, distance_in, IsGoingOn, Misses, Halts, IsAgain}
+use Rattle.reg_records.specs.RestParts.{Passing, Passes}
 use Rattle.reg_records.proofs.EntryFacts.{pending_one}
 use Rattle.reg_records.proofs.Nearer.{pending_within}
 use Rattle.reg_records.proofs.Taking.{Took, Counted, took, counted}
-use Rattle.reg_records.proofs.GoingOn.{at_behind, moves_none, moves_both, later_none, later_both, later_one, halts_here, halts_both}
+use Rattle.reg_records.proofs.GoingOn.{at_behind, moves_none, moves_both, later_none, later_both, later_one, halts_here}
+use Rattle.reg_records.proofs.GoingOn.{halts_both}
 use Rattle.reg_records.proofs.Making.{stepped, takes}
 
-numbered_at : (i : ℕ) (bs : List Body) (j : ℕ) → j < length bs → (b : Body) × (slice_get (numbered_from i bs) j ≡ Some (Numbered (i + j) b))
+numbered_at : (i : ℕ) (bs : List Body) (j : ℕ) → j < length bs
+    → (b : Body) × (slice_get (numbered_from i bs) j ≡ Some (Numbered (i + j) b))
 numbered_at i [] j l = absurd (omega (arith, l))
 numbered_at i (b ∷ bs) zero l = (b, let e : i ≡ i + 0 = omega arith in ap (λ k. Some (Numbered k b)) e)
 numbered_at i (b ∷ bs) (suc j) l =
@@ -36,13 +40,16 @@ numbered_at i (b ∷ bs) (suc j) l =
     (r.0, r.1 ∙ ap (λ k. Some (Numbered k r.0)) e)
 
 -- what a tick puts again for another process
-resent_is : (s : State) (r : ℕ) → (r ≡ s.me → ⊥) → resent s r ≡ numbered_from (peer_at s r).first (take MOST_RESENT (peer_at s r).pending)
+resent_is : (s : State) (r : ℕ) → (r ≡ s.me → ⊥)
+    → resent s r ≡ numbered_from (peer_at s r).first (take MOST_RESENT (peer_at s r).pending)
 resent_is s r ne = cond-false (r == s.me) [] (numbered_from (peer_at s r).first (take MOST_RESENT (peer_at s r).pending)) (ne_eqb r s.me ne)
 
-resent_many : (s : State) (r : ℕ) → (r ≡ s.me → ⊥) → length (resent s r) ≡ min MOST_RESENT (length (peer_at s r).pending)
+resent_many : (s : State) (r : ℕ) → (r ≡ s.me → ⊥)
+    → length (resent s r) ≡ min MOST_RESENT (length (peer_at s r).pending)
 resent_many s r ne = ap length (resent_is s r ne) ∙ (numbered_many (peer_at s r).first (take MOST_RESENT (peer_at s r).pending) ∙ length-take MOST_RESENT (peer_at s r).pending)
 
-pub resent_at : (s : State) (r j : ℕ) → (r ≡ s.me → ⊥) → j < min MOST_RESENT (length (peer_at s r).pending) → (b : Body) × (slice_get (resent s r) j ≡ Some (Numbered ((peer_at s r).first + j) b))
+pub resent_at : (s : State) (r j : ℕ) → (r ≡ s.me → ⊥) → j < min MOST_RESENT (length (peer_at s r).pending)
+    → (b : Body) × (slice_get (resent s r) j ≡ Some (Numbered ((peer_at s r).first + j) b))
 resent_at s r j ne l =
     let m = length-take MOST_RESENT (peer_at s r).pending in
     let n = numbered_at (peer_at s r).first (take MOST_RESENT (peer_at s r).pending) j (omega (arith, l, m)) in
@@ -50,7 +57,8 @@ resent_at s r j ne l =
 
 module _ (start : Op → ℕ → Start) (passed : ℕ → ℕ → ℕ) (from to : ℕ) where
   -- nothing was put again
-  pub passes_none : (m : Made) → IsGoingOn start m → min MOST_RESENT (length (link_in start m from to).pending) ≡ 0 → Passes start passed m from to m
+  pub passes_none : (m : Made) → IsGoingOn start m → min MOST_RESENT (length (link_in start m from to).pending) ≡ 0
+      → Passes start passed m from to m
   passes_none m G none = record {
     moves = moves_none start m G;
     later = later_none passed m;

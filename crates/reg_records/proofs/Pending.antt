@@ -11,7 +11,8 @@ use Rattle.reg_records.proofs.EntryFacts.{pending_none}
 use Rattle.reg_records.proofs.Own.{none_own}
 
 -- nothing is pending for the others, so nothing is
-pub all_none : (start : Op → ℕ → Start) (m : Made) (p : ℕ) → p < m.processes → ((k : ℕ) → k < m.processes → (k ≡ p → ⊥) → length (link_in start m p k).pending ≡ 0) → pending_in start m p ≡ 0
+pub all_none : (start : Op → ℕ → Start) (m : Made) (p : ℕ) → p < m.processes
+    → ((k : ℕ) → k < m.processes → (k ≡ p → ⊥) → length (link_in start m p k).pending ≡ 0) → pending_in start m p ≡ 0
 all_none start m p l h =
     let s = (nodes_in start m p).state in
     let size = ((inv_of start m.processes m.registers m.accepted).local p l).size in

@@ -1,5 +1,6 @@
 -- A search through all arrangements of a few operations for a legal one in which a stands before b.
-use Rattle.std.specs.Prelude.{ℕ, zero, suc, Bool, true, false, not, ◌&&◌, ◌||◌, ◌==◌, nat_lt, cond, List, Option, Some, None}
+use Rattle.std.specs.Prelude.{ℕ, zero, suc, Bool, true, false, not, ◌&&◌, ◌||◌, ◌==◌, nat_lt, cond, List, Option, Some}
+use Rattle.std.specs.Prelude.{None}
 use Rattle.std.specs.Option.{is_some}
 use Rattle.std.specs.List.{filter, list_any, list_all}
 use Rattle.reg_base.specs.declared.memory.OpId.{OpId}
@@ -45,7 +46,8 @@ without id fs = filter (λ f. not (is_id f.id id)) fs
 -- no arrangement of these is legal on this memory
 abbrev pub none_legal : ℕ → List Fact → Memory → Bool
 none_legal zero fs m = false
-none_legal (suc n) fs m = list_any is_finished fs && list_all (λ f. not (may_come fs m f) || none_legal n (without f.id fs) (after f.op m)) fs
+none_legal (suc n) fs m =
+    list_any is_finished fs && list_all (λ f. not (may_come fs m f) || none_legal n (without f.id fs) (after f.op m)) fs
 
 -- in each arrangement of these that is legal on this memory b stands before a
 abbrev pub always_before : OpId → OpId → ℕ → List Fact → Memory → Bool

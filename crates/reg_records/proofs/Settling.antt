@@ -1,5 +1,6 @@
 -- Rounds, one after another, and what they come to.
-use Rattle.std.proofs.Common.{◌≡◌, ℕ, suc, ◌+◌, ◌*◌, false, List, [], ◌∷◌, ◌++◌, length, Some, sym, ap, ◌∙◌, inl, inr, arith}
+use Rattle.std.proofs.Common.{◌≡◌, ℕ, suc, ◌+◌, ◌*◌, false, List, [], ◌∷◌, ◌++◌, length, Some, sym, ap, ◌∙◌, inl, inr}
+use Rattle.std.proofs.Common.{arith}
 use Rattle.std.specs.Prelude.{slice_get}
 use Rattle.reg_base.specs.declared.memory.Op.{Op}
 use Rattle.reg_base.specs.Order.{In}
@@ -14,19 +15,24 @@ use Rattle.reg_records.specs.declared.faults.SettleFault.{SettleFault}
 use Rattle.reg_records.specs.declared.faults.SettleFault.TheVariants.{Failed, TooManyEvents, OutOfMemory}
 use Rattle.reg_records.specs.Rest.{put_for, with_events, GoesOn, Settles, Stops}
 use Rattle.reg_records.specs.RestParts.{nodes_in, distance_in, IsGoingOn, Moves, AreLaterSince, Halts, Nears}
-use Rattle.reg_records.proofs.GoingOn.{at_behind, moves_none, moves_both, later_none, later_both, later_weaker, halts_both, halts_weaker}
+use Rattle.reg_records.proofs.GoingOn.{at_behind, moves_none, moves_both, later_none, later_both, later_weaker}
+use Rattle.reg_records.proofs.GoingOn.{halts_both, halts_weaker}
 
 pub nears_none : (start : Op → ℕ → Start) (m : Made) → IsGoingOn start m → Nears start m m
-nears_none start m G = record { moves = moves_none start m G; later = later_none (put_for (nodes_in start m)) m; nearer = omega arith }
+nears_none start m G =
+    record { moves = moves_none start m G; later = later_none (put_for (nodes_in start m)) m; nearer = omega arith }
 
-pub nears_both : (start : Op → ℕ → Start) (old mid new : Made) → Nears start old mid → Nears start mid new → Nears start old new
+pub nears_both : (start : Op → ℕ → Start) (old mid new : Made) → Nears start old mid → Nears start mid new
+    → Nears start old new
 nears_both start old mid new A B = record {
   moves = moves_both start old mid new A.moves B.moves;
   later = later_both start (put_for (nodes_in start old)) old mid new B.moves A.later (later_weaker (put_for (nodes_in start mid)) (put_for (nodes_in start old)) mid new A.moves.grows B.later);
   nearer = let a = A.nearer in let b = B.nearer in omega (arith, a, b);
 }
 
-pub nears_halts : (start : Op → ℕ → Start) (old mid new : Made) (fault : SettleFault) → Nears start old mid → Halts start (put_for (nodes_in start mid)) mid (3 * distance_in start mid) fault new → Halts start (put_for (nodes_in start old)) old (3 * distance_in start old) fault new
+pub nears_halts : (start : Op → ℕ → Start) (old mid new : Made) (fault : SettleFault) → Nears start old mid
+    → Halts start (put_for (nodes_in start mid)) mid (3 * distance_in start mid) fault new
+    → Halts start (put_for (nodes_in start old)) old (3 * distance_in start old) fault new
 nears_halts start old mid new fault A H =
     halts_both start (put_for (nodes_in start old)) old mid new (3 * distance_in start mid) (3 * distance_in start old) fault A.moves A.later A.nearer
     (halts_weaker start (put_for (nodes_in start mid)) (put_for (nodes_in start old)) mid new (3 * distance_in start mid) fault A.moves.grows H)
@@ -36,7 +42,8 @@ place_of e [] h = absurd h
 place_of e (x ∷ xs) (inl q) = (0, ap Some (sym q))
 place_of e (x ∷ xs) (inr h) = let r = place_of e xs h in (suc r.0, r.1)
 
-pub goes_on : (start : Op → ℕ → Start) (old new : Made) → old.failed ≡ false → Moves start old new → AreLaterSince (put_for (nodes_in start old)) old new → GoesOn start old new
+pub goes_on : (start : Op → ℕ → Start) (old new : Made) → old.failed ≡ false → Moves start old new
+    → AreLaterSince (put_for (nodes_in start old)) old new → GoesOn start old new
 goes_on start old new going M L = record {
   more = M.more;
   later = λ e h.
@@ -55,7 +62,9 @@ goes_on start old new going M L = record {
     after : new ≡ with_events start old M.more
     after = λ i. record { failed = failed i; processes = M.processes i; registers = M.registers i; accepted = M.accepted i; history = history i }
 
-pub settles : (start : Op → ℕ → Start) → KeepsLaws start → (old new : Made) (count : ℕ) → old.failed ≡ false → Nears start old new → AllAcknowledged new.processes (nodes_in start new) → length new.accepted ≡ length old.accepted + count → Settles start old count new
+pub settles : (start : Op → ℕ → Start) → KeepsLaws start → (old new : Made) (count : ℕ) → old.failed ≡ false
+    → Nears start old new → AllAcknowledged new.processes (nodes_in start new)
+    → length new.accepted ≡ length old.accepted + count → Settles start old count new
 settles start laws old new count going N none is = record {
   going = going;
   goes = goes_on start old new going N.moves N.later;
@@ -65,7 +74,9 @@ settles start laws old new count going N none is = record {
   quiescent = rests start new.processes new.registers laws new.accepted none;
 }
 
-pub stops : (start : Op → ℕ → Start) (old new : Made) (fault : SettleFault) → old.failed ≡ false → Halts start (put_for (nodes_in start old)) old (3 * distance_in start old) fault new → Stops start old fault new
+pub stops : (start : Op → ℕ → Start) (old new : Made) (fault : SettleFault) → old.failed ≡ false
+    → Halts start (put_for (nodes_in start old)) old (3 * distance_in start old) fault new → Stops start old fault new
 stops start old new Failed going H = absurd H
-stops start old new TooManyEvents going H = (going, goes_on start old new going H.0 H.1, H.2, H.3, let a = H.3 in let b = H.4 in omega (arith, a, b))
+stops start old new TooManyEvents going H =
+    (going, goes_on start old new going H.0 H.1, H.2, H.3, let a = H.3 in let b = H.4 in omega (arith, a, b))
 stops start old new OutOfMemory going H = (going, H.0, goes_on start old H.0 going H.1 H.2, H.3, H.4)

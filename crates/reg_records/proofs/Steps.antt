@@ -33,14 +33,16 @@ if_any true x h = refl
 if_any false x h = absurd cc
 
 -- what a take that happens is
-take_is : (from to p : ℕ) (step : Step) (o : Option Frame) → take_step from to o ≡ Some (p, step) → (f : Frame) × (o ≡ Some f) × (to ≡ p) × (Take from f ≡ step)
+take_is : (from to p : ℕ) (step : Step) (o : Option Frame) → take_step from to o ≡ Some (p, step)
+    → (f : Frame) × (o ≡ Some f) × (to ≡ p) × (Take from f ≡ step)
 take_is from to p step None h = absurd cc
 take_is from to p step (Some f) h =
     let e : (to, Take from f) ≡ (p, step) = same_Some (to, Take from f) (p, step) h in
     (f, refl, ap (λ (x : ℕ × Step). x.0) e, ap (λ (x : ℕ × Step). x.1) e)
 
 -- the event of an accepted step is one of that step
-pub event_moves : (n registers : ℕ) (w : Nodes) (p : ℕ) (step : Step) (e : Event) → step_of n registers w e ≡ Some (p, step) → IsEventOf w p step e
+pub event_moves : (n registers : ℕ) (w : Nodes) (p : ℕ) (step : Step) (e : Event)
+    → step_of n registers w e ≡ Some (p, step) → IsEventOf w p step e
 event_moves n registers w p step (CallOf q op) h =
     let same : (q, Call op) ≡ (p, step) = if_is (nat_lt q n && (not (is_some (w q).state.running) && (nat_lt (register_of op) registers && nat_lt (w q).state.calls MOST_OPERATIONS))) (q, Call op) (p, step) h in
     let process : q ≡ p = ap (λ (x : ℕ × Step). x.0) same in
@@ -58,7 +60,8 @@ event_moves n registers w p step (TickOf q) h =
     subst (λ (s : Step). IsEventOf w p s (TickOf q)) made (ap (λ (r : ℕ). TickOf r) process)
 
 -- an event of a step that isn't refused is that step
-moves_event : (n registers : ℕ) (w : Nodes) (p : ℕ) (step : Step) (e : Event) → IsEventOf w p step e → is_some (step_of n registers w e) ≡ true → step_of n registers w e ≡ Some (p, step)
+moves_event : (n registers : ℕ) (w : Nodes) (p : ℕ) (step : Step) (e : Event) → IsEventOf w p step e
+    → is_some (step_of n registers w e) ≡ true → step_of n registers w e ≡ Some (p, step)
 moves_event n registers w p (Call op) e is some = subst (λ (x : Event). is_some (step_of n registers w x) ≡ true → step_of n registers w x ≡ Some (p, Call op)) (sym is)
     (if_any (nat_lt p n && (not (is_some (w p).state.running) && (nat_lt (register_of op) registers && nat_lt (w p).state.calls MOST_OPERATIONS))) (p, Call op)) some
 moves_event n registers w p (Take from frame) e (number, is, at) some = subst (λ (x : Event). is_some (step_of n registers w x) ≡ true → step_of n registers w x ≡ Some (p, Take from frame)) (sym is) go some
@@ -72,11 +75,13 @@ moves_event n registers w p (Take from frame) e (number, is, at) some = subst (�
 
     go : is_some (step_of n registers w (TakeOf from p number)) ≡ true → step_of n registers w (TakeOf from p number) ≡ Some (p, Take from frame)
     go h = by (nat_lt from n && (nat_lt p n && not (from == p))) (slice_get ((w from).wire p) number) at h
-moves_event n registers w p Tick e is some = subst (λ (x : Event). is_some (step_of n registers w x) ≡ true → step_of n registers w x ≡ Some (p, Tick)) (sym is)
+moves_event n registers w p Tick e is some =
+    subst (λ (x : Event). is_some (step_of n registers w x) ≡ true → step_of n registers w x ≡ Some (p, Tick)) (sym is)
     (if_any (nat_lt p n) (p, Tick)) some
 
 -- whether events of one step are refused doesn't depend on the place of the frame
-same_step : (n registers : ℕ) (w : Nodes) (p : ℕ) (step : Step) (e f : Event) → IsEventOf w p step e → IsEventOf w p step f → step_of n registers w e ≡ step_of n registers w f
+same_step : (n registers : ℕ) (w : Nodes) (p : ℕ) (step : Step) (e f : Event) → IsEventOf w p step e
+    → IsEventOf w p step f → step_of n registers w e ≡ step_of n registers w f
 same_step n registers w p (Call op) e f a b = ap (step_of n registers w) (a ∙ sym b)
 same_step n registers w p (Take from frame) e f (i, a, x) (j, b, y) =
     ap (step_of n registers w) a ∙ (ap (λ (o : Option Frame). cond (nat_lt from n && (nat_lt p n && not (from == p))) (take_step from p o) None) (x ∙ sym y) ∙ sym (ap (step_of n registers w) b))
@@ -86,11 +91,13 @@ module _ (start : Op → ℕ → Start) (w : Made) (p : ℕ) (step : Step) where
   pub is_event : (e : Event) → Moves start w p step e → IsEventOf (run_in start w).nodes p step e
   is_event e h = event_moves w.processes w.registers (run_in start w).nodes p step e (if_some (nat_lt (length (run_in start w).accepted) MOST_EVENTS) (step_of w.processes w.registers (run_in start w).nodes e) (p, step) h).1
 
-  pub same_move : (e f : Event) → IsEventOf (run_in start w).nodes p step e → IsEventOf (run_in start w).nodes p step f → move_of w.processes w.registers (run_in start w) e ≡ move_of w.processes w.registers (run_in start w) f
+  pub same_move : (e f : Event) → IsEventOf (run_in start w).nodes p step e → IsEventOf (run_in start w).nodes p step f
+      → move_of w.processes w.registers (run_in start w) e ≡ move_of w.processes w.registers (run_in start w) f
   same_move e f a b = ap (λ o. cond (nat_lt (length (run_in start w).accepted) MOST_EVENTS) o None) (same_step w.processes w.registers (run_in start w).nodes p step e f a b)
 
   -- an event that no fault applies to is accepted
-  pub moves : (e : Event) → IsEventOf (run_in start w).nodes p step e → w.failed ≡ false → refusal start w e ≡ None → Moves start w p step e
+  pub moves : (e : Event) → IsEventOf (run_in start w).nodes p step e → w.failed ≡ false → refusal start w e ≡ None
+      → Moves start w p step e
   moves e is going none = by (nat_lt (length (run_in start w).accepted) MOST_EVENTS) some
     where
       fault : world_fault w.processes w.registers (run_in start w) e ≡ None
@@ -104,7 +111,8 @@ module _ (start : Op → ℕ → Start) (w : Made) (p : ℕ) (step : Step) where
       by false h = absurd cc
 
   -- where a fault applies to one event of the step, no event is the step
-  pub no_move : (e : Event) (fault : WorldFault) → IsEventOf (run_in start w).nodes p step e → w.failed ≡ false → refusal start w e ≡ Some fault → (f : Event) → Moves start w p step f → ⊥
+  pub no_move : (e : Event) (fault : WorldFault) → IsEventOf (run_in start w).nodes p step e → w.failed ≡ false
+      → refusal start w e ≡ Some fault → (f : Event) → Moves start w p step f → ⊥
   no_move e fault is going some f moved =
       let here : move_of w.processes w.registers (run_in start w) e ≡ Some (p, step) = same_move e f is (is_event f moved) ∙ moved in
       let applies : world_fault w.processes w.registers (run_in start w) e ≡ Some fault = subst (λ (b : Bool). cond b (Some Failed) (world_fault w.processes w.registers (run_in start w) e) ≡ Some fault) going some in
@@ -113,5 +121,6 @@ module _ (start : Op → ℕ → Start) (w : Made) (p : ℕ) (step : Step) where
       absurd cc
 
   -- all events of the step give one reply
-  pub same_reply : (e f : Event) → Moves start w p step e → Moves start w p step f → reply_in start w e ≡ reply_in start w f
+  pub same_reply : (e f : Event) → Moves start w p step e → Moves start w p step f
+      → reply_in start w e ≡ reply_in start w f
   same_reply e f a b = ap (reply_of_move start (run_in start w)) (a ∙ sym b)

@@ -1,5 +1,6 @@
 -- What a take and a tick do to how far a run is from rest, and to the link.
-use Rattle.std.proofs.Common.{◌≡◌, ℕ, ◌+◌, ◌-◌, ◌*◌, ◌<◌, ◌≤◌, max, List, [], ◌∷◌, ◌++◌, length, take, drop, cond, Some, refl, sym, ap, ◌∙◌, subst, inl, inr, arith, length-drop}
+use Rattle.std.proofs.Common.{◌≡◌, ℕ, ◌+◌, ◌-◌, ◌*◌, ◌<◌, ◌≤◌, max, List, [], ◌∷◌, ◌++◌, length, take, drop, cond, Some}
+use Rattle.std.proofs.Common.{refl, sym, ap, ◌∙◌, subst, inl, inr, arith, length-drop}
 use Rattle.std.specs.Prelude.{◌==◌, slice_get, slice_index_or}
 use Rattle.std.specs.List.{count_by}
 use Rattle.std.proofs.lemmas.Bool.{cases_eq, cond_both, cond-true, eq-eqb, eqb-true, eqb-false}
@@ -10,7 +11,8 @@ use Rattle.reg_frames.specs.declared.bodies.Body.{Body}
 use Rattle.reg_frames.specs.declared.bodies.Body.TheVariants.{Cast, Ack}
 use Rattle.reg_frames.specs.declared.bodies.Frame.{Frame}
 use Rattle.reg_frames.specs.declared.bodies.Frame.TheVariants.{Numbered, Got}
-use Rattle.reg_process.specs.Process.{State, Peer, no_peer, peer_at, pending_of, got_frames, data_frames, accepts, taken, accepted, quiet, resent, numbered_from}
+use Rattle.reg_process.specs.Process.{State, Peer, no_peer, peer_at, pending_of, got_frames, data_frames, accepts}
+use Rattle.reg_process.specs.Process.{taken, accepted, quiet, resent, numbered_from}
 use Rattle.reg_process.proofs.Peers.{queue_expected}
 use Rattle.reg_world.specs.Nodes.{Node, Nodes, put, after_result}
 use Rattle.reg_world.proofs.one_order.Worlds.{Inv}
@@ -24,7 +26,8 @@ at_end : (xs ys : List Frame) (x : Frame) → slice_get (xs ++ x ∷ ys) (length
 at_end [] ys x = refl
 at_end (z ∷ xs) ys x = at_end xs ys x
 
-none_queued : (x : Node) (bs : List Body) → bs ≡ x.queued ++ [] → (k : ℕ) → count_by is_cast (drop k bs) ≡ count_by is_cast (drop k x.queued)
+none_queued : (x : Node) (bs : List Body) → bs ≡ x.queued ++ [] → (k : ℕ)
+    → count_by is_cast (drop k bs) ≡ count_by is_cast (drop k x.queued)
 none_queued x bs e k = ap (λ q. count_by is_cast (drop k q)) (e ∙ append-nil x.queued)
 
 got_here : (a count : ℕ) → got_frames a count a ≡ Got count ∷ []
@@ -41,7 +44,8 @@ pub record Counted (n p a count : ℕ) (w : Nodes) (y : Node) : Type 0 where
   pub fall : ℕ
   pub pending : pending_of y.state.peers + fall ≡ pending_of (w p).state.peers
   pub distance : distance n (put w p y) + fall ≡ distance n w
-  pub enough : (k : ℕ) → (peer_at (w p).state a).first + k ≤ count → k ≤ length (peer_at (w p).state a).pending → k ≤ fall
+  pub enough : (k : ℕ) → (peer_at (w p).state a).first + k ≤ count → k ≤ length (peer_at (w p).state a).pending
+      → k ≤ fall
   pub wires : (r : ℕ) → y.wire r ≡ (w p).wire r
   pub links : (r : ℕ) → (r ≡ a → ⊥) → resent y.state r ≡ resent (w p).state r
 
@@ -57,7 +61,8 @@ module _ (n registers k : ℕ) (w : Nodes) (I : Inv n registers k w) (p : ℕ) (
   s = (w p).state
 
   -- nothing is accepted
-  pub quiet_same : (y : Node) → y.state.peers ≡ s.peers → y.queued ≡ (w p).queued ++ [] → distance n (put w p y) ≡ distance n w
+  pub quiet_same : (y : Node) → y.state.peers ≡ s.peers → y.queued ≡ (w p).queued ++ []
+      → distance n (put w p y) ≡ distance n w
   quiet_same y ps q =
       let c = casts_kept n p w y (λ q _ _. ap (λ z. (slice_index_or z q no_peer).expected) ps) in
       let h = nearer_by n p w y l (none_queued (w p) y.queued q) 0 (same_left (pending_of y.state.peers) (pending_of s.peers) (casts_for n w p y) (casts_to n w p) (n - 1) (ap pending_of ps) c) in

@@ -1,5 +1,6 @@
 -- Receipts checked along a history.
-use Rattle.std.proofs.Common.{◌≡◌, ◌⊎◌, inl, inr, ℕ, suc, ◌+◌, ◌<◌, ◌≤◌, List, length, map, take, Option, Some, None, refl, ap, sym, ◌∙◌, subst, arith, ◌↔◌}
+use Rattle.std.proofs.Common.{◌≡◌, ◌⊎◌, inl, inr, ℕ, suc, ◌+◌, ◌<◌, ◌≤◌, List, length, map, take, Option, Some, None}
+use Rattle.std.proofs.Common.{refl, ap, sym, ◌∙◌, subst, arith, ◌↔◌}
 use Rattle.std.proofs.lemmas.Bool.{cases_order, cases_eq}
 use Rattle.reg_base.specs.declared.memory.Op.{Op}
 use Rattle.reg_base.specs.declared.memory.OpId.{OpId}
@@ -21,11 +22,13 @@ use Rattle.reg_records.specs.declared.telling.Matched.{Matched}
 use Rattle.reg_records.specs.Receipts.{IsReceipt, AreFinished}
 use Rattle.reg_records.specs.Telling.{receipt_by, IsNextReceipt, IsAfter, IsOther, progress_of, IsToldIn}
 
-receipt_more : (es ys : List Entry) (e : Entry) (id : OpId) (r : Receipt) → IsOneMore es e ys → IsReceipt es id r → IsReceipt ys id r
+receipt_more : (es ys : List Entry) (e : Entry) (id : OpId) (r : Receipt) → IsOneMore es e ys → IsReceipt es id r
+    → IsReceipt ys id r
 receipt_more es ys e id r more h = record { id_is = h.id_is; call = more.old (Called r.called id r.op) h.call; answer_of = more.old (Answered r.answered id r.answer) h.answer_of }
 
 -- the call that runs has the number of the next finished operation
-pending_is : (es : List Entry) (p done : ℕ) (call : Pending) → IsProgressOf es p (progress_of done (Some call)) → IsCalled es (op_of p done) call.at call.op × (¬ IsFinished es (op_of p done))
+pending_is : (es : List Entry) (p done : ℕ) (call : Pending) → IsProgressOf es p (progress_of done (Some call))
+    → IsCalled es (op_of p done) call.at call.op × (¬ IsFinished es (op_of p done))
 pending_is es p done call kept = go kept.state
   where
     go : IsState es p (done + 1) (Some (record { at = call.at; op = call.op })) → IsCalled es (op_of p done) call.at call.op × (¬ IsFinished es (op_of p done))
@@ -34,8 +37,11 @@ pending_is es p done call kept = go kept.state
         subst (λ (m : ℕ). IsCalled es (op_of p m) call.at call.op × (¬ IsFinished es (op_of p m))) same (called, open_)
 
 -- what is finished has a number below
-finished_below : (count registers : ℕ) (es : List Entry) → IsHistory count registers es → (p done : ℕ) (o : Option Pending) → IsProgressOf es p (progress_of done o) → (k : ℕ) → IsFinished es (op_of p k) → k < done
-finished_below count registers es good p done None kept k fin = (kept.calls k).1 (answered_was_called count registers es good (op_of p k) fin.0 fin.1 fin.2)
+finished_below : (count registers : ℕ) (es : List Entry) → IsHistory count registers es
+    → (p done : ℕ) (o : Option Pending) → IsProgressOf es p (progress_of done o) → (k : ℕ) → IsFinished es (op_of p k)
+    → k < done
+finished_below count registers es good p done None kept k fin =
+    (kept.calls k).1 (answered_was_called count registers es good (op_of p k) fin.0 fin.1 fin.2)
 finished_below count registers es good p done (Some call) kept k fin = by (cases_order k done)
   where
     low : k < done + 1
@@ -147,12 +153,14 @@ module _ (count registers : ℕ) (h : List Entry) (good : IsHistory count regist
           (other_goes (take i h) (take (suc i) h) (Answered at id a) told more t (answer_elsewhere (take i h) (take (suc i) h) p (progress_of told.done told.running) at id a (λ e. other (sym e)) t.progress more))
 
   -- one entry more
-  pub told_more : (i : ℕ) (e : Entry) (told next : Matched) → IsAt h i e → IsToldIn (take i h) p receipts told → IsAfter told p receipts e next → IsToldIn (take (suc i) h) p receipts next
+  pub told_more : (i : ℕ) (e : Entry) (told next : Matched) → IsAt h i e → IsToldIn (take i h) p receipts told
+      → IsAfter told p receipts e next → IsToldIn (take (suc i) h) p receipts next
   told_more i (Called at id op) told next here t is = told_call i at id op told next here t is
   told_more i (Answered at id a) told next here t is = told_answer i at id a told next here t is
 
   -- another receipt is none of the finished operations
-  pub told_other : (i : ℕ) (e : Entry) (told : Matched) → IsAt h i e → IsToldIn (take i h) p receipts told → IsOther told p receipts e → AreFinished h p receipts → ⊥
+  pub told_other : (i : ℕ) (e : Entry) (told : Matched) → IsAt h i e → IsToldIn (take i h) p receipts told
+      → IsOther told p receipts e → AreFinished h p receipts → ⊥
   told_other i (Called at id op) told here t is all = is
   told_other i (Answered at id a) told here t is all = is.1 (go told.running refl)
     where
@@ -230,4 +238,5 @@ lists_more {X = X} h f lists i x here before last p those lt at = by (cases_orde
 
 pub lists_all : {X : Type 0} (h : List Entry) (f : X → List Receipt) (lists : List X) (i : ℕ) → length lists ≤ i
     → ((p : ℕ) (those : List Receipt) → p < i → IsAt (map f lists) p those → AreFinished h p those) → (p : ℕ) (those : List Receipt) → IsAt (map f lists) p those → AreFinished h p those
-lists_all h f lists i all before p those at = let r = at_map f lists p those at in let lt = within lists p r.0 r.1 in before p those (omega arith) at
+lists_all h f lists i all before p those at =
+    let r = at_map f lists p those at in let lt = within lists p r.0 r.1 in before p those (omega arith) at

@@ -1,5 +1,6 @@
 -- A tick, and passing on what it put again.
-use Rattle.std.proofs.Common.{◌≡◌, ℕ, ◌+◌, ◌*◌, ◌<◌, ◌≤◌, [], ◌∷◌, ◌++◌, length, refl, sym, ap, ◌∙◌, subst, inl, inr, arith, length-append}
+use Rattle.std.proofs.Common.{◌≡◌, ℕ, ◌+◌, ◌*◌, ◌<◌, ◌≤◌, [], ◌∷◌, ◌++◌, length, refl, sym, ap, ◌∙◌, subst, inl, inr}
+use Rattle.std.proofs.Common.{arith, length-append}
 use Rattle.std.proofs.lemmas.Bool.{cases_eq}
 use Rattle.reg_base.specs.declared.limits.TheConstants.{MOST_EVENTS}
 use Rattle.reg_base.specs.declared.memory.Op.{Op}
@@ -13,7 +14,8 @@ use Rattle.reg_world.proofs.one_order.NodeEvents.{put_same}
 use Rattle.reg_world.proofs.one_order.NodeLaws.{inv_of}
 use Rattle.reg_records.specs.declared.faults.SettleFault.{SettleFault}
 use Rattle.reg_records.specs.Rest.{distance, put_for}
-use Rattle.reg_records.specs.RestParts.{nodes_in, link_in, pending_in, distance_in, IsGoingOn, Misses, Halts, Passes, Ticked, Nears, IsPending}
+use Rattle.reg_records.specs.RestParts.{nodes_in, link_in, pending_in, distance_in, IsGoingOn, Misses, Halts, Passes}
+use Rattle.reg_records.specs.RestParts.{Ticked, Nears, IsPending}
 use Rattle.reg_records.proofs.EntryFacts.{pending_one}
 use Rattle.reg_records.proofs.Nearer.{pending_within}
 use Rattle.reg_records.proofs.Taking.{quiet_same}
@@ -21,7 +23,8 @@ use Rattle.reg_records.proofs.GoingOn.{longer, moves_both, later_both, later_one
 use Rattle.reg_records.proofs.Making.{stepped, ticks}
 
 module _ (start : Op → ℕ → Start) (old : Made) (p first : ℕ) where
-  pub ticked_first : (new : Made) → IsGoingOn start old → IsPending start old p first → Accepts start old (Tick p) new → Ticked start old p first first new
+  pub ticked_first : (new : Made) → IsGoingOn start old → IsPending start old p first → Accepts start old (Tick p) new
+      → Ticked start old p first first new
   ticked_first new G L made =
       let w = nodes_in start old in
       let n = old.processes in
@@ -102,7 +105,9 @@ module _ (start : Op → ℕ → Start) (old : Made) (p first : ℕ) where
   pub some_pending : IsPending start old p first → 0 < pending_in start old p
   some_pending L = let a = pending_one (nodes_in start old p).state.peers first in let b = L.some in omega (arith, a, b)
 
-  pub tick_halts : (new : Made) (fault : SettleFault) → IsGoingOn start old → length old.accepted ≤ MOST_EVENTS → IsPending start old p first → Misses start old (Tick p) fault new → Halts start (put_for (nodes_in start old)) old (3 * distance_in start old) fault new
+  pub tick_halts : (new : Made) (fault : SettleFault) → IsGoingOn start old → length old.accepted ≤ MOST_EVENTS
+      → IsPending start old p first → Misses start old (Tick p) fault new
+      → Halts start (put_for (nodes_in start old)) old (3 * distance_in start old) fault new
   tick_halts new fault G few L H =
       let a = some_pending L in
       let b = pending_within old.processes p (nodes_in start old) L.sender in

@@ -1,5 +1,6 @@
 -- A record has one verdict.
-use Rattle.std.proofs.Common.{◌≡◌, ◌≢◌, ◌⊎◌, inl, inr, ℕ, zero, suc, ◌<◌, ◌≤◌, List, [], ◌∷◌, length, Some, refl, ap₂, sym, ◌∙◌, subst, arith}
+use Rattle.std.proofs.Common.{◌≡◌, ◌≢◌, ◌⊎◌, inl, inr, ℕ, zero, suc, ◌<◌, ◌≤◌, List, [], ◌∷◌, length, Some, refl, ap₂}
+use Rattle.std.proofs.Common.{sym, ◌∙◌, subst, arith}
 use Rattle.std.proofs.lemmas.Bool.{cases_order}
 use Rattle.reg_base.specs.declared.memory.Op.{Op}
 use Rattle.reg_base.specs.declared.memory.OpId.{OpId}
@@ -19,11 +20,13 @@ use Rattle.reg_records.specs.Records.{Plays, IsFaithful, FailsAt, AreAlike}
 use Rattle.reg_records.specs.Receipts.{IsReceipt, AreFinished, AreTold, IsRecord, IsRecordFault}
 use Rattle.reg_records.proofs.Alike.{plays_alike}
 
-pub one_run : (start : Op → ℕ → Start) (shape : Extent) (order : List ℕ) (logs : List (List LogEntry)) (u v : Made) → IsFaithful start shape order logs u → IsFaithful start shape order logs v → AreAlike start u v
+pub one_run : (start : Op → ℕ → Start) (shape : Extent) (order : List ℕ) (logs : List (List LogEntry)) (u v : Made)
+    → IsFaithful start shape order logs u → IsFaithful start shape order logs v → AreAlike start u v
 one_run start shape order logs u v a b = plays_alike start shape order logs (length order) u v a.plays b.plays
 
 -- lists with the same elements at the same places
-same_lists : {X : Type 0} (xs ys : List X) → ((k : ℕ) (x : X) → IsAt xs k x → IsAt ys k x) → length xs ≡ length ys → xs ≡ ys
+same_lists : {X : Type 0} (xs ys : List X) → ((k : ℕ) (x : X) → IsAt xs k x → IsAt ys k x) → length xs ≡ length ys
+    → xs ≡ ys
 same_lists [] [] each e = refl
 same_lists [] (y ∷ ys) each e = absurd (omega arith)
 same_lists (x ∷ xs) [] each e = absurd (omega arith)
@@ -53,8 +56,10 @@ module _ (n registers : ℕ) (h : List Entry) (good : IsHistory n registers h) (
       let there = stands_too a b x y (length b) last.0 last.1 in
       let bad = within b (length b) last.0 there in omega arith
 
-pub one_list : (n registers : ℕ) (h : List Entry) → IsHistory n registers h → (p : ℕ) (a b : List Receipt) → AreFinished h p a → AreFinished h p b → a ≡ b
-one_list n registers h good p a b x y = same_lists a b (stands_too n registers h good p a b x y) (len (cases_order (length a) (length b)))
+pub one_list : (n registers : ℕ) (h : List Entry) → IsHistory n registers h → (p : ℕ) (a b : List Receipt)
+    → AreFinished h p a → AreFinished h p b → a ≡ b
+one_list n registers h good p a b x y =
+    same_lists a b (stands_too n registers h good p a b x y) (len (cases_order (length a) (length b)))
   where
     len : (length a ≡ length b) ⊎ ((length a < length b) ⊎ (length b < length a)) → length a ≡ length b
     len (inl e) = e
@@ -62,16 +67,21 @@ one_list n registers h good p a b x y = same_lists a b (stands_too n registers h
     len (inr (inr gt)) = absurd (not_longer n registers h good p a b x y gt)
 
 -- what is played is played up to every place before
-played_before : (start : Op → ℕ → Start) (shape : Extent) (order : List ℕ) (logs : List (List LogEntry)) (j k : ℕ) (w : Made) → Plays start shape order logs k w → j ≤ k → (v : Made) × Plays start shape order logs j v
-played_before start shape order logs j zero w plays le = let e : zero ≡ j = omega arith in (w, subst (λ (i : ℕ). Plays start shape order logs i w) e plays)
-played_before start shape order logs j (suc k) w (before, plays, turn) le = go (λ (h : j ≤ k). played_before start shape order logs j k before plays h) (cases_order j (suc k))
+played_before : (start : Op → ℕ → Start) (shape : Extent) (order : List ℕ) (logs : List (List LogEntry)) (j k : ℕ)
+    (w : Made)
+    → Plays start shape order logs k w → j ≤ k → (v : Made) × Plays start shape order logs j v
+played_before start shape order logs j zero w plays le =
+    let e : zero ≡ j = omega arith in (w, subst (λ (i : ℕ). Plays start shape order logs i w) e plays)
+played_before start shape order logs j (suc k) w (before, plays, turn) le =
+    go (λ (h : j ≤ k). played_before start shape order logs j k before plays h) (cases_order j (suc k))
   where
     go : (j ≤ k → (v : Made) × Plays start shape order logs j v) → (j ≡ suc k) ⊎ ((j < suc k) ⊎ (suc k < j)) → (v : Made) × Plays start shape order logs j v
     go rec (inl e) = (w, subst (λ (i : ℕ). Plays start shape order logs i w) (sym e) (before, plays, turn))
     go rec (inr (inl lt)) = rec (omega arith)
     go rec (inr (inr gt)) = absurd (omega arith)
 
-fails : (start : Op → ℕ → Start) (shape : Extent) (order : List ℕ) (logs : List (List LogEntry)) (place : ℕ) (w : Made) → FailsAt start shape order logs place → IsFaithful start shape order logs w → ⊥
+fails : (start : Op → ℕ → Start) (shape : Extent) (order : List ℕ) (logs : List (List LogEntry)) (place : ℕ) (w : Made)
+    → FailsAt start shape order logs place → IsFaithful start shape order logs w → ⊥
 fails start shape order logs place w f faithful = go (cases_order place (length order))
   where
     go : (place ≡ length order) ⊎ ((place < length order) ⊎ (length order < place)) → ⊥
@@ -79,8 +89,12 @@ fails start shape order logs place w f faithful = go (cases_order place (length 
     go (inr (inl lt)) = let v = played_before start shape order logs (suc place) (length order) w faithful.plays (omega arith) in f.stuck lt v.0 v.1
     go (inr (inr gt)) = let le = f.within in absurd (omega arith)
 
-pub fault_is_no_record : (start : Op → ℕ → Start) (shape : Extent) (order : List ℕ) (logs : List (List LogEntry)) (lists : List (List Receipt)) (fault : CloseFault) → fault ≢ OutOfMemory → IsRecordFault start shape order logs lists fault → (w : Made) → ¬ IsRecord start shape order logs lists w
-fault_is_no_record start shape order logs lists (Unfaithful place) other f w r = fails start shape order logs place w f r.faithful
+pub fault_is_no_record : (start : Op → ℕ → Start) (shape : Extent) (order : List ℕ) (logs : List (List LogEntry))
+    (lists : List (List Receipt)) (fault : CloseFault)
+    → fault ≢ OutOfMemory → IsRecordFault start shape order logs lists fault → (w : Made)
+    → ¬ IsRecord start shape order logs lists w
+fault_is_no_record start shape order logs lists (Unfaithful place) other f w r =
+    fails start shape order logs place w f r.faithful
 fault_is_no_record start shape order logs lists (Mismatch p) other f w r =
     let history = (one_run start shape order logs f.world w f.faithful r.faithful).history in
     let told : AreTold f.world.history lists = subst (λ (h : List Entry). AreTold h lists) (sym history) r.told in

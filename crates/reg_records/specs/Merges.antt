@@ -17,10 +17,12 @@ IsRun start shape logs order w = Plays start shape order logs (length order) w
 
 -- no run of first entries of the logs has more than this many of p
 abbrev pub NoneHasMore : (Op → ℕ → Start) → Extent → List (List LogEntry) → ℕ → ℕ → Type 0
-NoneHasMore start shape logs p count = (further : List ℕ) (w : Made) → IsRun start shape logs further w → mentions p further ≤ count
+NoneHasMore start shape logs p count =
+    (further : List ℕ) (w : Made) → IsRun start shape logs further w → mentions p further ≤ count
 
 -- A greatest order: it is a run of first entries of the logs, and no such run has more entries of any log.
-pub record IsGreatest (start : Op → ℕ → Start) (shape : Extent) (logs : List (List LogEntry)) (order : List ℕ) : Type 0 where
+pub record IsGreatest (start : Op → ℕ → Start) (shape : Extent) (logs : List (List LogEntry))
+    (order : List ℕ) : Type 0 where
   pub world : Made
   pub runs : IsRun start shape logs order world
   pub most : (p : ℕ) → NoneHasMore start shape logs p (mentions p order)
@@ -33,7 +35,8 @@ pub record IsFirstLeft (logs : List (List LogEntry)) (order : List ℕ) (p place
   pub before : (q : ℕ) → q < p → entry_of logs q (mentions q order) ≡ None
 
 -- The entry at this place of the log of p is in no run of first entries of the logs, though one has all before it.
-pub record IsBlocked (start : Op → ℕ → Start) (shape : Extent) (logs : List (List LogEntry)) (p place : ℕ) : Type 0 where
+pub record IsBlocked (start : Op → ℕ → Start) (shape : Extent) (logs : List (List LogEntry))
+    (p place : ℕ) : Type 0 where
   pub order : List ℕ
   pub world : Made
   pub runs : IsRun start shape logs order world

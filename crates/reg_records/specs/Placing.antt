@@ -23,9 +23,11 @@ NoEntry start w p entry = (e : Event) → IsEntry start w p entry e → ⊥
 
 -- What came of trying to make an entry. Where it waits, and whole wires were looked through, no event is it.
 abbrev pub HasGone : (Op → ℕ → Start) → Made → ℕ → LogEntry → Search → Going → Made → Type 0
-HasGone start old p entry search WasMade new = (e : Event) × IsEntry start old p entry e × (new ≡ with_event start old e)
+HasGone start old p entry search WasMade new =
+    (e : Event) × IsEntry start old p entry e × (new ≡ with_event start old e)
 HasGone start old p entry search Waited new = (new ≡ old) × (search ≡ Whole → NoEntry start old p entry)
-HasGone start old p entry search Other new = ((e : Event) × IsEventOf (run_in start old).nodes p entry.step e) × NoEntry start old p entry
+HasGone start old p entry search Other new =
+    ((e : Event) × IsEventOf (run_in start old).nodes p entry.step e) × NoEntry start old p entry
 
 -- the entries that are placed: their processes in order, how many there are of each, and the world after them
 pub record Stand : Type 0 where
@@ -46,7 +48,8 @@ pub record IsPlacing (start : Op → ℕ → Start) (logs : List (List LogEntry)
 -- nothing is placed
 pub record IsNew (shape : Extent) (s : Stand) : Type 0 where
   pub shape_is : shape_of s.world ≡ shape
-  pub none : (start : Op → ℕ → Start) (logs : List (List LogEntry)) → length logs ≡ shape.processes → IsPlacing start logs s
+  pub none : (start : Op → ℕ → Start) (logs : List (List LogEntry)) → length logs ≡ shape.processes
+      → IsPlacing start logs s
 
 -- more is placed, by at least this many entries
 pub record GoesOnBy (more : ℕ) (start : Op → ℕ → Start) (logs : List (List LogEntry)) (old new : Stand) : Type 0 where
@@ -59,7 +62,9 @@ GoesOn = GoesOnBy 0
 
 -- the next entry of the log of p, if there is one, can't go, and not for want of room
 abbrev pub CannotGo : (Op → ℕ → Start) → List (List LogEntry) → Stand → ℕ → Type 0
-CannotGo start logs s p = (entry : LogEntry) → entry_of logs p (mentions p s.order) ≡ Some entry → (length s.order < MOST_EVENTS) × NoEntry start s.world p entry
+CannotGo start logs s p =
+    (entry : LogEntry) → entry_of logs p (mentions p s.order) ≡ Some entry
+    → (length s.order < MOST_EVENTS) × NoEntry start s.world p entry
 
 -- what came of trying to place the next entry of the log of p
 abbrev pub HasPlaced : (Op → ℕ → Start) → List (List LogEntry) → ℕ → Stand → Search → Next → Stand → Type 0
@@ -70,4 +75,5 @@ HasPlaced start logs p old search Done new = (new ≡ old) × (search ≡ Whole 
 -- whether any entry was placed, or none can go
 abbrev pub HasPlacedAny : (Op → ℕ → Start) → List (List LogEntry) → Stand → Bool → Stand → Type 0
 HasPlacedAny start logs old true new = GoesOnBy 1 start logs old new
-HasPlacedAny start logs old false new = GoesOnBy 0 start logs old new × ((p : ℕ) → p < length logs → CannotGo start logs new p)
+HasPlacedAny start logs old false new =
+    GoesOnBy 0 start logs old new × ((p : ℕ) → p < length logs → CannotGo start logs new p)

@@ -39,18 +39,21 @@ pub record IsFirstUntold (h : List Entry) (lists : List (List Receipt)) (p : ℕ
 
 -- the order and the logs are a run that ends in this world, and each list is the finished operations of its process in
 -- it
-pub record IsRecord (start : Op → ℕ → Start) (shape : Extent) (order : List ℕ) (logs : List (List LogEntry)) (lists : List (List Receipt)) (w : Made) : Type 0 where
+pub record IsRecord (start : Op → ℕ → Start) (shape : Extent) (order : List ℕ) (logs : List (List LogEntry))
+    (lists : List (List Receipt)) (w : Made) : Type 0 where
   pub faithful : IsFaithful start shape order logs w
   pub told : AreTold w.history lists
 
 -- the order and the logs are a run, in which p is the first process whose list is not its finished operations
-pub record IsMismatch (start : Op → ℕ → Start) (shape : Extent) (order : List ℕ) (logs : List (List LogEntry)) (lists : List (List Receipt)) (p : ℕ) : Type 0 where
+pub record IsMismatch (start : Op → ℕ → Start) (shape : Extent) (order : List ℕ) (logs : List (List LogEntry))
+    (lists : List (List Receipt)) (p : ℕ) : Type 0 where
   pub world : Made
   pub faithful : IsFaithful start shape order logs world
   pub untold : IsFirstUntold world.history lists p
 
 -- why a record is refused, `OutOfMemory` aside
-abbrev pub IsRecordFault : (Op → ℕ → Start) → Extent → List ℕ → List (List LogEntry) → List (List Receipt) → CloseFault → Type 0
+abbrev pub IsRecordFault : (Op → ℕ → Start) → Extent → List ℕ → List (List LogEntry) → List (List Receipt) → CloseFault
+    → Type 0
 IsRecordFault start shape order logs lists (Unfaithful place) = FailsAt start shape order logs place
 IsRecordFault start shape order logs lists (Mismatch p) = IsMismatch start shape order logs lists p
 IsRecordFault start shape order logs lists OutOfMemory = Unit {0}

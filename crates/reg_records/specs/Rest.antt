@@ -1,5 +1,6 @@
 -- How far a run is from rest, and what bringing it there does.
-use Rattle.std.specs.Prelude.{ℕ, ◌≡◌, ◌+◌, ◌-◌, ◌*◌, ◌<◌, ◌≤◌, Bool, true, false, ◌==◌, cond, List, ◌++◌, length, drop, None}
+use Rattle.std.specs.Prelude.{ℕ, ◌≡◌, ◌+◌, ◌-◌, ◌*◌, ◌<◌, ◌≤◌, Bool, true, false, ◌==◌, cond, List, ◌++◌, length, drop}
+use Rattle.std.specs.Prelude.{None}
 use Rattle.std.specs.List.{count_by}
 use Rattle.reg_base.specs.declared.limits.TheConstants.{MOST_EVENTS}
 use Rattle.reg_base.specs.declared.memory.Op.{Op}
@@ -59,7 +60,11 @@ AreLater w events = (e : Event) → In e events → IsLater (put_for w) e
 
 -- a world with more events
 abbrev pub with_events : (Op → ℕ → Start) → Made → List Event → Made
-with_events start w more = record w { accepted = w.accepted ++ more; history = (whole start w.processes w.registers (w.accepted ++ more)).history }
+with_events start w more =
+    record w {
+      accepted = w.accepted ++ more;
+      history = (whole start w.processes w.registers (w.accepted ++ more)).history;
+    }
 
 -- More ticks and takes, each accepted, were made after the events before.
 pub record GoesOn (start : Op → ℕ → Start) (old : Made) (new : Made) : Type 0 where
@@ -86,9 +91,12 @@ LacksMemory start last new = ((e : Event) × (refusal start last e ≡ None)) ×
 abbrev pub Stops : (Op → ℕ → Start) → Made → SettleFault → Made → Type 0
 Stops start old Failed new = (old.failed ≡ true) × (new ≡ old)
 Stops start old TooManyEvents new =
-    (old.failed ≡ false) × GoesOn start old new × (0 < distance new.processes (run_in start new).nodes) × (length new.accepted ≡ MOST_EVENTS) × (MOST_EVENTS < length old.accepted + most_to_rest old.processes (run_in start old).nodes)
+    (old.failed ≡ false) × GoesOn start old new × (0 < distance new.processes (run_in start new).nodes)
+    × (length new.accepted ≡ MOST_EVENTS)
+    × (MOST_EVENTS < length old.accepted + most_to_rest old.processes (run_in start old).nodes)
 Stops start old OutOfMemory new =
-    (old.failed ≡ false) × (last : Made) × GoesOn start old last × (0 < distance last.processes (run_in start last).nodes) × LacksMemory start last new
+    (old.failed ≡ false) × (last : Made) × GoesOn start old last
+    × (0 < distance last.processes (run_in start last).nodes) × LacksMemory start last new
 
 -- A run that can come to rest, by at most as many ticks and takes as the bound says, each accepted, and no take of a
 -- frame that was put before.

@@ -57,8 +57,11 @@ Misses start old e OutOfMemory new = (refusal start old e ≡ None) × (new ≡ 
 abbrev pub Halts : (Op → ℕ → Start) → (ℕ → ℕ → ℕ) → Made → ℕ → SettleFault → Made → Type 0
 Halts start passed old limit Failed new = ⊥
 Halts start passed old limit TooManyEvents new =
-    Moves start old new × AreLaterSince passed old new × (0 < distance_in start new) × (length new.accepted ≡ MOST_EVENTS) × (length new.accepted < length old.accepted + limit)
-Halts start passed old limit OutOfMemory new = (last : Made) × Moves start old last × AreLaterSince passed old last × (0 < distance_in start last) × LacksMemory start last new
+    Moves start old new × AreLaterSince passed old new × (0 < distance_in start new)
+    × (length new.accepted ≡ MOST_EVENTS) × (length new.accepted < length old.accepted + limit)
+Halts start passed old limit OutOfMemory new =
+    (last : Made) × Moves start old last × AreLaterSince passed old last × (0 < distance_in start last)
+    × LacksMemory start last new
 
 -- what a tick put again for a process stands at the end of the wire, after the frames that were passed
 pub record IsAgain (start : Op → ℕ → Start) (passed : ℕ → ℕ → ℕ) (m : Made) (from to : ℕ) : Type 0 where
@@ -76,14 +79,17 @@ pub record Passes (start : Op → ℕ → Start) (passed : ℕ → ℕ → ℕ) 
   pub less : pending_in start new from ≤ pending_in start old from
   pub some : 0 < length (link_in start old from to).pending → pending_in start new from < pending_in start old from
   pub wires : (r : ℕ) → (nodes_in start new from).wire r ≡ (nodes_in start old from).wire r
-  pub links : (r : ℕ) → (r ≡ to → ⊥) → resent (nodes_in start new from).state r ≡ resent (nodes_in start old from).state r
+  pub links : (r : ℕ) → (r ≡ to → ⊥)
+      → resent (nodes_in start new from).state r ≡ resent (nodes_in start old from).state r
 
 -- the frame at this place is the count of those that a process accepted
 abbrev pub IsAnswer : (Op → ℕ → Start) → Made → ℕ → ℕ → ℕ → Type 0
-IsAnswer start m from to answer = slice_get ((nodes_in start m to).wire from) answer ≡ Some (Got (link_in start m to from).expected)
+IsAnswer start m from to answer =
+    slice_get ((nodes_in start m to).wire from) answer ≡ Some (Got (link_in start m to from).expected)
 
 -- `done` of the frames put again were taken, and the last was answered at this place by the count of those accepted
-pub record Passing (start : Op → ℕ → Start) (passed : ℕ → ℕ → ℕ) (old : Made) (from to first done answer : ℕ) (new : Made) : Type 0 where
+pub record Passing (start : Op → ℕ → Start) (passed : ℕ → ℕ → ℕ) (old : Made) (from to first done answer : ℕ)
+    (new : Made) : Type 0 where
   pub moves : Moves start old new
   pub later : AreLaterSince passed old new
   pub count : length new.accepted ≡ length old.accepted + done
@@ -98,12 +104,15 @@ pub record Ticked (start : Op → ℕ → Start) (old : Made) (process first to 
   pub moves : Moves start old new
   pub later : AreLaterSince (put_for (nodes_in start old)) old new
   pub ticked : length old.accepted < length new.accepted
-  pub spent : length new.accepted + 2 * pending_in start new process ≤ length old.accepted + 1 + 2 * pending_in start old process
-  pub nearer : distance_in start new + pending_in start old process ≤ distance_in start old + pending_in start new process
+  pub spent : length new.accepted + 2 * pending_in start new process
+      ≤ length old.accepted + 1 + 2 * pending_in start old process
+  pub nearer : distance_in start new + pending_in start old process
+      ≤ distance_in start old + pending_in start new process
   pub less : pending_in start new process ≤ pending_in start old process
   pub left : to ≡ first → 0 < length (link_in start new process first).pending
   pub some : first < to → pending_in start new process < pending_in start old process
-  pub again : (r : ℕ) → to ≤ r → r < old.processes → (r ≡ process → ⊥) → IsAgain start (put_for (nodes_in start old)) new process r
+  pub again : (r : ℕ) → to ≤ r → r < old.processes → (r ≡ process → ⊥)
+      → IsAgain start (put_for (nodes_in start old)) new process r
 
 -- the run is nearer to rest, by a third of the events at least
 pub record Nears (start : Op → ℕ → Start) (old new : Made) : Type 0 where

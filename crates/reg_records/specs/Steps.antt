@@ -14,7 +14,8 @@ step_in p (Some m) = cond (p == m.0) (m.1 ∷ []) []
 -- the steps that a process makes by these events, from this world on; a refused event makes none
 abbrev pub steps_from : (Op → ℕ → Start) → ℕ → ℕ → ℕ → List Event → World → List Step
 steps_from start n registers p [] w = []
-steps_from start n registers p (e ∷ es) w = step_in p (move_of n registers w e) ++ steps_from start n registers p es (happens start n registers w e)
+steps_from start n registers p (e ∷ es) w =
+    step_in p (move_of n registers w e) ++ steps_from start n registers p es (happens start n registers w e)
 
 abbrev pub steps_of : (Op → ℕ → Start) → ℕ → ℕ → List Event → ℕ → List Step
 steps_of start n registers events p = steps_from start n registers p events (empty_world n registers)

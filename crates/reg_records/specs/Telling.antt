@@ -19,14 +19,18 @@ receipt_by id call at answer = record { id = id; op = call.op; answer = answer; 
 
 -- the next receipt is that of this answer
 abbrev pub IsNextReceipt : Matched → List Receipt → ℕ → OpId → Answer → Type 0
-IsNextReceipt told receipts at id answer = (call : Pending) × (told.running ≡ Some call) × IsAt receipts told.done (receipt_by id call at answer)
+IsNextReceipt told receipts at id answer =
+    (call : Pending) × (told.running ≡ Some call) × IsAt receipts told.done (receipt_by id call at answer)
 
 -- how far the process is after one more entry
 abbrev pub IsAfter : Matched → ℕ → List Receipt → Entry → Matched → Type 0
 IsAfter told p receipts (Called at id op) next =
-    (id.process ≡ p → next ≡ record { done = told.done; running = Some (record { at = at; op = op }) }) × (id.process ≢ p → next ≡ told)
+    (id.process ≡ p → next ≡ record { done = told.done; running = Some (record { at = at; op = op }) })
+    × (id.process ≢ p → next ≡ told)
 IsAfter told p receipts (Answered at id answer) next =
-    (id.process ≡ p → IsNextReceipt told receipts at id answer × (next ≡ record { done = told.done + 1; running = None })) × (id.process ≢ p → next ≡ told)
+    (id.process ≡ p
+    → IsNextReceipt told receipts at id answer × (next ≡ record { done = told.done + 1; running = None }))
+    × (id.process ≢ p → next ≡ told)
 
 -- the entry is an answer of the process, and the next receipt isn't that answer's
 abbrev pub IsOther : Matched → ℕ → List Receipt → Entry → Type 0

@@ -62,7 +62,8 @@ fn first_place<F: FrontEnd, A: Allocator + Copy, W: WireStore<A>>(
     requires going { world.now.failed ≡ false }
     requires two { AreTwo world.now from to }
     requires count { count ≡ length (frames_on F.start world.now from to) }
-    ensures { MatchOption result ((k : ℕ) → IsAt (frames_on F.start world.now from to) k frame.now → ⊥) (λ k. IsAt (frames_on F.start world.now from to) k frame.now) }
+    ensures { MatchOption result ((k : ℕ) → IsAt (frames_on F.start world.now from to) k frame.now → ⊥)
+        (λ k. IsAt (frames_on F.start world.now from to) k frame.now) }
 {
     for place in 0..count {
         if stands_at(world, from, to, place, frame) {
@@ -81,7 +82,9 @@ fn hinted_take<F: FrontEnd, A: Allocator + Copy, W: WireStore<A>>(
     frame: &Frame,
 ) -> Result<Option<Event>, AllocError>
     requires { world.now.failed ≡ false }
-    ensures { IfOk result (λ found. MatchOption found ⊤ (λ event. IsEventOf (run_in F.start world.now).nodes to (Take from frame.now) event)) }
+    ensures { IfOk result
+        (λ found. MatchOption found ⊤
+        (λ event. IsEventOf (run_in F.start world.now).nodes to (Take from frame.now) event)) }
 {
     if count_on(world, from, to).is_none() {
         return Ok(None);
@@ -104,7 +107,8 @@ fn first_take<F: FrontEnd, A: Allocator + Copy, W: WireStore<A>>(
     frame: &Frame,
 ) -> Option<Event>
     requires { world.now.failed ≡ false }
-    ensures { MatchOption result (NoEvent F.start world.now to (Take from frame.now)) (λ event. IsEventOf (run_in F.start world.now).nodes to (Take from frame.now) event) }
+    ensures { MatchOption result (NoEvent F.start world.now to (Take from frame.now))
+        (λ event. IsEventOf (run_in F.start world.now).nodes to (Take from frame.now) event) }
 {
     let count = count_on(world, from, to)?;
     let number = first_place(world, from, to, count, frame)?;
@@ -120,7 +124,8 @@ pub fn hinted_event<F: FrontEnd, A: Allocator + Copy, W: WireStore<A>>(
     step: &Step,
 ) -> Result<Option<Event>, AllocError>
     requires { world.now.failed ≡ false }
-    ensures { IfOk result (λ found. MatchOption found ⊤ (λ event. IsEventOf (run_in F.start world.now).nodes process step.now event)) }
+    ensures { IfOk result
+        (λ found. MatchOption found ⊤ (λ event. IsEventOf (run_in F.start world.now).nodes process step.now event)) }
 {
     match *step {
         Step::Call { op } => Ok(Some(Event::Call { process, op })),
@@ -137,7 +142,9 @@ pub fn event_of<F: FrontEnd, A: Allocator + Copy, W: WireStore<A>>(
     step: &Step,
 ) -> Result<Option<Event>, AllocError>
     requires { world.now.failed ≡ false }
-    ensures { IfOk result (λ found. MatchOption found (NoEvent F.start world.now process step.now) (λ event. IsEventOf (run_in F.start world.now).nodes process step.now event)) }
+    ensures { IfOk result
+        (λ found. MatchOption found (NoEvent F.start world.now process step.now)
+        (λ event. IsEventOf (run_in F.start world.now).nodes process step.now event)) }
 {
     if let Some(event) = hinted_event(hints, world, process, step)? {
         return Ok(Some(event));

@@ -72,7 +72,9 @@ pub fn merge<F: FrontEnd, A: Allocator + Copy, W: WireStore<A>>(
 ) -> Result<Merged<A>, MergeFault>
     requires { length logs.now ≡ shape.processes }
     ensures greatest { IfOk result (λ m. IsGreatest F.start shape (lists logs.now) m.order.items) }
-    ensures left { IfOk result (λ m. MatchOption m.left (NothingLeft m.order.items (lists logs.now)) (λ l. IsFirstLeft (lists logs.now) m.order.items l.process l.place)) }
+    ensures left { IfOk result
+        (λ m. MatchOption m.left (NothingLeft m.order.items (lists logs.now))
+        (λ l. IsFirstLeft (lists logs.now) m.order.items l.process l.place)) }
     ensures fault { IfErr result (λ f. IsMergeFault F.start shape (lists logs.now) f) }
 {
     let mut placing: Placing<F, A, W> = Placing::new(alloc, shape)?;

@@ -10,7 +10,11 @@ ghost use Rattle.reg_checkers.specs.History.{IsHistory};
 ghost use Rattle.reg_checkers.specs.Orders.{IsPointOrder};
 ghost use Rattle.reg_world.specs.World.{op_id};
 ghost use Rattle.reg_records.specs.Overtaking.{Gives, Overtakes};
-ghost use Rattle.reg_records.specs.Runs.{stale_read, stale_read_history, stale_after_swap, stale_after_swap_history, stale_after_cas, stale_after_cas_history, new_then_old, new_then_old_history, new_then_old_at_once_history, unseen_write, unseen_write_history, overtaking_swap, overtaking_swap_history, overtaking_cas, overtaking_cas_history, overtaking_write, overtaking_write_history};
+ghost use Rattle.reg_records.specs.Runs.{stale_read, stale_read_history, stale_after_swap, stale_after_swap_history};
+ghost use Rattle.reg_records.specs.Runs.{stale_after_cas, stale_after_cas_history, new_then_old, new_then_old_history};
+ghost use Rattle.reg_records.specs.Runs.{new_then_old_at_once_history, unseen_write, unseen_write_history};
+ghost use Rattle.reg_records.specs.Runs.{overtaking_swap, overtaking_swap_history, overtaking_cas};
+ghost use Rattle.reg_records.specs.Runs.{overtaking_cas_history, overtaking_write, overtaking_write_history};
 
 /// With `local-read` a read overtakes a write.
 pub fn local_read_write_then_read()
@@ -71,7 +75,8 @@ pub fn local_write_read_then_read()
 /// A history in which an operation overtakes another has no point order: so neither `local-read` nor `local-write` is
 /// linearizable.
 pub fn no_points()
-    ensures all { (n registers : ℕ) (h : List Entry) (a b : OpId) → IsHistory n registers h → Overtakes registers h b a → (points : List Point) → ¬ (IsPointOrder registers h points) }
+    ensures all { (n registers : ℕ) (h : List Entry) (a b : OpId) → IsHistory n registers h → Overtakes registers h b a
+        → (points : List Point) → ¬ (IsPointOrder registers h points) }
     ensures local_read { (points : List Point) → ¬ (IsPointOrder 1 stale_read_history points) }
     ensures local_write { (points : List Point) → ¬ (IsPointOrder 1 unseen_write_history points) }
 {}

@@ -1,5 +1,6 @@
 //! Entries as they are placed.
-ghost use Rattle.std.specs.Prelude.{◌≡◌, ◌<◌, ◌≤◌, ◌+◌, ◌^◌, ◌++◌, ◌∷◌, [], IfErr, IfOk, MatchOption, OnOk, length, vec_len};
+ghost use Rattle.std.specs.Prelude.{◌≡◌, ◌<◌, ◌≤◌, ◌+◌, ◌^◌, ◌++◌, ◌∷◌, [], IfErr, IfOk, MatchOption, OnOk, length};
+ghost use Rattle.std.specs.Prelude.{vec_len};
 ghost use Rattle.reg_base.specs.Lists.{lists};
 ghost use Rattle.reg_records.specs.Playing.{AreTallied};
 ghost use Rattle.reg_base.specs.declared.limits.TheConstants.{MOST_PROCESSES};
@@ -184,7 +185,8 @@ impl<F: FrontEnd, A: Allocator + Copy, W: WireStore<A>> Placing<F, A, W> {
     pub(crate) fn first_left(&self, logs: &[Vec<LogEntry, A>]) -> Option<Left>
         requires placing { IsPlacing F.start (lists logs.now) self.now }
         requires few { length logs.now ≤ MOST_PROCESSES }
-        ensures { MatchOption result (NothingLeft self.now.order (lists logs.now)) (λ left. IsFirstLeft (lists logs.now) self.now.order left.process left.place) }
+        ensures { MatchOption result (NothingLeft self.now.order (lists logs.now))
+            (λ left. IsFirstLeft (lists logs.now) self.now.order left.process left.place) }
     {
         for process in 0..logs.len() as u8 {
             let place = self.counts[usize::from(process)];

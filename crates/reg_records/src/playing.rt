@@ -83,7 +83,8 @@ fn next_entry<A: Allocator + Copy>(
     requires within { place < length order.now }
     requires tallied { AreTallied counts.now order.now place }
     requires len { length counts.now ≡ length logs.now }
-    ensures { MatchOption result (StandsForNone order.now (lists logs.now) place) (λ next. StandsFor order.now (lists logs.now) place next.0 next.1) }
+    ensures { MatchOption result (StandsForNone order.now (lists logs.now) place)
+        (λ next. StandsFor order.now (lists logs.now) place next.0 next.1) }
 {
     let by = order[place];
     let process = usize::from(by);
@@ -116,7 +117,8 @@ pub fn play<F: FrontEnd, A: Allocator + Copy, W: WireStore<A>>(
     logs: &[Vec<LogEntry, A>],
 ) -> Result<World<F, A, W>, CloseFault>
     requires { length logs.now ≡ shape.processes }
-    ensures { MatchResult result (λ w. IsFaithful F.start shape order.now (lists logs.now) w) (λ fault. IsPlayFault F.start shape order.now (lists logs.now) fault) }
+    ensures { MatchResult result (λ w. IsFaithful F.start shape order.now (lists logs.now) w)
+        (λ fault. IsPlayFault F.start shape order.now (lists logs.now) fault) }
 {
     let Ok(mut hints) = Hints::new(alloc) else {
         return Err(CloseFault::OutOfMemory);

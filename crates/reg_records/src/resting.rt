@@ -1,12 +1,14 @@
 //! Bringing a world to rest.
-ghost use Rattle.std.specs.Prelude.{ℕ, ◌≡◌, ◌≢◌, ◌+◌, ◌*◌, ◌<◌, None, Some, IfOk, OnOk, IfSome, MatchResult, MatchOption, length, min};
+ghost use Rattle.std.specs.Prelude.{ℕ, ◌≡◌, ◌≢◌, ◌+◌, ◌*◌, ◌<◌, None, Some, IfOk, OnOk, IfSome, MatchResult};
+ghost use Rattle.std.specs.Prelude.{MatchOption, length, min};
 ghost use Rattle.reg_base.specs.declared.limits.TheConstants.{MOST_EVENTS, MOST_RESENT};
 ghost use Rattle.reg_world.specs.Laws.{AllAcknowledged};
 ghost use Rattle.reg_world.specs.World.{event_fault};
 ghost use Rattle.reg_world.specs.Worlds.{Accepts};
 ghost use Rattle.reg_process.specs.declared.events.Event.TheVariants.{Take, Tick};
 ghost use Rattle.reg_records.specs.Rest.{Settles, Stops, put_for};
-ghost use Rattle.reg_records.specs.RestParts.{nodes_in, link_in, pending_in, distance_in, IsGoingOn, Misses, Halts, IsAgain, Passes, Nears, IsPending};
+ghost use Rattle.reg_records.specs.RestParts.{nodes_in, link_in, pending_in, distance_in, IsGoingOn, Misses, Halts};
+ghost use Rattle.reg_records.specs.RestParts.{IsAgain, Passes, Nears, IsPending};
 
 use crate::faults::SettleFault;
 use reg_base::limits::{MOST_EVENTS, MOST_RESENT};
@@ -28,7 +30,8 @@ fn make<F: FrontEnd, A: Allocator + Copy, W: WireStore<A>>(
 ) -> Result<(), SettleFault>
     requires on { IsGoingOn F.start world.old }
     requires allowed { event_fault world.old.processes world.old.registers (nodes_in F.start world.old) event ≡ None }
-    ensures { MatchResult result (λ _. Accepts F.start world.old event world.new) (λ fault. Misses F.start world.old event fault world.new) }
+    ensures { MatchResult result (λ _. Accepts F.start world.old event world.new)
+        (λ fault. Misses F.start world.old event fault world.new) }
 {
     match world.step(&event) {
         Ok(()) => Ok(()),
@@ -89,7 +92,8 @@ fn take<F: FrontEnd, A: Allocator + Copy, W: WireStore<A>>(
     requires to { to < world.old.processes }
     requires apart { from ≢ to }
     requires there { number < put_for (nodes_in F.start world.old) from to }
-    ensures made { MatchResult result (λ _. Accepts F.start world.old (Take from to number) world.new) (λ fault. Misses F.start world.old (Take from to number) fault world.new) }
+    ensures made { MatchResult result (λ _. Accepts F.start world.old (Take from to number) world.new)
+        (λ fault. Misses F.start world.old (Take from to number) fault world.new) }
     ensures answer { IfOk result (λ answer. answer ≡ put_for (nodes_in F.start world.old) to from) }
 {
     let answer = frame_count(world, to, from);
@@ -109,7 +113,9 @@ fn pass_on<F: FrontEnd, A: Allocator + Copy, W: WireStore<A>>(
     requires to { to < world.old.processes }
     requires apart { from ≢ to }
     requires again { IsAgain F.start (λ _ _. 0) world.old from to }
-    ensures { (passed : ℕ → ℕ → ℕ) → IsAgain F.start passed world.old from to → MatchResult result (λ _. Passes F.start passed world.old from to world.new) (λ fault. Halts F.start passed world.old (2 * pending_in F.start world.old from) fault world.new) }
+    ensures { (passed : ℕ → ℕ → ℕ) → IsAgain F.start passed world.old from to
+        → MatchResult result (λ _. Passes F.start passed world.old from to world.new)
+        (λ fault. Halts F.start passed world.old (2 * pending_in F.start world.old from) fault world.new) }
 {
     let count = again_count(world, from, to);
     if count == 0 {
@@ -135,7 +141,9 @@ fn tick_and_pass<F: FrontEnd, A: Allocator + Copy, W: WireStore<A>>(
     requires pending { IsPending F.start world.old process first }
     ensures nears { OnOk result (Nears F.start world.old world.new) }
     ensures more { OnOk result (length world.old.accepted < length world.new.accepted) }
-    ensures halts { MatchResult result (λ _. Unit {0}) (λ fault. Halts F.start (put_for (nodes_in F.start world.old)) world.old (3 * distance_in F.start world.old) fault world.new) }
+    ensures halts { MatchResult result (λ _. Unit {0})
+        (λ fault. Halts F.start (put_for (nodes_in F.start world.old)) world.old (3 * distance_in F.start world.old)
+        fault world.new) }
 {
     make(world, Event::Tick { process })?;
     for to in first..processes(world) {
@@ -153,7 +161,8 @@ fn pending_link<F: FrontEnd, A: Allocator + Copy, W: WireStore<A>>(
 ) -> Option<u8>
     requires on { IsGoingOn F.start world.now }
     requires process { process < world.now.processes }
-    ensures { MatchOption result (pending_in F.start world.now process ≡ 0) (λ to. IsPending F.start world.now process to) }
+    ensures { MatchOption result (pending_in F.start world.now process ≡ 0)
+        (λ to. IsPending F.start world.now process to) }
 {
     for to in 0..processes(world) {
         if to != process && again_count(world, process, to) > 0 {
@@ -188,7 +197,8 @@ fn next_link<F: FrontEnd, A: Allocator + Copy, W: WireStore<A>>(
     first: u8,
 ) -> Option<(u8, u8)>
     requires on { IsGoingOn F.start world.now }
-    ensures { MatchOption result (AllAcknowledged world.now.processes (nodes_in F.start world.now)) (λ link. IsPending F.start world.now link.0 link.1) }
+    ensures { MatchOption result (AllAcknowledged world.now.processes (nodes_in F.start world.now))
+        (λ link. IsPending F.start world.now link.0 link.1) }
 {
     if let Some(link) = pending_from(world, first) {
         return Some(link);
@@ -212,7 +222,8 @@ fn next_link<F: FrontEnd, A: Allocator + Copy, W: WireStore<A>>(
 pub fn settle<F: FrontEnd, A: Allocator + Copy, W: WireStore<A>>(
     world: &mut World<F, A, W>,
 ) -> Result<u32, SettleFault>
-    ensures { MatchResult result (λ count. Settles F.start world.old count world.new) (λ fault. Stops F.start world.old fault world.new) }
+    ensures { MatchResult result (λ count. Settles F.start world.old count world.new)
+        (λ fault. Stops F.start world.old fault world.new) }
 {
     if world.has_failed() {
         return Err(SettleFault::Failed);

@@ -53,7 +53,8 @@ fn stands_at(receipts: &[Receipt], place: usize, receipt: Receipt) -> bool
 /// How far the process is after one more entry. None where the entry is an answer of it, and the next receipt isn't
 /// that answer's.
 fn after(told: Matched, entry: &Entry, process: u8, receipts: &[Receipt]) -> Option<Matched>
-    ensures { MatchOption result (IsOther told process receipts.now entry.now) (λ next. IsAfter told process receipts.now entry.now next) }
+    ensures { MatchOption result (IsOther told process receipts.now entry.now)
+        (λ next. IsAfter told process receipts.now entry.now next) }
 {
     match *entry {
         Entry::Called { at, id, op } => {
@@ -112,14 +113,15 @@ fn is_told(shape: Shape, entries: &[Entry], process: u8, receipts: &[Receipt]) -
 pub(crate) fn first_untold<A: Allocator + Copy>(
     shape: Shape,
     entries: &[Entry],
-    lists: &[Vec<Receipt, A>],
+    receipts: &[Vec<Receipt, A>],
 ) -> Option<u8>
     requires history { IsHistory shape.processes shape.registers entries.now }
-    requires few { length lists.now ≤ MOST_PROCESSES }
-    ensures { MatchOption result (AreTold entries.now (lists lists.now)) (λ p. IsFirstUntold entries.now (lists lists.now) p) }
+    requires few { length receipts.now ≤ MOST_PROCESSES }
+    ensures { MatchOption result (AreTold entries.now (lists receipts.now))
+        (λ p. IsFirstUntold entries.now (lists receipts.now) p) }
 {
-    for process in 0..lists.len() as u8 {
-        if !is_told(shape, entries, process, &lists[usize::from(process)]) {
+    for process in 0..receipts.len() as u8 {
+        if !is_told(shape, entries, process, &receipts[usize::from(process)]) {
             return Some(process);
         }
     }

@@ -29,7 +29,8 @@ pub fn verify<F: FrontEnd, A: Allocator + Copy>(
 ) -> Result<World<F, A>, CloseFault>
     requires logs { length logs.now ≡ shape.processes }
     requires receipts { length receipts.now ≡ shape.processes }
-    ensures { MatchResult result (λ w. IsRecord F.start shape order.now (lists logs.now) (lists receipts.now) w) (λ fault. IsRecordFault F.start shape order.now (lists logs.now) (lists receipts.now) fault) }
+    ensures { MatchResult result (λ w. IsRecord F.start shape order.now (lists logs.now) (lists receipts.now) w)
+        (λ fault. IsRecordFault F.start shape order.now (lists logs.now) (lists receipts.now) fault) }
 {
     verify_in(alloc, shape, order, logs, receipts)
 }
@@ -49,7 +50,8 @@ pub fn verify_in<F: FrontEnd, A: Allocator + Copy, W: WireStore<A>>(
 ) -> Result<World<F, A, W>, CloseFault>
     requires logs { length logs.now ≡ shape.processes }
     requires receipts { length receipts.now ≡ shape.processes }
-    ensures { MatchResult result (λ w. IsRecord F.start shape order.now (lists logs.now) (lists receipts.now) w) (λ fault. IsRecordFault F.start shape order.now (lists logs.now) (lists receipts.now) fault) }
+    ensures { MatchResult result (λ w. IsRecord F.start shape order.now (lists logs.now) (lists receipts.now) w)
+        (λ fault. IsRecordFault F.start shape order.now (lists logs.now) (lists receipts.now) fault) }
 {
     let world = play::<F, A, W>(alloc, shape, order, logs)?;
     match first_untold(shape, world.history().entries(), receipts) {

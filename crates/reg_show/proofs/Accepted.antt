@@ -1,5 +1,6 @@
 -- The events that a world accepted: each call names a register that there is.
-use Rattle.std.proofs.Common.{ℕ, zero, suc, ◌≡◌, ◌<◌, Bool, List, [], ◌∷◌, ◌++◌, length, Option, None, Some, refl, sym, ap, ◌∙◌, subst, arith}
+use Rattle.std.proofs.Common.{ℕ, zero, suc, ◌≡◌, ◌<◌, Bool, List, [], ◌∷◌, ◌++◌, length, Option, None, Some, refl, sym}
+use Rattle.std.proofs.Common.{ap, ◌∙◌, subst, arith}
 use Rattle.std.specs.Prelude.{slice_get, nat_lt, not, ◌&&◌}
 use Rattle.std.proofs.lemmas.Bool.{cond_both, ltb-true, and_parts}
 use Rattle.std.proofs.lemmas.Option.{same_Some}
@@ -29,7 +30,8 @@ use Rattle.reg_inputs.proofs.ReadBack.{schedule_spelled}
 use Rattle.reg_world.proofs.run.Along.{few_events, move_is}
 use Rattle.reg_text.proofs.Spelling.{op_fits}
 
-call_known : (n registers : ℕ) (w : Nodes) (p : ℕ) (op : Op) (m : ℕ × Step) → step_of n registers w (Call p op) ≡ Some m → register_of op < registers
+call_known : (n registers : ℕ) (w : Nodes) (p : ℕ) (op : Op) (m : ℕ × Step) → step_of n registers w (Call p op) ≡ Some m
+    → register_of op < registers
 call_known n registers w p op m =
     cond_both (nat_lt p n && (not (is_some (w p).state.running) && (nat_lt (register_of op) registers && nat_lt (w p).state.calls MOST_OPERATIONS))) (Some (p, CallStep op)) None (λ (o : Option (ℕ × Step)). o ≡ Some m → register_of op < registers)
     (λ e _.
@@ -45,28 +47,35 @@ IsKnown registers (Call p op) = register_of op < registers
 IsKnown registers (Take from to i) = Unit {0}
 IsKnown registers (Tick p) = Unit {0}
 
-moved_known : (n registers : ℕ) (w : World) (e : Event) (m : ℕ × Step) → move_of n registers w e ≡ Some m → IsKnown registers e
-moved_known n registers w (Call p op) m is = call_known n registers w.nodes p op m (move_is n registers w (Call p op) m is).1
+moved_known : (n registers : ℕ) (w : World) (e : Event) (m : ℕ × Step) → move_of n registers w e ≡ Some m
+    → IsKnown registers e
+moved_known n registers w (Call p op) m is =
+    call_known n registers w.nodes p op m (move_is n registers w (Call p op) m is).1
 moved_known n registers w (Take from to i) m is = tt
 moved_known n registers w (Tick p) m is = tt
 
 abbrev pub AllKnown : ℕ → List Event → Type 0
 AllKnown registers es = (k : ℕ) (e : Event) → slice_get es k ≡ Some e → IsKnown registers e
 
-pub all_known : (start : Op → ℕ → Start) (n registers : ℕ) (es : List Event) (w : World) → (run start n registers es w).accepted ≡ w.accepted ++ es → (k : ℕ) (e : Event) → slice_get es k ≡ Some e → IsKnown registers e
+pub all_known : (start : Op → ℕ → Start) (n registers : ℕ) (es : List Event) (w : World)
+    → (run start n registers es w).accepted ≡ w.accepted ++ es → (k : ℕ) (e : Event) → slice_get es k ≡ Some e
+    → IsKnown registers e
 all_known start n registers [] w all k e h = absurd (cc)
 all_known start n registers (x ∷ es) w all zero e h =
     let first = first_moved start n registers x es w (move_of n registers w x) refl all in
     subst (IsKnown registers) (same_Some x e h) (moved_known n registers w x first.0 first.1)
 all_known start n registers (x ∷ es) w all (suc k) e h = all_known start n registers es (happens start n registers w x) (first_moved start n registers x es w (move_of n registers w x) refl all).2 k e h
 
-pub event_fits : (names : List (List ℕ)) (registers : ℕ) (e : Event) → registers ≡ length names → IsKnown registers e → EventHasBits e → EventFits names e
+pub event_fits : (names : List (List ℕ)) (registers : ℕ) (e : Event) → registers ≡ length names → IsKnown registers e
+    → EventHasBits e → EventFits names e
 event_fits names registers (Call p op) same known bits = (bits.0, op_fits names op (omega (arith, known, same)) bits.1)
 event_fits names registers (Take from to i) same known bits = bits
 event_fits names registers (Tick p) same known bits = bits
 
 -- what a run of a workload's processes accepted is a plan under its front end and names
-pub good_plan : (start : Op → ℕ → Start) (work : Load) (made : Made) → IsLoad work → made.processes ≡ length work.scripts → made.registers ≡ length work.names → (run_in start made).accepted ≡ made.accepted
+pub good_plan : (start : Op → ℕ → Start) (work : Load) (made : Made) → IsLoad work
+    → made.processes ≡ length work.scripts → made.registers ≡ length work.names
+    → (run_in start made).accepted ≡ made.accepted
     → ((k : ℕ) (e : Event) → slice_get made.accepted k ≡ Some e → EventHasBits e) → IsPlan (plan_of work made)
 good_plan start work made load processes registers all bits =
     let known : AllKnown made.registers made.accepted = all_known start made.processes made.registers made.accepted (empty_world made.processes made.registers) all in
@@ -79,19 +88,25 @@ good_plan start work made load processes registers all bits =
       few = (let a = few_events start made.processes made.registers made.accepted in let b = ap length all in omega (arith, a, b));
     }
 
-pub made_schedule : (start : Op → ℕ → Start) (work : Load) (made : Made) → IsLoad work → made.processes ≡ length work.scripts → made.registers ≡ length work.names → (run_in start made).accepted ≡ made.accepted
+pub made_schedule : (start : Op → ℕ → Start) (work : Load) (made : Made) → IsLoad work
+    → made.processes ≡ length work.scripts → made.registers ≡ length work.names
+    → (run_in start made).accepted ≡ made.accepted
     → ((k : ℕ) (e : Event) → slice_get made.accepted k ≡ Some e → EventHasBits e) → IsScheduleText (plan_of work made)
-made_schedule start work made load processes registers all bits = schedule_spelled (plan_of work made) (good_plan start work made load processes registers all bits)
+made_schedule start work made load processes registers all bits =
+    schedule_spelled (plan_of work made) (good_plan start work made load processes registers all bits)
 
 -- the plan that was written is that of the run
-pub made_plan : (work : Load) (made : Made) (shape : Extent) (names : List (List ℕ)) (front : Front) (events : List Event) → shape ≡ work.shape → names ≡ work.names → front ≡ work.front → events ≡ made.accepted
+pub made_plan : (work : Load) (made : Made) (shape : Extent) (names : List (List ℕ)) (front : Front)
+    (events : List Event)
+    → shape ≡ work.shape → names ≡ work.names → front ≡ work.front → events ≡ made.accepted
     → made.processes ≡ work.shape.processes → made.registers ≡ work.shape.registers → record { shape = shape; names = names; front = front; events = events } ≡ plan_of work made
 made_plan work made shape names front events same_shape same_names same_front same_events processes registers =
     let extent : shape ≡ record { processes = made.processes; registers = made.registers } = same_shape ∙ same_extent work.shape (record { processes = made.processes; registers = made.registers }) (sym processes) (sym registers) in
     λ i. record { shape = extent i; names = same_names i; front = same_front i; events = same_events i }
 
 -- the schedule that was written is that of the play
-pub shows_schedule : (fair : Bool) (start : Op → ℕ → Start) (work : Load) (made : Made) (is_finished : Bool) (Wrote : List ℕ → Type 0) (shape : Extent) (names : List (List ℕ)) (front : Front) (events : List Event)
+pub shows_schedule : (fair : Bool) (start : Op → ℕ → Start) (work : Load) (made : Made) (is_finished : Bool)
+    (Wrote : List ℕ → Type 0) (shape : Extent) (names : List (List ℕ)) (front : Front) (events : List Event)
     → shape ≡ work.shape → names ≡ work.names → front ≡ work.front → events ≡ made.accepted → IsLoad work → IsPlayBy fair start work made is_finished → (run_in start made).accepted ≡ made.accepted
     → ((k : ℕ) (e : Event) → slice_get events k ≡ Some e → EventHasBits e)
     → Wrote (schedule_text (record { shape = shape; names = names; front = front; events = events })) → ShowsSchedule fair start Wrote work

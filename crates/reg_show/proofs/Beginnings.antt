@@ -1,6 +1,8 @@
 -- The first events of a run that accepts all: they are accepted, and where later ones answer nothing all operations
 -- that are finished are finished by them.
-use Rattle.std.proofs.Common.{ℕ, ◌≡◌, ◌+◌, ◌-◌, ◌≤◌, List, [], ◌∷◌, ◌++◌, length, take, drop, Option, None, Some, refl, sym, ap, ◌∙◌, subst, inl, inr, arith, append_assoc, append-nil, length-append, length-take-le, take-append-drop, take_all}
+use Rattle.std.proofs.Common.{ℕ, ◌≡◌, ◌+◌, ◌-◌, ◌≤◌, List, [], ◌∷◌, ◌++◌, length, take, drop, Option, None, Some, refl}
+use Rattle.std.proofs.Common.{sym, ap, ◌∙◌, subst, inl, inr, arith, append_assoc, append-nil, length-append}
+use Rattle.std.proofs.Common.{length-take-le, take-append-drop, take_all}
 use Rattle.std.proofs.lemmas.Bool.{cases_order}
 use Rattle.reg_base.specs.declared.memory.Op.{Op}
 use Rattle.reg_base.specs.declared.memory.OpId.{OpId}
@@ -20,7 +22,8 @@ use Rattle.reg_world.proofs.run.Along.{run_parts}
 use Rattle.reg_world.specs.World.{World, answers_in, calls_in, empty_world, happens, move_of, moved, op_id, run, whole}
 use Rattle.reg_world.specs.Worlds.{Made, run_in}
 use Rattle.reg_show.specs.declared.shortening.Finished.{Finished}
-use Rattle.reg_show.specs.Shorts.{KeepsAnswers, finished_by, finished_from, finished_of, last_after, up_to_end, up_to_last_answer}
+use Rattle.reg_show.specs.Shorts.{KeepsAnswers, finished_by, finished_from, finished_of, last_after, up_to_end}
+use Rattle.reg_show.specs.Shorts.{up_to_last_answer}
 
 -- ---- entries of events from a number on
 
@@ -45,7 +48,8 @@ answer_from k at id (Some reply) le = (le, tt)
 abbrev GrowsFrom : ℕ → List Entry → List Entry → Type 0
 GrowsFrom k old new = (rest : List Entry) × (new ≡ old ++ rest) × AllFrom k rest
 
-grown : (start : Op → ℕ → Start) (k : ℕ) (w : World) (e : Event) (m : Option (ℕ × Step)) → k ≤ length w.accepted → GrowsFrom k w.history (moved start w e m).history
+grown : (start : Op → ℕ → Start) (k : ℕ) (w : World) (e : Event) (m : Option (ℕ × Step)) → k ≤ length w.accepted
+    → GrowsFrom k w.history (moved start w e m).history
 grown start k w e None le = ([], sym (append-nil w.history), tt)
 grown start k w e (Some m) le =
     let S : State = (w.nodes m.0).state in
@@ -54,11 +58,13 @@ grown start k w e (Some m) le =
     let A = answers_in (length w.accepted) (op_id m.0 (R.0.calls - 1)) R.1.reply in
     (C ++ A, append_assoc w.history C A, all_joined k C A (call_from k (length w.accepted) (op_id m.0 S.calls) m.1 le) (answer_from k (length w.accepted) (op_id m.0 (R.0.calls - 1)) R.1.reply le))
 
-longer : (start : Op → ℕ → Start) (k : ℕ) (w : World) (e : Event) (m : Option (ℕ × Step)) → k ≤ length w.accepted → k ≤ length (moved start w e m).accepted
+longer : (start : Op → ℕ → Start) (k : ℕ) (w : World) (e : Event) (m : Option (ℕ × Step)) → k ≤ length w.accepted
+    → k ≤ length (moved start w e m).accepted
 longer start k w e None le = le
 longer start k w e (Some m) le = let l : length (w.accepted ++ e ∷ []) ≡ length w.accepted + 1 = length-append w.accepted (e ∷ []) in omega (arith, l, le)
 
-later : (start : Op → ℕ → Start) (n registers k : ℕ) (es : List Event) (w : World) → k ≤ length w.accepted → GrowsFrom k w.history (run start n registers es w).history
+later : (start : Op → ℕ → Start) (n registers k : ℕ) (es : List Event) (w : World) → k ≤ length w.accepted
+    → GrowsFrom k w.history (run start n registers es w).history
 later start n registers k [] w le = ([], sym (append-nil w.history), tt)
 later start n registers k (e ∷ es) w le =
     let m = move_of n registers w e in
@@ -72,18 +78,25 @@ pub up_to_right : (xs ys : List Entry) → up_to_last_answer ys ≤ up_to_last_a
 up_to_right [] ys = omega arith
 up_to_right (x ∷ xs) ys = let r = up_to_right xs ys in omega (arith, r)
 
-pub finishes_none : (p k : ℕ) (es : List Entry) (last : Option Op) → up_to_last_answer es ≤ k → AllFrom k es → finished_from p last es ≡ []
+pub finishes_none : (p k : ℕ) (es : List Entry) (last : Option Op) → up_to_last_answer es ≤ k → AllFrom k es
+    → finished_from p last es ≡ []
 finishes_none p k [] last few all = refl
-finishes_none p k (Called at id op ∷ es) last few all = finishes_none p k es (last_after p last (Called at id op)) (omega (arith, few)) all.1
-finishes_none p k (Answered at id answer ∷ es) last few all = let here : k ≤ at = all.0 in absurd (omega (arith, few, here))
+finishes_none p k (Called at id op ∷ es) last few all =
+    finishes_none p k es (last_after p last (Called at id op)) (omega (arith, few)) all.1
+finishes_none p k (Answered at id answer ∷ es) last few all =
+    let here : k ≤ at = all.0 in absurd (omega (arith, few, here))
 
-finishes_no_more : (p : ℕ) (xs ys : List Entry) (last : Option Op) → ((l : Option Op) → finished_from p l ys ≡ []) → finished_from p last (xs ++ ys) ≡ finished_from p last xs
+finishes_no_more : (p : ℕ) (xs ys : List Entry) (last : Option Op) → ((l : Option Op) → finished_from p l ys ≡ [])
+    → finished_from p last (xs ++ ys) ≡ finished_from p last xs
 finishes_no_more p [] ys last none = none last
-finishes_no_more p (x ∷ xs) ys last none = ap (λ (l : List Finished). finished_by p last x ++ l) (finishes_no_more p xs ys (last_after p last x) none)
+finishes_no_more p (x ∷ xs) ys last none =
+    ap (λ (l : List Finished). finished_by p last x ++ l) (finishes_no_more p xs ys (last_after p last x) none)
 
 -- ---- the beginning of a run
 
-pub accepted_first : (start : Op → ℕ → Start) (n registers : ℕ) (es more : List Event) (w : World) → (run start n registers (es ++ more) w).accepted ≡ w.accepted ++ (es ++ more) → (run start n registers es w).accepted ≡ w.accepted ++ es
+pub accepted_first : (start : Op → ℕ → Start) (n registers : ℕ) (es more : List Event) (w : World)
+    → (run start n registers (es ++ more) w).accepted ≡ w.accepted ++ (es ++ more)
+    → (run start n registers es w).accepted ≡ w.accepted ++ es
 accepted_first start n registers [] more w all = sym (append-nil w.accepted)
 accepted_first start n registers (e ∷ es) more w all =
     let first = first_moved start n registers e (es ++ more) w (move_of n registers w e) refl all in
@@ -92,7 +105,8 @@ accepted_first start n registers (e ∷ es) more w all =
     rest ∙ (ap (λ (l : List Event). l ++ es) now ∙ append_assoc w.accepted (e ∷ []) es)
 
 module _ (start : Op → ℕ → Start) (n registers : ℕ) where
-  pub begun : (es more : List Event) → (whole start n registers (es ++ more)).accepted ≡ es ++ more → (whole start n registers es).accepted ≡ es
+  pub begun : (es more : List Event) → (whole start n registers (es ++ more)).accepted ≡ es ++ more
+      → (whole start n registers es).accepted ≡ es
   begun es more all = accepted_first start n registers es more (empty_world n registers) all
 
   same_first : (p : ℕ) (es more : List Event) → (whole start n registers es).accepted ≡ es → up_to_last_answer (whole start n registers (es ++ more)).history ≤ length es
@@ -132,7 +146,9 @@ module _ (start : Op → ℕ → Start) (n registers : ℕ) where
         whole_list le = ap (λ (l : List Event). finished_of p (whole start n registers l).history) (take_all k es le)
 
 -- the events of a play up to its last answer keep all answers
-pub beginning_keeps : (start : Op → ℕ → Start) (shape : Extent) (made : Made) → made.processes ≡ shape.processes → made.registers ≡ shape.registers → (run_in start made).accepted ≡ made.accepted → made.history ≡ (run_in start made).history
+pub beginning_keeps : (start : Op → ℕ → Start) (shape : Extent) (made : Made) → made.processes ≡ shape.processes
+    → made.registers ≡ shape.registers → (run_in start made).accepted ≡ made.accepted
+    → made.history ≡ (run_in start made).history
     → KeepsAnswers start shape made.history (up_to_end made)
 beginning_keeps start shape made processes registers all history =
     let own : Extent = record { processes = made.processes; registers = made.registers } in

@@ -18,7 +18,10 @@ use Rattle.reg_show.specs.Rests.{IsRested, WritesRest}
 use Rattle.reg_show.proofs.Accepted.{AllKnown, all_known, event_fits}
 
 -- what a run at rest accepted is a schedule under the plan's front end and names
-rest_schedule : (start : Op → ℕ → Start) (p : Plan) (made : Made) → IsPlan p → IsRested start p made → (run_in start made).accepted ≡ made.accepted → ((k : ℕ) (e : Event) → slice_get made.accepted k ≡ Some e → EventHasBits e) → IsScheduleText (plan_in p.front p.names made)
+rest_schedule : (start : Op → ℕ → Start) (p : Plan) (made : Made) → IsPlan p → IsRested start p made
+    → (run_in start made).accepted ≡ made.accepted
+    → ((k : ℕ) (e : Event) → slice_get made.accepted k ≡ Some e → EventHasBits e)
+    → IsScheduleText (plan_in p.front p.names made)
 rest_schedule start p made good rested all bits =
     let after = rested.settled.goes.after in
     let processes : made.processes ≡ p.shape.processes = ap Made.processes after in
@@ -34,7 +37,8 @@ rest_schedule start p made good rested all bits =
     })
 
 -- the schedule that was written is that of the run at rest
-pub writes_rest : (start : Op → ℕ → Start) (Wrote : List ℕ → Type 0) (p : Plan) (made : Made) (shape : Extent) (names : List (List ℕ)) (front : Front) (events : List Event)
+pub writes_rest : (start : Op → ℕ → Start) (Wrote : List ℕ → Type 0) (p : Plan) (made : Made) (shape : Extent)
+    (names : List (List ℕ)) (front : Front) (events : List Event)
     → IsPlan p → IsRested start p made → shape ≡ record { processes = made.processes; registers = made.registers } → names ≡ p.names → front ≡ p.front → events ≡ made.accepted → (run_in start made).accepted ≡ made.accepted
     → ((k : ℕ) (e : Event) → slice_get events k ≡ Some e → EventHasBits e)
     → Wrote (schedule_text (record { shape = shape; names = names; front = front; events = events })) → WritesRest start Wrote p

@@ -14,7 +14,8 @@ use Rattle.reg_inputs.specs.ScheduleText.{schedule_text}
 use Rattle.reg_process.specs.declared.events.Event.{Event}
 use Rattle.reg_world.specs.World.{whole}
 use Rattle.reg_world.specs.Worlds.{Made, after_events, run_in}
-use Rattle.reg_show.specs.Shorts.{IsLongPlay, IsShort, IsShortPlay, KeepsAnswers, LacksShort, SendsEvents, ShowsShort, Shortens, plan_with, up_to_end, up_to_last_answer}
+use Rattle.reg_show.specs.Shorts.{IsLongPlay, IsShort, IsShortPlay, KeepsAnswers, LacksShort, SendsEvents, ShowsShort}
+use Rattle.reg_show.specs.Shorts.{Shortens, plan_with, up_to_end, up_to_last_answer}
 use Rattle.reg_show.specs.ToldRuns.{EventHasBits}
 use Rattle.reg_show.specs.declared.faults.ShowFault.{ShowFault}
 use Rattle.reg_show.specs.declared.faults.ShowFault.TheVariants.{Command, TooManyToShorten}
@@ -24,12 +25,15 @@ use Rattle.reg_show.proofs.Beginnings.{beginning_keeps}
 use Rattle.reg_show.proofs.Shortened.{all_kept}
 
 -- what a play did up to its last answer, in the parts that the code holds
-pub same_beginning : (made : Made) (entries : List Entry) (accepted events : List Event) → entries ≡ made.history → accepted ≡ made.accepted → events ≡ take (up_to_last_answer entries) accepted → events ≡ up_to_end made
+pub same_beginning : (made : Made) (entries : List Entry) (accepted events : List Event) → entries ≡ made.history
+    → accepted ≡ made.accepted → events ≡ take (up_to_last_answer entries) accepted → events ≡ up_to_end made
 same_beginning made entries accepted events same_entries same_accepted is =
     is ∙ (ap (λ (h : List Entry). take (up_to_last_answer h) accepted) same_entries ∙ ap (λ (l : List Event). take (up_to_last_answer made.history) l) same_accepted)
 
 -- the events that are left of it are its short form
-pub short_of_play : (fair : Bool) (start : Op → ℕ → Start) (work : Load) (made : Made) (is_finished : Bool) (shape : Extent) (entries : List Entry) (events short : List Event) → shape ≡ work.shape → entries ≡ made.history → events ≡ up_to_end made
+pub short_of_play : (fair : Bool) (start : Op → ℕ → Start) (work : Load) (made : Made) (is_finished : Bool)
+    (shape : Extent) (entries : List Entry) (events short : List Event)
+    → shape ≡ work.shape → entries ≡ made.history → events ≡ up_to_end made
     → IsPlayBy fair start work made is_finished → (run_in start made).accepted ≡ made.accepted → made.history ≡ (run_in start made).history
     → Shortens (KeepsAnswers start shape entries) (length events) events short → IsShortPlay fair start work short
 short_of_play fair start work made is_finished shape entries events short same_shape same_entries same_events played all history tried =
@@ -46,16 +50,26 @@ short_of_play fair start work made is_finished shape entries events short same_s
     }
 
 -- the play is too long
-pub long_play : (fair : Bool) (start : Op → ℕ → Start) (work : Load) (made : Made) (is_finished : Bool) (events : List Event) → events ≡ up_to_end made → IsPlayBy fair start work made is_finished → MOST_SHORTENED < length events → IsLongPlay fair start work
+pub long_play : (fair : Bool) (start : Op → ℕ → Start) (work : Load) (made : Made) (is_finished : Bool)
+    (events : List Event)
+    → events ≡ up_to_end made → IsPlayBy fair start work made is_finished → MOST_SHORTENED < length events
+    → IsLongPlay fair start work
 long_play fair start work made is_finished events same played many = record { made = made; is_finished = is_finished; played = played; many = subst (λ (l : List Event). MOST_SHORTENED < length l) same many }
 
 -- why there is no short form
-pub lacks_short : (fair : Bool) (start : Op → ℕ → Start) (work : Load) (made : Made) (is_finished : Bool) (events : List Event) → events ≡ up_to_end made → IsPlayBy fair start work made is_finished → (f : ShowFault) → (f ≡ Command OutOfMemory) ⊎ ((f ≡ TooManyToShorten) × (MOST_SHORTENED < length events)) → LacksShort fair start work f
-lacks_short fair start work made is_finished events same played f (inl refused) = subst (λ x. LacksShort fair start work x) (sym refused) refl
+pub lacks_short : (fair : Bool) (start : Op → ℕ → Start) (work : Load) (made : Made) (is_finished : Bool)
+    (events : List Event)
+    → events ≡ up_to_end made → IsPlayBy fair start work made is_finished → (f : ShowFault)
+    → (f ≡ Command OutOfMemory) ⊎ ((f ≡ TooManyToShorten) × (MOST_SHORTENED < length events))
+    → LacksShort fair start work f
+lacks_short fair start work made is_finished events same played f (inl refused) =
+    subst (λ x. LacksShort fair start work x) (sym refused) refl
 lacks_short fair start work made is_finished events same played f (inr long) = subst (λ x. LacksShort fair start work x) (sym long.0) (long_play fair start work made is_finished events same played long.1)
 
 -- the schedule of events that are all accepted
-pub sends_events : (start : Op → ℕ → Start) (work : Load) (Wrote : List ℕ → Type 0) (shape : Extent) (names : List (List ℕ)) (front : Front) (events short : List Event) → shape ≡ work.shape → names ≡ work.names → front ≡ work.front → events ≡ short
+pub sends_events : (start : Op → ℕ → Start) (work : Load) (Wrote : List ℕ → Type 0) (shape : Extent)
+    (names : List (List ℕ)) (front : Front) (events short : List Event)
+    → shape ≡ work.shape → names ≡ work.names → front ≡ work.front → events ≡ short
     → IsLoad work → (whole start work.shape.processes work.shape.registers short).accepted ≡ short → ((k : ℕ) (e : Event) → slice_get events k ≡ Some e → EventHasBits e)
     → Wrote (schedule_text (record { shape = shape; names = names; front = front; events = events })) → SendsEvents Wrote work short
 sends_events start work Wrote shape names front events short same_shape same_names same_front same_events load all bits written =
@@ -66,7 +80,9 @@ sends_events start work Wrote shape names front events short same_shape same_nam
     }
 
 -- the schedule that was written is that of the short form
-pub shows_short : (fair : Bool) (start : Op → ℕ → Start) (work : Load) (Wrote : List ℕ → Type 0) (shape : Extent) (names : List (List ℕ)) (front : Front) (events short : List Event) → shape ≡ work.shape → names ≡ work.names → front ≡ work.front → events ≡ short
+pub shows_short : (fair : Bool) (start : Op → ℕ → Start) (work : Load) (Wrote : List ℕ → Type 0) (shape : Extent)
+    (names : List (List ℕ)) (front : Front) (events short : List Event)
+    → shape ≡ work.shape → names ≡ work.names → front ≡ work.front → events ≡ short
     → IsLoad work → IsShortPlay fair start work short → ((k : ℕ) (e : Event) → slice_get events k ≡ Some e → EventHasBits e)
     → Wrote (schedule_text (record { shape = shape; names = names; front = front; events = events })) → ShowsShort fair start Wrote work
 shows_short fair start work Wrote shape names front events short same_shape same_names same_front same_events load play bits written = record {

@@ -10,7 +10,8 @@ use Rattle.reg_trace.specs.Moments.{Fact, moments_of}
 use Rattle.reg_world.specs.Worlds.{Made, after_events, run_in}
 use Rattle.reg_show.specs.ToldRuns.{IsTold}
 
-pub told_run : (start : Op → ℕ → Start) (p : Plan) (shape : Extent) (events : List Event) (names : List (List ℕ)) (facts : List Fact) (w : Made) (entries : List Entry)
+pub told_run : (start : Op → ℕ → Start) (p : Plan) (shape : Extent) (events : List Event) (names : List (List ℕ))
+    (facts : List Fact) (w : Made) (entries : List Entry)
     → shape ≡ p.shape → events ≡ p.events → names ≡ p.names → w ≡ after_events start shape events → (run_in start (after_events start shape events)).accepted ≡ events
     → facts ≡ moments_of start shape events → entries ≡ (run_in start w).history → IsTold start p names facts entries
 told_run start p shape events names facts w entries same_shape same_events named is accepted did told =

@@ -17,12 +17,14 @@ use Rattle.reg_outcomes.specs.Showing.{IsRunOf}
 use Rattle.reg_outcomes.specs.declared.interleavings.outcomes.TheConstants.{MOST_STAGES}
 use Rattle.reg_show.specs.OneOutcome.{Lacks, SendsRun, StopsOutcome}
 use Rattle.reg_show.specs.declared.faults.ShowFault.{ShowFault}
-use Rattle.reg_show.specs.declared.faults.ShowFault.TheVariants.{Command, NoSuchOutcome, TooManyEvents, TooManyStages, TooManyToDraw, TooManyToRest, TooManyToShorten}
+use Rattle.reg_show.specs.declared.faults.ShowFault.TheVariants.{Command, NoSuchOutcome, TooManyEvents, TooManyStages}
+use Rattle.reg_show.specs.declared.faults.ShowFault.TheVariants.{TooManyToDraw, TooManyToRest, TooManyToShorten}
 use Rattle.reg_show.specs.ToldRuns.{EventHasBits}
 use Rattle.reg_show.proofs.Accepted.{made_plan, made_schedule}
 
 -- the schedule that was written is that of the run
-pub sends_run : (start : Op → ℕ → Start) (work : Load) (outcome : Interleaving) (made : Made) (Wrote : List ℕ → Type 0) (shape : Extent) (names : List (List ℕ)) (front : Front) (events : List Event)
+pub sends_run : (start : Op → ℕ → Start) (work : Load) (outcome : Interleaving) (made : Made) (Wrote : List ℕ → Type 0)
+    (shape : Extent) (names : List (List ℕ)) (front : Front) (events : List Event)
     → shape ≡ work.shape → names ≡ work.names → front ≡ work.front → events ≡ made.accepted → IsLoad work → IsRunOf start work.scripts work.shape.registers outcome made → (run_in start made).accepted ≡ made.accepted
     → ((k : ℕ) (e : Event) → slice_get events k ≡ Some e → EventHasBits e)
     → Wrote (schedule_text (record { shape = shape; names = names; front = front; events = events })) → SendsRun start Wrote work outcome
@@ -38,7 +40,8 @@ sends_run start work outcome made Wrote shape names front events same_shape same
     }
 
 -- why no run is made, or no schedule written
-pub stops_run : (number : ℕ) (work : Load) (f : ShowFault) → (f ≡ Command Output) ⊎ Lacks (HasRoom work.scripts) f → StopsOutcome number work f
+pub stops_run : (number : ℕ) (work : Load) (f : ShowFault) → (f ≡ Command Output) ⊎ Lacks (HasRoom work.scripts) f
+    → StopsOutcome number work f
 stops_run number work f (inl failed) = subst (StopsOutcome number work) (sym failed) (inl refl)
 stops_run number work (Command fault) (inr none) = inr none
 stops_run number work TooManyEvents (inr none) = none
@@ -49,6 +52,8 @@ stops_run number work TooManyStages (inr none) = absurd none
 stops_run number work NoSuchOutcome (inr none) = absurd none
 
 -- why not all outcomes are found
-pub stops_search : (number : ℕ) (work : Load) (f : ShowFault) → (f ≡ Command OutOfMemory) ⊎ ((f ≡ TooManyStages) × IsWider work.scripts work.shape.registers MOST_STAGES) → StopsOutcome number work f
+pub stops_search : (number : ℕ) (work : Load) (f : ShowFault)
+    → (f ≡ Command OutOfMemory) ⊎ ((f ≡ TooManyStages) × IsWider work.scripts work.shape.registers MOST_STAGES)
+    → StopsOutcome number work f
 stops_search number work f (inl refused) = subst (StopsOutcome number work) (sym refused) (inr refl)
 stops_search number work f (inr wide) = subst (StopsOutcome number work) (sym wide.0) wide.1

@@ -8,4 +8,5 @@ use Rattle.reg_show.specs.declared.faults.ShowFault.TheVariants.{Command, TooMan
 
 -- the writer failed, memory was refused, or some number of turns leads to more stages than the most
 abbrev pub StopsAll : Load → ShowFault → Type 0
-StopsAll work fault = ((fault ≡ Command Output) ⊎ (fault ≡ Command OutOfMemory)) ⊎ ((fault ≡ TooManyStages) × IsTooWide work)
+StopsAll work fault =
+    ((fault ≡ Command Output) ⊎ (fault ≡ Command OutOfMemory)) ⊎ ((fault ≡ TooManyStages) × IsTooWide work)

@@ -4,16 +4,20 @@ use Rattle.reg_commands.specs.FaultLines.{fault_line}
 use Rattle.reg_commands.specs.declared.faults.Fault.{Fault}
 use Rattle.reg_commands.specs.declared.faults.Fault.TheVariants.{OutOfMemory}
 use Rattle.reg_outcomes.specs.declared.faults.InterleavingFault.{InterleavingFault}
-use Rattle.reg_outcomes.specs.declared.faults.InterleavingFault.TheVariants.{TooManyStages as StagesFault, OutOfMemory as MemoryFault}
+use Rattle.reg_outcomes.specs.declared.faults.InterleavingFault.TheVariants.{TooManyStages as StagesFault}
+use Rattle.reg_outcomes.specs.declared.faults.InterleavingFault.TheVariants.{OutOfMemory as MemoryFault}
 use Rattle.reg_outcomes.specs.declared.turning.TurnsFault.{TurnsFault}
 use Rattle.reg_outcomes.specs.declared.turning.TurnsFault.TheVariants.{TooManyEvents as NoRoom, OutOfMemory as NoMemory}
 use Rattle.reg_show.specs.declared.faults.ShowFault.{ShowFault}
-use Rattle.reg_show.specs.declared.faults.ShowFault.TheVariants.{Command, NoSuchOutcome, TooManyEvents, TooManyStages, TooManyToDraw, TooManyToRest, TooManyToShorten}
+use Rattle.reg_show.specs.declared.faults.ShowFault.TheVariants.{Command, NoSuchOutcome, TooManyEvents, TooManyStages}
+use Rattle.reg_show.specs.declared.faults.ShowFault.TheVariants.{TooManyToDraw, TooManyToRest, TooManyToShorten}
 
 -- the line of a fault on the error stream, with its line feed
 abbrev pub show_line : ShowFault → List ℕ
 show_line (Command fault) = fault_line fault
-show_line TooManyToDraw = codes "too many events to draw: a page has room for 2000, and trace for all; schedule --short and --fair make fewer" ++ 10 ∷ []
+show_line TooManyToDraw =
+    codes "too many events to draw: a page has room for 2000, and trace for all; schedule --short and --fair make fewer"
+    ++ 10 ∷ []
 show_line TooManyToRest = codes "too many events to rest" ++ 10 ∷ []
 show_line TooManyToShorten = codes "too many events to shorten" ++ 10 ∷ []
 show_line TooManyStages = codes "too many stages" ++ 10 ∷ []

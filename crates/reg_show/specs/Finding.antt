@@ -18,12 +18,14 @@ use Rattle.reg_show.specs.declared.faults.ShowFault.TheVariants.{Command, TooMan
 
 -- the report with this order, and these points or none, in place of its own
 abbrev pub with_order : Contents → List OpId → Option (List Point) → Contents
-with_order r ids points = record { front = r.front; shape = r.shape; names = r.names; entries = r.entries; order = ids; points = points }
+with_order r ids points =
+    record { front = r.front; shape = r.shape; names = r.names; entries = r.entries; order = ids; points = points }
 
 -- this order, and these points or none, are what was looked for
 abbrev pub IsFound : OrderKind → ℕ → List Entry → List OpId → Option (List Point) → Type 0
 IsFound Serial registers h ids points = IsSerial registers h ids × (points ≡ None)
-IsFound Points registers h ids points = (ps : List Point) × IsPointOrder registers h ps × (ids ≡ ids_of ps) × (points ≡ Some ps)
+IsFound Points registers h ids points =
+    (ps : List Point) × IsPointOrder registers h ps × (ids ≡ ids_of ps) × (points ≡ Some ps)
 
 -- the report's history has no such order
 abbrev pub HasNone : OrderKind → Contents → Type 0

@@ -17,7 +17,8 @@ use Rattle.reg_world.specs.Worlds.{Made}
 
 -- The schedule of a run that has this outcome of the workload's scripts was written, under the workload's names and
 -- front end. `Wrote` says how a text was.
-pub record SendsRun (start : Op → ℕ → Start) (Wrote : List ℕ → Type 0) (work : Load) (outcome : Interleaving) : Type 0 where
+pub record SendsRun (start : Op → ℕ → Start) (Wrote : List ℕ → Type 0) (work : Load)
+    (outcome : Interleaving) : Type 0 where
   pub made : Made
   pub run : IsRunOf start work.scripts work.shape.registers outcome made
   pub schedule : IsScheduleText (plan_of work made)
@@ -43,7 +44,8 @@ IsTooWide work = IsWider work.scripts work.shape.registers MOST_STAGES
 
 -- all outcomes are fewer than so many
 abbrev pub HasFewer : ℕ → Load → Type 0
-HasFewer number work = (found : List Interleaving) × AreAll work.scripts work.shape.registers found × (length found < number)
+HasFewer number work =
+    (found : List Interleaving) × AreAll work.scripts work.shape.registers found × (length found < number)
 
 -- why no schedule of a run with the outcome of this number is written
 abbrev pub StopsOutcome : ℕ → Load → ShowFault → Type 0

@@ -13,7 +13,8 @@ use Rattle.reg_show.specs.declared.faults.ShowFault.TheVariants.{Command, TooMan
 use Rattle.reg_show.specs.declared.paging.TheConstants.{MOST_TOLD}
 
 -- All events of a plan are accepted, and this is all that is told of their run, with these notes and with such points.
-pub record HasData (start : Op → ℕ → Start) (p : Plan) (notes : Notes) (ArePoints : Option (List Point) → Type 0) (d : Data) : Type 0 where
+pub record HasData (start : Op → ℕ → Start) (p : Plan) (notes : Notes) (ArePoints : Option (List Point) → Type 0)
+    (d : Data) : Type 0 where
   pub points : Option (List Point)
   pub pointed : ArePoints points
   pub told : IsDataOf start p notes points d

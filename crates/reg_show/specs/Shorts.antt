@@ -1,6 +1,7 @@
 -- The short form of a play: its events up to the last answer, without those that no answer needs. To be believed:
 -- promises speak of it.
-use Rattle.std.specs.Prelude.{ℕ, zero, suc, ◌≡◌, ◌+◌, ◌<◌, ◌⊎◌, ◌==◌, cond, max, Bool, List, [], ◌∷◌, ◌++◌, length, take, Option, Some, None}
+use Rattle.std.specs.Prelude.{ℕ, zero, suc, ◌≡◌, ◌+◌, ◌<◌, ◌⊎◌, ◌==◌, cond, max, Bool, List, [], ◌∷◌, ◌++◌, length}
+use Rattle.std.specs.Prelude.{take, Option, Some, None}
 use Rattle.std.specs.List.{remove}
 use Rattle.reg_base.specs.declared.memory.Answer.{Answer}
 use Rattle.reg_base.specs.declared.memory.Op.{Op}
@@ -57,7 +58,8 @@ pub record KeepsAnswers (start : Op → ℕ → Start) (shape : Extent) (h : Lis
 
 -- The event at place k was tried: it is gone exactly where the list without it has what is to be kept.
 abbrev pub IsTried : (List Event → Type 0) → List Event → ℕ → List Event → Type 0
-IsTried Keeps list k next = (Keeps (remove list k) × (next ≡ remove list k)) ⊎ ((¬ Keeps (remove list k)) × (next ≡ list))
+IsTried Keeps list k next =
+    (Keeps (remove list k) × (next ≡ remove list k)) ⊎ ((¬ Keeps (remove list k)) × (next ≡ list))
 
 -- The first k events of a list were tried, from the last of them to the first, each in what was left of the list.
 abbrev pub Shortens : (List Event → Type 0) → ℕ → List Event → List Event → Type 0
@@ -81,7 +83,8 @@ up_to_end made = take (up_to_last_answer made.history) made.accepted
 -- These are the events up to the last answer of a play, without each that no answer needs: from the last to the first,
 -- an event is gone exactly where all answers are the same without it.
 abbrev pub IsShort : (Op → ℕ → Start) → Extent → Made → List Event → Type 0
-IsShort start shape made short = Shortens (KeepsAnswers start shape made.history) (length (up_to_end made)) (up_to_end made) short
+IsShort start shape made short =
+    Shortens (KeepsAnswers start shape made.history) (length (up_to_end made)) (up_to_end made) short
 
 -- The short form of the player's play of the workload. It is accepted, and gives the same answers.
 pub record IsShortPlay (fair : Bool) (start : Op → ℕ → Start) (work : Load) (short : List Event) : Type 0 where

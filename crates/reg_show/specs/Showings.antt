@@ -67,22 +67,27 @@ pub record ShowsText (showing : Showing) (Wrote : List ℕ → Type 0) (text : L
 -- is written for this reason
 abbrev pub BlamesText : Showing → ShowFault → List ℕ → Type 0
 BlamesText showing f text =
-    ((fault : Fault) × (f ≡ Command fault) × BlamesCommand Replay fault text) ⊎ ((p : Plan) × IsPlan p × Spells text p × StopsShowing showing p f)
+    ((fault : Fault) × (f ≡ Command fault) × BlamesCommand Replay fault text)
+    ⊎ ((p : Plan) × IsPlan p × Spells text p × StopsShowing showing p f)
 
 -- the plan is what the workload's seeded play made
 abbrev pub IsPlayOf : (Op → ℕ → Start) → Load → Plan → Type 0
-IsPlayOf start work p = (made : Made) × (is_finished : Bool) × IsPlayBy false start work made is_finished × (p ≡ plan_of work made) × IsPlan p
+IsPlayOf start work p =
+    (made : Made) × (is_finished : Bool) × IsPlayBy false start work made is_finished × (p ≡ plan_of work made)
+    × IsPlan p
 
 -- the plan has the events of the short form of the workload's seeded play
 abbrev pub IsShortOf : (Op → ℕ → Start) → Load → Plan → Type 0
-IsShortOf start work p = (short : List Event) × IsShortPlay false start work short × (p ≡ plan_with work short) × IsPlan p
+IsShortOf start work p =
+    (short : List Event) × IsShortPlay false start work short × (p ≡ plan_with work short) × IsPlan p
 
 -- The plan and the notes are what is shown of the workload's seeded play: all of it, and no note; or its short form,
 -- with a title that says so, but where the play has too many events to be shortened all of it.
 abbrev pub IsShownPlay : Form → (Op → ℕ → Start) → Load → Plan → Notes → Type 0
 IsShownPlay Whole start work p notes = IsPlayOf start work p × (notes ≡ no_notes)
 IsShownPlay Short start work p notes =
-    (IsShortOf start work p × (notes ≡ titled SHORT_FORM.now)) ⊎ (IsLongPlay false start work × IsPlayOf start work p × (notes ≡ no_notes))
+    (IsShortOf start work p × (notes ≡ titled SHORT_FORM.now))
+    ⊎ (IsLongPlay false start work × IsPlayOf start work p × (notes ≡ no_notes))
 
 -- of the run of the workload's seeded play this was written, in this form
 pub record ShowsPlay (view : View) (Wrote : List ℕ → Type 0) (work : Load) : Type 0 where
@@ -94,7 +99,9 @@ pub record ShowsPlay (view : View) (Wrote : List ℕ → Type 0) (work : Load) :
 -- why nothing is written of the run of the workload's seeded play: memory was refused, or for this reason
 abbrev pub StopsPlay : View → Load → ShowFault → Type 0
 StopsPlay view work fault =
-    (fault ≡ Command OutOfMemory) ⊎ ((p : Plan) × (notes : Notes) × IsShownPlay view.form (start_of work.front) work p notes × StopsShowing view.showing p fault)
+    (fault ≡ Command OutOfMemory)
+    ⊎ ((p : Plan) × (notes : Notes) × IsShownPlay view.form (start_of work.front) work p notes
+    × StopsShowing view.showing p fault)
 
 -- what is shown of the text of a schedule, or of a document that says a workload
 abbrev pub Shows : View → (List ℕ → Type 0) → List ℕ → Type 0
@@ -102,4 +109,5 @@ Shows view Wrote text = ShowsText view.showing Wrote text ⊎ OfDocument (ShowsP
 
 -- what a fault says of such a text
 abbrev pub Blames : View → ShowFault → List ℕ → Type 0
-Blames view f text = BlamesText view.showing f text ⊎ BlamesDocument (λ fault. Command fault) (λ f work. StopsPlay view work f) f text
+Blames view f text =
+    BlamesText view.showing f text ⊎ BlamesDocument (λ fault. Command fault) (λ f work. StopsPlay view work f) f text

@@ -11,7 +11,8 @@ use Rattle.reg_process.specs.declared.events.Event.{Event}
 use Rattle.reg_process.specs.declared.events.Event.TheVariants.{Call, Take, Tick}
 
 -- All events of a plan are accepted, and these are its names, what its events did, and the history of its run.
-pub record IsTold (start : Op → ℕ → Start) (p : Plan) (names : List (List ℕ)) (facts : List Fact) (entries : List Entry) : Type 0 where
+pub record IsTold (start : Op → ℕ → Start) (p : Plan) (names : List (List ℕ)) (facts : List Fact)
+    (entries : List Entry) : Type 0 where
   pub accepted : (run_by start p).accepted ≡ p.events
   pub named : names ≡ p.names
   pub did : facts ≡ moments_of start p.shape p.events

@@ -27,7 +27,8 @@ fn send<A: Allocator + Copy, W: Write>(
     names: &Names<A>,
     moments: &[Moment<A>],
 ) -> Result<(), Fault>
-    ensures { IsWrittenOr Fault.Output result (W.contents writer.old) (W.contents writer.new) (title_line title.now ++ trace_text names.now moments.now) }
+    ensures { IsWrittenOr Fault.Output result (W.contents writer.old) (W.contents writer.new)
+        (title_line title.now ++ trace_text names.now moments.now) }
 {
     if write_trace(writer, title, names, moments).is_err() || writer.flush().is_err() {
         return Err(Fault::Output);
@@ -42,10 +43,12 @@ pub(crate) fn trace<A: Allocator + Copy, W: Write>(
     title: &str,
     writer: &mut W,
 ) -> Result<(), ShowFault>
-    ensures ok { IfOk result (λ _. TellsRun title.now (Appends (W.contents writer.old) (W.contents writer.new)) schedule) }
+    ensures ok { IfOk result
+        (λ _. TellsRun title.now (Appends (W.contents writer.old) (W.contents writer.new)) schedule) }
     ensures why { IfErr result (StopsShowing Showing.Trace schedule) }
     ensures silent { IfErr result (λ f. f ≢ ShowFault.Command Fault.Output → writer.new ≡ writer.old) }
-    ensures part { IsErrOf result (ShowFault.Command Fault.Output) → TellsRun title.now (AppendsPart (W.contents writer.old) (W.contents writer.new)) schedule }
+    ensures part { IsErrOf result (ShowFault.Command Fault.Output)
+        → TellsRun title.now (AppendsPart (W.contents writer.old) (W.contents writer.new)) schedule }
 {
     let told = tell_schedule(alloc, schedule)?;
     send(writer, title, &told.names, told.moments.as_slice())?;
@@ -79,7 +82,8 @@ pub(crate) fn draw<A: Allocator + Copy, W: Write>(
     ensures ok { IfOk result (λ _. DrawsRun (Appends (W.contents writer.old) (W.contents writer.new)) schedule) }
     ensures why { IfErr result (StopsShowing Showing.Draw schedule) }
     ensures silent { IfErr result (λ f. f ≢ ShowFault.Command Fault.Output → writer.new ≡ writer.old) }
-    ensures part { IsErrOf result (ShowFault.Command Fault.Output) → DrawsRun (AppendsPart (W.contents writer.old) (W.contents writer.new)) schedule }
+    ensures part { IsErrOf result (ShowFault.Command Fault.Output)
+        → DrawsRun (AppendsPart (W.contents writer.old) (W.contents writer.new)) schedule }
 {
     let told = told_to_draw(alloc, schedule)?;
     let drawing = draw_told(alloc, &told, title, size)?;

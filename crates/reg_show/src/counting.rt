@@ -23,7 +23,8 @@ fn send<A: Allocator + Copy, W: Write>(
     plays: u32,
     outcomes: &Outcomes<A>,
 ) -> Result<(), Fault>
-    ensures { IsWrittenOr Fault.Output result (W.contents writer.old) (W.contents writer.new) (table_text plays outcomes.now.rows.items outcomes.now.unfinished outcomes.now.undrawn) }
+    ensures { IsWrittenOr Fault.Output result (W.contents writer.old) (W.contents writer.new)
+        (table_text plays outcomes.now.rows.items outcomes.now.unfinished outcomes.now.undrawn) }
 {
     if write_table(writer, plays, outcomes).is_err() || writer.flush().is_err() {
         return Err(Fault::Output);
@@ -39,10 +40,12 @@ fn write_plays<F: FrontEnd, A: Allocator + Copy, W: Write>(
     writer: &mut W,
 ) -> Result<(), ShowFault>
     requires { plays ≤ MOST_PLAYS }
-    ensures ok { IfOk result (λ _. ShowsOutcomes plays F.start (Appends (W.contents writer.old) (W.contents writer.new)) work.now) }
+    ensures ok { IfOk result
+        (λ _. ShowsOutcomes plays F.start (Appends (W.contents writer.old) (W.contents writer.new)) work.now) }
     ensures why { IfErr result (StopsPlays plays F.start work.now) }
     ensures silent { IfErr result (λ f. f ≢ ShowFault.Command Fault.Output → writer.new ≡ writer.old) }
-    ensures part { IsErrOf result (ShowFault.Command Fault.Output) → ShowsOutcomes plays F.start (AppendsPart (W.contents writer.old) (W.contents writer.new)) work.now }
+    ensures part { IsErrOf result (ShowFault.Command Fault.Output)
+        → ShowsOutcomes plays F.start (AppendsPart (W.contents writer.old) (W.contents writer.new)) work.now }
 {
     let outcomes = play_many::<F, A>(alloc, work, plays)?;
     send(writer, plays, &outcomes)?;
@@ -57,10 +60,14 @@ fn write_outcomes<A: Allocator + Copy, W: Write>(
     writer: &mut W,
 ) -> Result<(), ShowFault>
     requires { plays ≤ MOST_PLAYS }
-    ensures ok { IfOk result (λ _. ShowsOutcomes plays (start_of work.now.front) (Appends (W.contents writer.old) (W.contents writer.new)) work.now) }
+    ensures ok { IfOk result
+        (λ _. ShowsOutcomes plays (start_of work.now.front) (Appends (W.contents writer.old) (W.contents writer.new))
+        work.now) }
     ensures why { IfErr result (StopsPlays plays (start_of work.now.front) work.now) }
     ensures silent { IfErr result (λ f. f ≢ ShowFault.Command Fault.Output → writer.new ≡ writer.old) }
-    ensures part { IsErrOf result (ShowFault.Command Fault.Output) → ShowsOutcomes plays (start_of work.now.front) (AppendsPart (W.contents writer.old) (W.contents writer.new)) work.now }
+    ensures part { IsErrOf result (ShowFault.Command Fault.Output)
+        → ShowsOutcomes plays (start_of work.now.front) (AppendsPart (W.contents writer.old) (W.contents writer.new))
+        work.now }
 {
     by_front!(
         work.front,

@@ -25,7 +25,8 @@ fn send<A: Allocator + Copy, W: Write>(
     all: &AllOutcomes<A>,
     nevers: &Option<Vec<Vec<ToldAnswer, A>, A>>,
 ) -> Result<(), ShowFault>
-    ensures { IsWrittenOr (ShowFault.Command Fault.Output) result (W.contents writer.old) (W.contents writer.new) (all_text operations all.now.stages all.now.list.items (option_map (λ list. lists list.items) nevers.now)) }
+    ensures { IsWrittenOr (ShowFault.Command Fault.Output) result (W.contents writer.old) (W.contents writer.new)
+        (all_text operations all.now.stages all.now.list.items (option_map (λ list. lists list.items) nevers.now)) }
 {
     if write_all(writer, operations, all, nevers).is_err() || writer.flush().is_err() {
         return Err(ShowFault::Command {
@@ -41,10 +42,16 @@ fn write_all_of<A: Allocator + Copy, W: Write>(
     work: &Workload<A>,
     writer: &mut W,
 ) -> Result<(), ShowFault>
-    ensures ok { IfOk result (λ _. ShowsAll work.now.scripts work.now.shape.registers (Appends (W.contents writer.old) (W.contents writer.new))) }
-    ensures why { IfErr result (λ f. ((f ≡ ShowFault.Command Fault.Output) ⊎ (f ≡ ShowFault.Command Fault.OutOfMemory)) ⊎ ((f ≡ ShowFault.TooManyStages) × IsWider work.now.scripts work.now.shape.registers MOST_STAGES)) }
+    ensures ok { IfOk result
+        (λ _. ShowsAll work.now.scripts work.now.shape.registers
+        (Appends (W.contents writer.old) (W.contents writer.new))) }
+    ensures why { IfErr result
+        (λ f. ((f ≡ ShowFault.Command Fault.Output) ⊎ (f ≡ ShowFault.Command Fault.OutOfMemory))
+        ⊎ ((f ≡ ShowFault.TooManyStages) × IsWider work.now.scripts work.now.shape.registers MOST_STAGES)) }
     ensures silent { IfErr result (λ f. f ≢ ShowFault.Command Fault.Output → writer.new ≡ writer.old) }
-    ensures part { IsErrOf result (ShowFault.Command Fault.Output) → ShowsAll work.now.scripts work.now.shape.registers (AppendsPart (W.contents writer.old) (W.contents writer.new)) }
+    ensures part { IsErrOf result (ShowFault.Command Fault.Output)
+        → ShowsAll work.now.scripts work.now.shape.registers
+        (AppendsPart (W.contents writer.old) (W.contents writer.new)) }
 {
     let scripts = work.scripts.as_slice();
     let registers = work.shape.registers() as u16;

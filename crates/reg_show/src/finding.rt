@@ -4,7 +4,8 @@ ghost use Rattle.std.specs.Io.KnownBytes.{Appends};
 ghost use Rattle.reg_checkers.specs.Orders.{IsSerial};
 ghost use Rattle.reg_commands.specs.Replays.{PointsStand};
 ghost use Rattle.reg_text.specs.Writing.{AppendsPart, IsWrittenOr};
-ghost use Rattle.reg_show.specs.Finding.{BlamesFind, Finds, FindsAny, HasNone, IsReordered, IsUnfound, none_text, with_order};
+ghost use Rattle.reg_show.specs.Finding.{BlamesFind, Finds, FindsAny, HasNone, IsReordered, IsUnfound, none_text};
+ghost use Rattle.reg_show.specs.Finding.{with_order};
 
 use crate::faults::ShowFault;
 use reg_base::OpId;
@@ -36,7 +37,8 @@ fn with_serial_order<A: Allocator + Copy>(
     alloc: A,
     report: Report<A>,
 ) -> Result<Option<Report<A>>, ShowFault>
-    ensures found { IfOk result (λ o. MatchOption o (HasNone OrderKind.Serial report) (λ r. IsReordered OrderKind.Serial report r)) }
+    ensures found { IfOk result
+        (λ o. MatchOption o (HasNone OrderKind.Serial report) (λ r. IsReordered OrderKind.Serial report r)) }
     ensures why { IfErr result (IsUnfound OrderKind.Serial report) }
 {
     let Some(ids) = find_serial(alloc, report.history(), MOST_STAGES)? else {
@@ -50,7 +52,8 @@ fn with_points<A: Allocator + Copy>(
     alloc: A,
     report: Report<A>,
 ) -> Result<Option<Report<A>>, ShowFault>
-    ensures found { IfOk result (λ o. MatchOption o (HasNone OrderKind.Points report) (λ r. IsReordered OrderKind.Points report r)) }
+    ensures found { IfOk result
+        (λ o. MatchOption o (HasNone OrderKind.Points report) (λ r. IsReordered OrderKind.Points report r)) }
     ensures why { IfErr result (IsUnfound OrderKind.Points report) }
 {
     let Some(points) = find_points(alloc, report.history(), MOST_STAGES)? else {
@@ -94,10 +97,12 @@ fn find<A: Allocator + Copy, W: Write>(
     text: String<A>,
     writer: &mut W,
 ) -> Result<bool, ShowFault>
-    ensures ok { IfOk result (λ found. Finds kind found (Appends (W.contents writer.old) (W.contents writer.new)) (string_bytes text)) }
+    ensures ok { IfOk result
+        (λ found. Finds kind found (Appends (W.contents writer.old) (W.contents writer.new)) (string_bytes text)) }
     ensures why { IfErr result (λ f. BlamesFind kind f (string_bytes text)) }
     ensures silent { IfErr result (λ f. f ≢ ShowFault.Command Fault.Output → writer.new ≡ writer.old) }
-    ensures part { IsErrOf result (ShowFault.Command Fault.Output) → FindsAny kind (AppendsPart (W.contents writer.old) (W.contents writer.new)) (string_bytes text) }
+    ensures part { IsErrOf result (ShowFault.Command Fault.Output)
+        → FindsAny kind (AppendsPart (W.contents writer.old) (W.contents writer.new)) (string_bytes text) }
 {
     let report = read_report_text(alloc, text.as_str())?;
     drop(text);

@@ -25,7 +25,9 @@ fn outcomes_of<A: Allocator + Copy>(
     work: &Workload<A>,
 ) -> Result<AllOutcomes<A>, ShowFault>
     ensures all { IfOk result (λ all. AreAll work.now.scripts work.now.shape.registers all.list.items) }
-    ensures why { IfErr result (λ f. (f ≡ ShowFault.Command Fault.OutOfMemory) ⊎ ((f ≡ ShowFault.TooManyStages) × IsWider work.now.scripts work.now.shape.registers MOST_STAGES)) }
+    ensures why { IfErr result
+        (λ f. (f ≡ ShowFault.Command Fault.OutOfMemory)
+        ⊎ ((f ≡ ShowFault.TooManyStages) × IsWider work.now.scripts work.now.shape.registers MOST_STAGES)) }
 {
     let registers = work.shape.registers() as u16;
     Ok(all_outcomes(alloc, work.scripts.as_slice(), registers, MOST_STAGES)?)
@@ -52,10 +54,12 @@ fn write_run<F: FrontEnd, A: Allocator + Copy, W: Write>(
     writer: &mut W,
 ) -> Result<(), ShowFault>
     requires { IsInterleaving work.now.scripts work.now.shape.registers outcome.now }
-    ensures ok { IfOk result (λ _. SendsRun F.start (Appends (W.contents writer.old) (W.contents writer.new)) work.now outcome.now) }
+    ensures ok { IfOk result
+        (λ _. SendsRun F.start (Appends (W.contents writer.old) (W.contents writer.new)) work.now outcome.now) }
     ensures why { IfErr result (λ f. (f ≡ ShowFault.Command Fault.Output) ⊎ Lacks (HasRoom work.now.scripts) f) }
     ensures silent { IfErr result (λ f. f ≢ ShowFault.Command Fault.Output → writer.new ≡ writer.old) }
-    ensures part { IsErrOf result (ShowFault.Command Fault.Output) → SendsRun F.start (AppendsPart (W.contents writer.old) (W.contents writer.new)) work.now outcome.now }
+    ensures part { IsErrOf result (ShowFault.Command Fault.Output)
+        → SendsRun F.start (AppendsPart (W.contents writer.old) (W.contents writer.new)) work.now outcome.now }
 {
     let world = run_of::<F, A>(alloc, work, outcome)?;
     let events = world.accepted();
@@ -72,10 +76,14 @@ fn write_run_of<A: Allocator + Copy, W: Write>(
     writer: &mut W,
 ) -> Result<(), ShowFault>
     requires { IsInterleaving work.now.scripts work.now.shape.registers outcome.now }
-    ensures ok { IfOk result (λ _. SendsRun (start_of work.now.front) (Appends (W.contents writer.old) (W.contents writer.new)) work.now outcome.now) }
+    ensures ok { IfOk result
+        (λ _. SendsRun (start_of work.now.front) (Appends (W.contents writer.old) (W.contents writer.new)) work.now
+        outcome.now) }
     ensures why { IfErr result (λ f. (f ≡ ShowFault.Command Fault.Output) ⊎ Lacks (HasRoom work.now.scripts) f) }
     ensures silent { IfErr result (λ f. f ≢ ShowFault.Command Fault.Output → writer.new ≡ writer.old) }
-    ensures part { IsErrOf result (ShowFault.Command Fault.Output) → SendsRun (start_of work.now.front) (AppendsPart (W.contents writer.old) (W.contents writer.new)) work.now outcome.now }
+    ensures part { IsErrOf result (ShowFault.Command Fault.Output)
+        → SendsRun (start_of work.now.front) (AppendsPart (W.contents writer.old) (W.contents writer.new)) work.now
+        outcome.now }
 {
     by_front!(
         work.front,

@@ -38,7 +38,8 @@ fn data_of_schedule<A: Allocator + Copy>(
     schedule: Schedule<A>,
     notes: Notes<A>,
 ) -> Result<Data<A>, Fault>
-    ensures told { IfOk result (λ d. HasData (start_of schedule.front) schedule notes (PointsOf schedule.front schedule) d) }
+    ensures told { IfOk result
+        (λ d. HasData (start_of schedule.front) schedule notes (PointsOf schedule.front schedule) d) }
     ensures why { IfErr result (λ f. BlamesRun (start_of schedule.front) schedule f) }
 {
     by_front!(schedule.front, data_of_run::<_, A>(alloc, schedule, notes))
@@ -62,7 +63,8 @@ pub fn send_data<A: Allocator + Copy, W: Write>(
     told: &Data<A>,
     tail: &str,
 ) -> Result<(), Fault>
-    ensures { IsWrittenOr Fault.Output result (W.contents writer.old) (W.contents writer.new) (head.now ++ (data_text told.now ++ tail.now)) }
+    ensures { IsWrittenOr Fault.Output result (W.contents writer.old) (W.contents writer.new)
+        (head.now ++ (data_text told.now ++ tail.now)) }
 {
     if write_data(writer, head, told, tail).is_err() || writer.flush().is_err() {
         return Err(Fault::Output);
@@ -78,10 +80,14 @@ pub(crate) fn write_run<A: Allocator + Copy, W: Write>(
     ends: Ends<'_>,
     writer: &mut W,
 ) -> Result<(), ShowFault>
-    ensures ok { IfOk result (λ _. ShowsData ends.entry.head.now ends.entry.tail.now notes (Appends (W.contents writer.old) (W.contents writer.new)) schedule) }
+    ensures ok { IfOk result
+        (λ _. ShowsData ends.entry.head.now ends.entry.tail.now notes
+        (Appends (W.contents writer.old) (W.contents writer.new)) schedule) }
     ensures why { IfErr result (StopsShowing Showing.Data schedule) }
     ensures silent { IfErr result (λ f. f ≢ ShowFault.Command Fault.Output → writer.new ≡ writer.old) }
-    ensures part { IsErrOf result (ShowFault.Command Fault.Output) → ShowsData ends.entry.head.now ends.entry.tail.now notes (AppendsPart (W.contents writer.old) (W.contents writer.new)) schedule }
+    ensures part { IsErrOf result (ShowFault.Command Fault.Output)
+        → ShowsData ends.entry.head.now ends.entry.tail.now notes
+        (AppendsPart (W.contents writer.old) (W.contents writer.new)) schedule }
 {
     if schedule.events.len() > MOST_TOLD {
         return Err(ShowFault::TooManyToDraw);

@@ -54,10 +54,12 @@ fn write_rest<F: FrontEnd, A: Allocator + Copy, W: Write>(
     writer: &mut W,
 ) -> Result<(), ShowFault>
     requires { IsPlan schedule }
-    ensures ok { IfOk result (λ _. WritesRest F.start (Appends (W.contents writer.old) (W.contents writer.new)) schedule) }
+    ensures ok { IfOk result
+        (λ _. WritesRest F.start (Appends (W.contents writer.old) (W.contents writer.new)) schedule) }
     ensures why { IfErr result (λ f. (f ≡ ShowFault.Command Fault.Output) ⊎ BlamesRested F.start schedule f) }
     ensures silent { IfErr result (λ f. f ≢ ShowFault.Command Fault.Output → writer.new ≡ writer.old) }
-    ensures part { IsErrOf result (ShowFault.Command Fault.Output) → WritesRest F.start (AppendsPart (W.contents writer.old) (W.contents writer.new)) schedule }
+    ensures part { IsErrOf result (ShowFault.Command Fault.Output)
+        → WritesRest F.start (AppendsPart (W.contents writer.old) (W.contents writer.new)) schedule }
 {
     let Ran {
         world,
@@ -78,10 +80,13 @@ pub(crate) fn rest<A: Allocator + Copy, W: Write>(
     writer: &mut W,
 ) -> Result<(), ShowFault>
     requires { IsPlan schedule }
-    ensures ok { IfOk result (λ _. WritesRest (start_of schedule.front) (Appends (W.contents writer.old) (W.contents writer.new)) schedule) }
-    ensures why { IfErr result (λ f. (f ≡ ShowFault.Command Fault.Output) ⊎ BlamesRested (start_of schedule.front) schedule f) }
+    ensures ok { IfOk result
+        (λ _. WritesRest (start_of schedule.front) (Appends (W.contents writer.old) (W.contents writer.new)) schedule) }
+    ensures why { IfErr result
+        (λ f. (f ≡ ShowFault.Command Fault.Output) ⊎ BlamesRested (start_of schedule.front) schedule f) }
     ensures silent { IfErr result (λ f. f ≢ ShowFault.Command Fault.Output → writer.new ≡ writer.old) }
-    ensures part { IsErrOf result (ShowFault.Command Fault.Output) → WritesRest (start_of schedule.front) (AppendsPart (W.contents writer.old) (W.contents writer.new)) schedule }
+    ensures part { IsErrOf result (ShowFault.Command Fault.Output)
+        → WritesRest (start_of schedule.front) (AppendsPart (W.contents writer.old) (W.contents writer.new)) schedule }
 {
     by_front!(
         schedule.front,

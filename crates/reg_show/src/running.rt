@@ -4,7 +4,8 @@ ghost use Rattle.std.specs.Io.KnownBytes.{Appends};
 ghost use Rattle.reg_text.specs.Writing.{AppendsPart};
 ghost use Rattle.reg_inputs.specs.Schedules.{IsPlan};
 ghost use Rattle.reg_commands.specs.Plays.{Holds};
-ghost use Rattle.reg_show.specs.Showings.{Blames, BlamesText, Shows, ShowsPlan, ShowsPlay, ShowsText, StopsPlay, StopsShowing, notes_for};
+ghost use Rattle.reg_show.specs.Showings.{Blames, BlamesText, Shows, ShowsPlan, ShowsPlay, ShowsText, StopsPlay};
+ghost use Rattle.reg_show.specs.Showings.{StopsShowing, notes_for};
 
 use crate::commands::{draw, trace};
 use crate::faults::ShowFault;
@@ -40,10 +41,12 @@ fn show_schedule<A: Allocator + Copy, W: Write>(
     writer: &mut W,
 ) -> Result<(), ShowFault>
     requires { IsPlan schedule }
-    ensures ok { IfOk result (λ _. ShowsPlan showing notes (Appends (W.contents writer.old) (W.contents writer.new)) schedule) }
+    ensures ok { IfOk result
+        (λ _. ShowsPlan showing notes (Appends (W.contents writer.old) (W.contents writer.new)) schedule) }
     ensures why { IfErr result (StopsShowing showing schedule) }
     ensures silent { IfErr result (λ f. f ≢ ShowFault.Command Fault.Output → writer.new ≡ writer.old) }
-    ensures part { IsErrOf result (ShowFault.Command Fault.Output) → ShowsPlan showing notes (AppendsPart (W.contents writer.old) (W.contents writer.new)) schedule }
+    ensures part { IsErrOf result (ShowFault.Command Fault.Output)
+        → ShowsPlan showing notes (AppendsPart (W.contents writer.old) (W.contents writer.new)) schedule }
 {
     match showing {
         Showing::Trace => trace(alloc, schedule, notes.title(), writer),
@@ -83,10 +86,12 @@ pub fn show_run<A: Allocator + Copy, W: Write>(
     text: &str,
     writer: &mut W,
 ) -> Result<(), ShowFault>
-    ensures ok { IfOk result (λ _. ShowsText showing (Appends (W.contents writer.old) (W.contents writer.new)) text.now) }
+    ensures ok { IfOk result
+        (λ _. ShowsText showing (Appends (W.contents writer.old) (W.contents writer.new)) text.now) }
     ensures why { IfErr result (λ f. BlamesText showing f text.now) }
     ensures silent { IfErr result (λ f. f ≢ ShowFault.Command Fault.Output → writer.new ≡ writer.old) }
-    ensures part { IsErrOf result (ShowFault.Command Fault.Output) → ShowsText showing (AppendsPart (W.contents writer.old) (W.contents writer.new)) text.now }
+    ensures part { IsErrOf result (ShowFault.Command Fault.Output)
+        → ShowsText showing (AppendsPart (W.contents writer.old) (W.contents writer.new)) text.now }
 {
     let schedule = read_schedule(alloc, text)?;
     let notes = notes_to_show(alloc, showing, text)?;
@@ -103,7 +108,8 @@ fn show_play<A: Allocator + Copy, W: Write>(
     ensures ok { IfOk result (λ _. ShowsPlay view (Appends (W.contents writer.old) (W.contents writer.new)) work) }
     ensures why { IfErr result (StopsPlay view work) }
     ensures silent { IfErr result (λ f. f ≢ ShowFault.Command Fault.Output → writer.new ≡ writer.old) }
-    ensures part { IsErrOf result (ShowFault.Command Fault.Output) → ShowsPlay view (AppendsPart (W.contents writer.old) (W.contents writer.new)) work }
+    ensures part { IsErrOf result (ShowFault.Command Fault.Output)
+        → ShowsPlay view (AppendsPart (W.contents writer.old) (W.contents writer.new)) work }
 {
     let play = play_to_show(alloc, view.form, work)?;
     show_schedule(alloc, view.showing, play.schedule, play.notes, writer)
@@ -138,7 +144,8 @@ fn show_either<A: Allocator + Copy, W: Write>(
     ensures ok { IfOk result (λ _. Shows view (Appends (W.contents writer.old) (W.contents writer.new)) text.now) }
     ensures why { IfErr result (λ f. Blames view f text.now) }
     ensures silent { IfErr result (λ f. f ≢ ShowFault.Command Fault.Output → writer.new ≡ writer.old) }
-    ensures part { IsErrOf result (ShowFault.Command Fault.Output) → Shows view (AppendsPart (W.contents writer.old) (W.contents writer.new)) text.now }
+    ensures part { IsErrOf result (ShowFault.Command Fault.Output)
+        → Shows view (AppendsPart (W.contents writer.old) (W.contents writer.new)) text.now }
 {
     match workload_of(alloc, global, text)? {
         Some(work) => show_play(alloc, view, work, writer),

@@ -60,10 +60,12 @@ fn write_play<F: FrontEnd, A: Allocator + Copy, W: Write>(
     fair: bool,
     writer: &mut W,
 ) -> Result<(), ShowFault>
-    ensures ok { IfOk result (λ _. ShowsSchedule fair F.start (Appends (W.contents writer.old) (W.contents writer.new)) work.now) }
+    ensures ok { IfOk result
+        (λ _. ShowsSchedule fair F.start (Appends (W.contents writer.old) (W.contents writer.new)) work.now) }
     ensures why { IfErr result StopsSchedule }
     ensures silent { IfErr result (λ f. f ≢ ShowFault.Command Fault.Output → writer.new ≡ writer.old) }
-    ensures part { IsErrOf result (ShowFault.Command Fault.Output) → ShowsSchedule fair F.start (AppendsPart (W.contents writer.old) (W.contents writer.new)) work.now }
+    ensures part { IsErrOf result (ShowFault.Command Fault.Output)
+        → ShowsSchedule fair F.start (AppendsPart (W.contents writer.old) (W.contents writer.new)) work.now }
 {
     let play = play_by::<F, A, PackedWires<A>>(alloc, work, fair)?;
     let events = play.world.accepted();
@@ -83,10 +85,14 @@ pub fn write_play_schedule<A: Allocator + Copy, W: Write>(
     fair: bool,
     writer: &mut W,
 ) -> Result<(), ShowFault>
-    ensures ok { IfOk result (λ _. ShowsSchedule fair (start_of work.now.front) (Appends (W.contents writer.old) (W.contents writer.new)) work.now) }
+    ensures ok { IfOk result
+        (λ _. ShowsSchedule fair (start_of work.now.front) (Appends (W.contents writer.old) (W.contents writer.new))
+        work.now) }
     ensures why { IfErr result StopsSchedule }
     ensures silent { IfErr result (λ f. f ≢ ShowFault.Command Fault.Output → writer.new ≡ writer.old) }
-    ensures part { IsErrOf result (ShowFault.Command Fault.Output) → ShowsSchedule fair (start_of work.now.front) (AppendsPart (W.contents writer.old) (W.contents writer.new)) work.now }
+    ensures part { IsErrOf result (ShowFault.Command Fault.Output)
+        → ShowsSchedule fair (start_of work.now.front) (AppendsPart (W.contents writer.old) (W.contents writer.new))
+        work.now }
 {
     by_front!(work.front, write_play::<_, A, W>(alloc, work, fair, writer))
 }
@@ -102,7 +108,8 @@ impl WorkCommand for FullSchedule {
 
     ghost IsReady = { λ it. IsSeed (seed_of it.player) };
 
-    ghost IsShown = { λ it Wrote work. ShowsSchedule (is_fair it.player) (start_of work.front) Wrote (reseeded (seed_of it.player) work) };
+    ghost IsShown = { λ it Wrote work. ShowsSchedule (is_fair it.player) (start_of work.front) Wrote
+        (reseeded (seed_of it.player) work) };
 
     ghost IsStopped = { λ _ fault _. StopsSchedule fault };
 

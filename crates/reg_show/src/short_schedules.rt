@@ -4,7 +4,8 @@ ghost use Rattle.std.specs.Io.KnownBytes.{Appends};
 ghost use Rattle.reg_text.specs.Writing.{AppendsPart};
 ghost use Rattle.reg_commands.specs.Replays.{start_of};
 ghost use Rattle.reg_show.specs.Seeds.{IsSeed, is_fair, reseeded, seed_of};
-ghost use Rattle.reg_show.specs.Shorts.{IsShortPlay, KeepsAnswers, LacksShort, Shortens, ShowsShort, StopsShort, up_to_last_answer};
+ghost use Rattle.reg_show.specs.Shorts.{IsShortPlay, KeepsAnswers, LacksShort, Shortens, ShowsShort, StopsShort};
+ghost use Rattle.reg_show.specs.Shorts.{up_to_last_answer};
 
 use crate::faults::ShowFault;
 use crate::players::Player;
@@ -30,8 +31,14 @@ fn short_form<F: FrontEnd, A: Allocator + Copy>(
     entries: &[Entry],
     accepted: &[Event],
 ) -> Result<Vec<Event, A>, ShowFault>
-    ensures short { IfOk result (λ v. Shortens (KeepsAnswers F.start shape entries.now) (length (take (up_to_last_answer entries.now) accepted.now)) (take (up_to_last_answer entries.now) accepted.now) v.items) }
-    ensures why { IfErr result (λ f. (f ≡ ShowFault.Command Fault.OutOfMemory) ⊎ ((f ≡ ShowFault.TooManyToShorten) × (MOST_SHORTENED < length (take (up_to_last_answer entries.now) accepted.now)))) }
+    ensures short { IfOk result
+        (λ v. Shortens (KeepsAnswers F.start shape entries.now)
+        (length (take (up_to_last_answer entries.now) accepted.now)) (take (up_to_last_answer entries.now) accepted.now)
+        v.items) }
+    ensures why { IfErr result
+        (λ f. (f ≡ ShowFault.Command Fault.OutOfMemory)
+        ⊎ ((f ≡ ShowFault.TooManyToShorten)
+        × (MOST_SHORTENED < length (take (up_to_last_answer entries.now) accepted.now)))) }
 {
     let events = up_to_last(entries, accepted);
     if events.len() > MOST_SHORTENED {
@@ -61,10 +68,12 @@ fn write_short<F: FrontEnd, A: Allocator + Copy, W: Write>(
     fair: bool,
     writer: &mut W,
 ) -> Result<(), ShowFault>
-    ensures ok { IfOk result (λ _. ShowsShort fair F.start (Appends (W.contents writer.old) (W.contents writer.new)) work.now) }
+    ensures ok { IfOk result
+        (λ _. ShowsShort fair F.start (Appends (W.contents writer.old) (W.contents writer.new)) work.now) }
     ensures why { IfErr result (λ f. (f ≡ ShowFault.Command Fault.Output) ⊎ LacksShort fair F.start work.now f) }
     ensures silent { IfErr result (λ f. f ≢ ShowFault.Command Fault.Output → writer.new ≡ writer.old) }
-    ensures part { IsErrOf result (ShowFault.Command Fault.Output) → ShowsShort fair F.start (AppendsPart (W.contents writer.old) (W.contents writer.new)) work.now }
+    ensures part { IsErrOf result (ShowFault.Command Fault.Output)
+        → ShowsShort fair F.start (AppendsPart (W.contents writer.old) (W.contents writer.new)) work.now }
 {
     let short = short_play::<F, A>(alloc, work, fair)?;
     let events = short.as_slice();
@@ -80,10 +89,15 @@ fn write_short_of<A: Allocator + Copy, W: Write>(
     fair: bool,
     writer: &mut W,
 ) -> Result<(), ShowFault>
-    ensures ok { IfOk result (λ _. ShowsShort fair (start_of work.now.front) (Appends (W.contents writer.old) (W.contents writer.new)) work.now) }
-    ensures why { IfErr result (λ f. (f ≡ ShowFault.Command Fault.Output) ⊎ LacksShort fair (start_of work.now.front) work.now f) }
+    ensures ok { IfOk result
+        (λ _. ShowsShort fair (start_of work.now.front) (Appends (W.contents writer.old) (W.contents writer.new))
+        work.now) }
+    ensures why { IfErr result
+        (λ f. (f ≡ ShowFault.Command Fault.Output) ⊎ LacksShort fair (start_of work.now.front) work.now f) }
     ensures silent { IfErr result (λ f. f ≢ ShowFault.Command Fault.Output → writer.new ≡ writer.old) }
-    ensures part { IsErrOf result (ShowFault.Command Fault.Output) → ShowsShort fair (start_of work.now.front) (AppendsPart (W.contents writer.old) (W.contents writer.new)) work.now }
+    ensures part { IsErrOf result (ShowFault.Command Fault.Output)
+        → ShowsShort fair (start_of work.now.front) (AppendsPart (W.contents writer.old) (W.contents writer.new))
+        work.now }
 {
     by_front!(
         work.front,
@@ -105,9 +119,11 @@ impl WorkCommand for ShortSchedule {
 
     ghost IsReady = { λ it. IsSeed (seed_of it.player) };
 
-    ghost IsShown = { λ it Wrote work. ShowsShort (is_fair it.player) (start_of work.front) Wrote (reseeded (seed_of it.player) work) };
+    ghost IsShown = { λ it Wrote work. ShowsShort (is_fair it.player) (start_of work.front) Wrote
+        (reseeded (seed_of it.player) work) };
 
-    ghost IsStopped = { λ it fault work. StopsShort (is_fair it.player) (start_of work.front) (reseeded (seed_of it.player) work) fault };
+    ghost IsStopped = { λ it fault work. StopsShort (is_fair it.player) (start_of work.front)
+        (reseeded (seed_of it.player) work) fault };
 
     fn show<A: Allocator + Copy, W: Write>(
         self,

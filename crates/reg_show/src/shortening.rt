@@ -1,7 +1,8 @@
 //! The events of a play without those that no answer needs.
 ghost use Rattle.std.specs.Prelude.{◌≡◌, ◌<◌, ◌∷◌, ◌++◌, ◌↔◌, [], IfOk, OnOk, IsTrue, MatchOption, length, max, take};
 ghost use Rattle.std.specs.List.{remove};
-ghost use Rattle.reg_show.specs.Shorts.{HaveSameAnswers, IsTried, KeepsAnswers, Shortens, finished_by, finished_of, last_after, up_to_answer, up_to_last_answer};
+ghost use Rattle.reg_show.specs.Shorts.{HaveSameAnswers, IsTried, KeepsAnswers, Shortens, finished_by, finished_of};
+ghost use Rattle.reg_show.specs.Shorts.{last_after, up_to_answer, up_to_last_answer};
 
 use reg_base::{Answer, Op, Shape};
 use reg_checkers::Entry;
@@ -189,7 +190,8 @@ pub(crate) fn shorten<F: FrontEnd, A: Allocator + Copy>(
     entries: &[Entry],
     events: &[Event],
 ) -> Result<Vec<Event, A>, AllocError>
-    ensures { IfOk result (λ v. Shortens (KeepsAnswers F.start shape entries.now) (length events.now) events.now v.items) }
+    ensures { IfOk result
+        (λ v. Shortens (KeepsAnswers F.start shape entries.now) (length events.now) events.now v.items) }
 {
     let mut short = Vec::from_slice(alloc, events)?;
     for tried in 0..events.len() {

@@ -43,7 +43,8 @@ pub fn tell_schedule<A: Allocator + Copy>(
     alloc: A,
     schedule: Schedule<A>,
 ) -> Result<TracedRun<A>, Fault>
-    ensures told { IfOk result (λ t. IsTold (start_of schedule.front) schedule t.names t.moments.items t.history.entries) }
+    ensures told { IfOk result
+        (λ t. IsTold (start_of schedule.front) schedule t.names t.moments.items t.history.entries) }
     ensures points { IfOk result (λ t. PointsOf schedule.front schedule (option_map (λ v. v.items) t.points)) }
     ensures why { IfErr result (λ f. BlamesRun (start_of schedule.front) schedule f) }
 {

@@ -1,5 +1,6 @@
 -- Words by their places, and what the words ask for.
-use Rattle.std.proofs.Common.{◌≡◌, inl, inr, ℕ, zero, suc, ◌+◌, ◌<◌, ◌≤◌, get_or, Bool, true, false, List, [], ◌∷◌, length, drop, map, Option, Some, String, string_bytes, refl, ap, sym, ◌∙◌, arith}
+use Rattle.std.proofs.Common.{◌≡◌, inl, inr, ℕ, zero, suc, ◌+◌, ◌<◌, ◌≤◌, get_or, Bool, true, false, List, [], ◌∷◌}
+use Rattle.std.proofs.Common.{length, drop, map, Option, Some, String, string_bytes, refl, ap, sym, ◌∙◌, arith}
 use Rattle.std.specs.Prelude.{option_copied, slice_get}
 use Rattle.std.specs.Str.{bytes_eq}
 use Rattle.std.proofs.lemmas.Slice.Eq.{bytes_eq-Decides}
@@ -8,28 +9,36 @@ use Rattle.reg_cli.specs.Subcommands.{Text}
 use Rattle.reg_outcomes.specs.declared.tables.plays.TheConstants.{MOST_PLAYS}
 use Rattle.reg_show_cli.specs.declared.topics.Topic.{Topic}
 use Rattle.reg_show_cli.specs.declared.words.Asked.{Asked}
-use Rattle.reg_show_cli.specs.declared.words.Asked.TheVariants.{AllOutcomes, Find, Help, Judge, Merge, Outcome, Outcomes, Schedule, ShortSchedule, Show, Story, Text as OfText, Verify, Version, Why}
+use Rattle.reg_show_cli.specs.declared.words.Asked.TheVariants.{AllOutcomes, Find, Help, Judge, Merge, Outcome}
+use Rattle.reg_show_cli.specs.declared.words.Asked.TheVariants.{Outcomes, Schedule, ShortSchedule, Show, Story}
+use Rattle.reg_show_cli.specs.declared.words.Asked.TheVariants.{Text as OfText, Verify, Version, Why}
 use Rattle.reg_outcomes.specs.declared.orders.kinds.OrderKind.{OrderKind}
 use Rattle.reg_outcomes.specs.declared.orders.kinds.OrderKind.TheVariants.{Serial, Points}
 use Rattle.reg_show.specs.declared.Player.{Player}
-use Rattle.reg_show_cli.specs.Lines.{IsAllLine, IsFindLine, IsHelpLine, IsJudgeLine, IsLineOf, IsMergeLine, IsOneOutcomeLine, IsOutcomesLine, IsScheduleLine, IsShortLine, IsShowLine, IsStoryLine, IsVerifyLine, IsVersionLine, IsWhyLine, NumbersFit, SaysPlays, text_line}
+use Rattle.reg_show_cli.specs.Lines.{IsAllLine, IsFindLine, IsHelpLine, IsJudgeLine, IsLineOf, IsMergeLine}
+use Rattle.reg_show_cli.specs.Lines.{IsOneOutcomeLine, IsOutcomesLine, IsScheduleLine, IsShortLine, IsShowLine}
+use Rattle.reg_show_cli.specs.Lines.{IsStoryLine, IsVerifyLine, IsVersionLine, IsWhyLine, NumbersFit, SaysPlays}
+use Rattle.reg_show_cli.specs.Lines.{text_line}
 use Rattle.reg_show.specs.declared.showing.View.{View}
 use Rattle.reg_commands.specs.declared.command.Command.{Command}
 use Rattle.reg_commands.specs.declared.command.Command.TheVariants.{Check, Play, Replay}
 
 -- the bytes of the word at a place
-pub bytes_at : {A : Type 0} (words : List (String A)) (place : ℕ) (x : String A) → place < length words → x ≡ get_or words place x → slice_get (map string_bytes words) place ≡ Some (string_bytes x)
+pub bytes_at : {A : Type 0} (words : List (String A)) (place : ℕ) (x : String A) → place < length words
+    → x ≡ get_or words place x → slice_get (map string_bytes words) place ≡ Some (string_bytes x)
 bytes_at [] place x lt e = absurd (omega arith)
 bytes_at (y ∷ words) zero x lt e = ap (λ s. Some (string_bytes s)) (sym e)
 bytes_at (y ∷ words) (suc place) x lt e = bytes_at words place x (omega arith) e
 
-pub no_bytes : {A : Type 0} (words : List (String A)) (place : ℕ) (w : Text) → length words ≤ place → slice_get (map string_bytes words) place ≡ Some w → ⊥
+pub no_bytes : {A : Type 0} (words : List (String A)) (place : ℕ) (w : Text) → length words ≤ place
+    → slice_get (map string_bytes words) place ≡ Some w → ⊥
 no_bytes [] place w le h = absurd cc
 no_bytes (y ∷ words) zero w le h = omega arith
 no_bytes (y ∷ words) (suc place) w le h = no_bytes words place w (omega arith) h
 
 -- whether the word that stands there is this one
-pub tells_word : (r : Bool) (a x w : Text) (o : Option Text) → r ≡ bytes_eq a w → a ≡ x → o ≡ Some x → (r ≡ true → o ≡ Some w) × (o ≡ Some w → r ≡ true)
+pub tells_word : (r : Bool) (a x w : Text) (o : Option Text) → r ≡ bytes_eq a w → a ≡ x → o ≡ Some x
+    → (r ≡ true → o ≡ Some w) × (o ≡ Some w → r ≡ true)
 tells_word r a x w o is e there =
     let test = bytes_eq-Decides a w in
     (λ t. there ∙ ap Some (sym e ∙ test.0 (sym is ∙ t)), λ h. is ∙ test.1 (e ∙ same_Some x w (sym there ∙ h)))
@@ -41,7 +50,8 @@ one_word (a ∷ []) x n h = absurd cc
 one_word (a ∷ b ∷ []) x n h = ap (λ y. y ∷ []) (same_Some b x h)
 one_word (a ∷ b ∷ c ∷ ws) x n h = absurd (omega arith)
 
-pub two_words : (ws : List Text) (x y : Text) → length ws ≡ 3 → slice_get ws 1 ≡ Some x → slice_get ws 2 ≡ Some y → drop 1 ws ≡ x ∷ y ∷ []
+pub two_words : (ws : List Text) (x y : Text) → length ws ≡ 3 → slice_get ws 1 ≡ Some x → slice_get ws 2 ≡ Some y
+    → drop 1 ws ≡ x ∷ y ∷ []
 two_words [] x y n h i = absurd cc
 two_words (a ∷ []) x y n h i = absurd cc
 two_words (a ∷ b ∷ []) x y n h i = absurd cc
@@ -49,12 +59,14 @@ two_words (a ∷ b ∷ c ∷ []) x y n h i = ap (λ t. t ∷ c ∷ []) (same_Som
 two_words (a ∷ b ∷ c ∷ d ∷ ws) x y n h i = absurd (omega arith)
 
 -- a word of the line has its place after the program's name
-pub word_at : (ws line : List Text) (k : ℕ) (x : Text) → drop 1 ws ≡ line → slice_get line k ≡ Some x → slice_get ws (suc k) ≡ Some x
+pub word_at : (ws line : List Text) (k : ℕ) (x : Text) → drop 1 ws ≡ line → slice_get line k ≡ Some x
+    → slice_get ws (suc k) ≡ Some x
 word_at [] line k x e h = ap (λ l. slice_get l k) e ∙ h
 word_at (a ∷ ws) line k x e h = ap (λ l. slice_get l k) e ∙ h
 
 -- the length of such a line
-pub long_as : (ws line : List Text) (x : Text) (rest : List Text) → drop 1 ws ≡ line → line ≡ x ∷ rest → length ws ≡ length line + 1
+pub long_as : (ws line : List Text) (x : Text) (rest : List Text) → drop 1 ws ≡ line → line ≡ x ∷ rest
+    → length ws ≡ length line + 1
 long_as [] line x rest e f = absurd (none (e ∙ f))
   where
     none : [] ≡ x ∷ rest → ⊥
@@ -62,7 +74,9 @@ long_as [] line x rest e f = absurd (none (e ∙ f))
 long_as (a ∷ ws) line x rest e f = let n = ap length e in omega (arith, n)
 
 -- no such line asks for a command of awreg
-pub no_text : (line : List Text) → ¬ (line ≡ text_line Replay) → ¬ (line ≡ text_line Check) → ¬ (line ≡ text_line (Play false)) → ¬ (line ≡ text_line (Play true)) → (command : Command) → ¬ (line ≡ text_line command)
+pub no_text : (line : List Text) → ¬ (line ≡ text_line Replay) → ¬ (line ≡ text_line Check)
+    → ¬ (line ≡ text_line (Play false)) → ¬ (line ≡ text_line (Play true)) → (command : Command)
+    → ¬ (line ≡ text_line command)
 no_text line replay check play fair Replay h = replay h
 no_text line replay check play fair Check h = check h
 no_text line replay check play fair (Play false) h = play h
@@ -120,7 +134,8 @@ pub second_word : (ws : List Text) (x y : Text) → drop 1 ws ≡ x ∷ y ∷ []
 second_word ws x y e = word_at ws (x ∷ y ∷ []) 1 y e refl
 
 -- no order is asked for where neither is
-pub no_order : (line : List Text) → ¬ IsFindLine line Serial → ¬ IsFindLine line Points → (kind : OrderKind) → ¬ IsFindLine line kind
+pub no_order : (line : List Text) → ¬ IsFindLine line Serial → ¬ IsFindLine line Points → (kind : OrderKind)
+    → ¬ IsFindLine line kind
 no_order line serial points Serial h = serial h
 no_order line serial points Points h = points h
 

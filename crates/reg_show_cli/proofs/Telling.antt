@@ -2,9 +2,13 @@
 use Rattle.std.proofs.Common.{ℕ, List, Option, inl, inr}
 use Rattle.reg_show_cli.specs.Statuses.{Stops, Tells}
 use Rattle.reg_show_cli.specs.declared.words.Asked.{Asked}
-use Rattle.reg_show_cli.specs.declared.words.Asked.TheVariants.{AllOutcomes, Find, Help, Judge, Merge, Outcome, Outcomes, Schedule, ShortSchedule, Show, Story, Text as OfText, Verify, Version, Why}
+use Rattle.reg_show_cli.specs.declared.words.Asked.TheVariants.{AllOutcomes, Find, Help, Judge, Merge, Outcome}
+use Rattle.reg_show_cli.specs.declared.words.Asked.TheVariants.{Outcomes, Schedule, ShortSchedule, Show, Story}
+use Rattle.reg_show_cli.specs.declared.words.Asked.TheVariants.{Text as OfText, Verify, Version, Why}
 
-pub tells_of : (asked : Asked) (input : Option (List ℕ)) (unwritten : Type 0) (old new : Option (List ℕ)) (untold : Type 0) (was is : Option (List ℕ)) → Stops asked input unwritten old new untold was is → Tells asked untold was is
+pub tells_of : (asked : Asked) (input : Option (List ℕ)) (unwritten : Type 0) (old new : Option (List ℕ))
+    (untold : Type 0) (was is : Option (List ℕ))
+    → Stops asked input unwritten old new untold was is → Tells asked untold was is
 tells_of (OfText command) input unwritten old new untold was is h = elim h [ inl (denies, answered, same) ↦ inl (denies, same) | inr (f, kind, blamed, silent, part, told) ↦ inr (f, kind, told) ]
 tells_of (Show view) input unwritten old new untold was is h = elim h [ inl (denies, answered, same) ↦ inl (denies, same) | inr (f, kind, blamed, silent, part, told) ↦ inr (f, kind, told) ]
 tells_of (Schedule player) input unwritten old new untold was is h = elim h [ inl (denies, answered, same) ↦ inl (denies, same) | inr (f, kind, blamed, silent, part, told) ↦ inr (f, kind, told) ]

@@ -1,5 +1,6 @@
 -- Which words ask for what.
-use Rattle.std.specs.Prelude.{ℕ, ◌≡◌, ◌≤◌, ◌⊎◌, ⊤, Bool, true, false, List, [], ◌∷◌, ◌++◌, codes, Option, Some, None, option_copied}
+use Rattle.std.specs.Prelude.{ℕ, ◌≡◌, ◌≤◌, ◌⊎◌, ⊤, Bool, true, false, List, [], ◌∷◌, ◌++◌, codes, Option, Some, None}
+use Rattle.std.specs.Prelude.{option_copied}
 use Rattle.std.specs.Fmt.{decimal}
 use Rattle.reg_cli.specs.Subcommands.{Text}
 use Rattle.reg_outcomes.specs.declared.tables.plays.TheConstants.{MOST_PLAYS}
@@ -20,7 +21,9 @@ use Rattle.reg_show_cli.specs.declared.flags.TheConstants.{USUAL_PLAYS}
 use Rattle.reg_show_cli.specs.Topics.{topic_name}
 use Rattle.reg_show_cli.specs.declared.topics.Topic.{Topic}
 use Rattle.reg_show_cli.specs.declared.words.Asked.{Asked}
-use Rattle.reg_show_cli.specs.declared.words.Asked.TheVariants.{AllOutcomes, Find, Help, Judge, Merge, Outcome, Outcomes, Schedule, ShortSchedule, Show, Story, Text as OfText, Verify, Version, Why}
+use Rattle.reg_show_cli.specs.declared.words.Asked.TheVariants.{AllOutcomes, Find, Help, Judge, Merge, Outcome}
+use Rattle.reg_show_cli.specs.declared.words.Asked.TheVariants.{Outcomes, Schedule, ShortSchedule, Show, Story}
+use Rattle.reg_show_cli.specs.declared.words.Asked.TheVariants.{Text as OfText, Verify, Version, Why}
 
 -- the words that ask to show this: its name, and what a large drawing has behind it
 abbrev pub show_words : Showing → List Text
@@ -47,7 +50,8 @@ IsFormFlag Rest form flags = (form ≡ Whole) × (flags ≡ [])
 
 -- the words after the program's name ask for this
 abbrev pub IsShowLine : List Text → View → Type 0
-IsShowLine line view = (flags : List Text) × (line ≡ show_words view.showing ++ flags) × IsFormFlag view.showing view.form flags
+IsShowLine line view =
+    (flags : List Text) × (line ≡ show_words view.showing ++ flags) × IsFormFlag view.showing view.form flags
 
 -- the words after the program's name that ask for a command of awreg
 abbrev pub text_line : Command → List Text
@@ -85,7 +89,9 @@ short_words = codes "--short" ∷ []
 -- these words are those for a short form and those for a player, whose seed a workload can have: the one and then the
 -- other, in either order
 abbrev pub SaysShort : List Text → Player → Type 0
-SaysShort flags player = ((flags ≡ short_words ++ player_words player) ⊎ (flags ≡ player_words player ++ short_words)) × IsSeed (seed_of player)
+SaysShort flags player =
+    ((flags ≡ short_words ++ player_words player) ⊎ (flags ≡ player_words player ++ short_words))
+    × IsSeed (seed_of player)
 
 -- the words ask for the schedule of the short form of this player's play
 abbrev pub IsShortLine : List Text → Player → Type 0
@@ -99,11 +105,14 @@ plays_words plays = codes "--plays" ∷ decimal plays ∷ []
 -- either order; or for a seed alone, and then the plays are as many as is usual
 abbrev pub SaysPlays : List Text → ℕ → Option ℕ → Type 0
 SaysPlays flags plays seed =
-    ((plays ≡ USUAL_PLAYS) × (flags ≡ seed_words seed)) ⊎ ((1 ≤ plays) × (plays ≤ MOST_PLAYS) × ((flags ≡ plays_words plays ++ seed_words seed) ⊎ (flags ≡ seed_words seed ++ plays_words plays)))
+    ((plays ≡ USUAL_PLAYS) × (flags ≡ seed_words seed))
+    ⊎ ((1 ≤ plays) × (plays ≤ MOST_PLAYS)
+    × ((flags ≡ plays_words plays ++ seed_words seed) ⊎ (flags ≡ seed_words seed ++ plays_words plays)))
 
 -- the words ask to count what this number of plays tells, from this seed on where there is one
 abbrev pub IsOutcomesLine : List Text → ℕ → Option ℕ → Type 0
-IsOutcomesLine line plays seed = (flags : List Text) × (line ≡ codes "outcomes" ∷ flags) × SaysPlays flags plays seed × IsSeed seed
+IsOutcomesLine line plays seed =
+    (flags : List Text) × (line ≡ codes "outcomes" ∷ flags) × SaysPlays flags plays seed × IsSeed seed
 
 -- the words ask what is wrong with a text
 abbrev pub IsWhyLine : List Text → Type 0
@@ -132,7 +141,8 @@ report_words true = codes "--report" ∷ []
 
 -- these words are those for a first value and those for a report: the one and then the other, in either order
 abbrev pub SaysJudge : List Text → Option Text → Bool → Type 0
-SaysJudge flags first report = (flags ≡ first_words first ++ report_words report) ⊎ (flags ≡ report_words report ++ first_words first)
+SaysJudge flags first report =
+    (flags ≡ first_words first ++ report_words report) ⊎ (flags ≡ report_words report ++ first_words first)
 
 -- the words ask to judge a history, of registers with this first value where there is one, and whether for a report
 abbrev pub IsJudgeLine : List Text → Option Text → Bool → Type 0
@@ -148,7 +158,8 @@ IsAllLine line = line ≡ codes "outcomes" ∷ codes "--all" ∷ []
 
 -- the words ask for a run with the outcome of this number, from 1 on
 abbrev pub IsOneOutcomeLine : List Text → ℕ → Type 0
-IsOneOutcomeLine line number = (line ≡ codes "outcomes" ∷ codes "--all" ∷ decimal number ∷ []) × (1 ≤ number) × (number ≤ LAST_OUTCOME)
+IsOneOutcomeLine line number =
+    (line ≡ codes "outcomes" ∷ codes "--all" ∷ decimal number ∷ []) × (1 ≤ number) × (number ≤ LAST_OUTCOME)
 
 -- the word for an order
 abbrev pub order_word : OrderKind → Text
@@ -161,7 +172,8 @@ IsFindLine line kind = line ≡ codes "find" ∷ order_word kind ∷ []
 
 -- the words ask for help with the command of this name
 abbrev pub IsHelpWith : List Text → Text → Type 0
-IsHelpWith line name = (line ≡ codes "help" ∷ name ∷ []) ⊎ ((line ≡ name ∷ codes "-h" ∷ []) ⊎ (line ≡ name ∷ codes "--help" ∷ []))
+IsHelpWith line name =
+    (line ≡ codes "help" ∷ name ∷ []) ⊎ ((line ≡ name ∷ codes "-h" ∷ []) ⊎ (line ≡ name ∷ codes "--help" ∷ []))
 
 -- the words ask for help, with a command or with none
 abbrev pub IsHelpLine : List Text → Option Topic → Type 0

@@ -3,8 +3,11 @@ use Rattle.std.specs.Prelude.{ℕ, List, [], ◌∷◌, ◌++◌, codes, Option,
 use Rattle.std.specs.List.{flat_map}
 use Rattle.reg_cli.specs.Subcommands.{Text}
 use Rattle.reg_show_cli.specs.declared.topics.Topic.{Topic}
-use Rattle.reg_show_cli.specs.declared.topics.Topic.TheVariants.{Replay, Check, Play, Schedule, Outcomes, Find, Trace, Draw, Page, Data, Rest, Why, Verify, Merge, Story, Judge}
-use Rattle.reg_show_cli.specs.declared.topics.TheConstants.{REPLAY, CHECK, PLAY, SCHEDULE, OUTCOMES, FIND, TRACE, DRAW, PAGE, DATA, REST, WHY, VERIFY, MERGE, STORY, JUDGE}
+use Rattle.reg_show_cli.specs.declared.topics.Topic.TheVariants.{Replay, Check, Play, Schedule, Outcomes, Find, Trace}
+use Rattle.reg_show_cli.specs.declared.topics.Topic.TheVariants.{Draw, Page, Data, Rest, Why, Verify, Merge, Story}
+use Rattle.reg_show_cli.specs.declared.topics.Topic.TheVariants.{Judge}
+use Rattle.reg_show_cli.specs.declared.topics.TheConstants.{REPLAY, CHECK, PLAY, SCHEDULE, OUTCOMES, FIND, TRACE, DRAW}
+use Rattle.reg_show_cli.specs.declared.topics.TheConstants.{PAGE, DATA, REST, WHY, VERIFY, MERGE, STORY, JUDGE}
 use Rattle.reg_show_cli.specs.declared.words.TheConstants.{HELP_BEGIN, HELP_END}
 
 abbrev pub topic_name : Topic → Text
@@ -46,7 +49,9 @@ topic_lines Judge = JUDGE.now
 
 -- all commands
 abbrev pub topics : List Topic
-topics = Replay ∷ Check ∷ Play ∷ Schedule ∷ Outcomes ∷ Find ∷ Trace ∷ Draw ∷ Page ∷ Data ∷ Rest ∷ Why ∷ Verify ∷ Merge ∷ Story ∷ Judge ∷ []
+topics =
+    Replay ∷ Check ∷ Play ∷ Schedule ∷ Outcomes ∷ Find ∷ Trace ∷ Draw ∷ Page ∷ Data ∷ Rest ∷ Why ∷ Verify ∷ Merge
+    ∷ Story ∷ Judge ∷ []
 
 -- the help with a command, or with all
 abbrev pub help_text : Option Topic → List ℕ

@@ -1,5 +1,6 @@
 //! What the words of a command line ask for.
-ghost use Rattle.std.specs.Prelude.{◌≡◌, ◌≢◌, ◌↔◌, ◌∷◌, [], ℕ, Bool, IfSome, MatchOption, None, Option, Some, map, option_copied, true, slice_get, string_bytes};
+ghost use Rattle.std.specs.Prelude.{◌≡◌, ◌≢◌, ◌↔◌, ◌∷◌, [], ℕ, Bool, IfSome, MatchOption, None, Option, Some, map};
+ghost use Rattle.std.specs.Prelude.{option_copied, true, slice_get, string_bytes};
 ghost use Rattle.reg_cli.specs.Subcommands.{Text, behind_name};
 ghost use Rattle.reg_outcomes.specs.declared.orders.kinds.OrderKind.{OrderKind as AnyKind};
 ghost use Rattle.reg_show.specs.declared.Player.{Player as AnyPlayer};
@@ -10,7 +11,10 @@ ghost use Rattle.reg_show.specs.declared.showing.View.{View as AnyView};
 ghost use Rattle.reg_commands.specs.declared.command.Command.{Command as AnyCommand};
 ghost use Rattle.reg_show_cli.specs.declared.topics.Topic.{Topic as AnyTopic};
 ghost use Rattle.reg_show_cli.specs.declared.words.Asked.{Asked as AnyAsked};
-ghost use Rattle.reg_show_cli.specs.Lines.{IsAllLine, IsFindLine, IsHelpLine, IsHelpWith, IsJudgeLine, IsLineOf, IsMergeLine, IsOneOutcomeLine, IsOutcomesLine, IsScheduleLine, IsShortLine, IsShowLine, IsStoryLine, IsVerifyLine, IsVersionLine, IsWhyLine, show_words, text_line};
+ghost use Rattle.reg_show_cli.specs.Lines.{IsAllLine, IsFindLine, IsHelpLine, IsHelpWith, IsJudgeLine, IsLineOf};
+ghost use Rattle.reg_show_cli.specs.Lines.{IsMergeLine, IsOneOutcomeLine, IsOutcomesLine, IsScheduleLine, IsShortLine};
+ghost use Rattle.reg_show_cli.specs.Lines.{IsShowLine, IsStoryLine, IsVerifyLine, IsVersionLine, IsWhyLine, show_words};
+ghost use Rattle.reg_show_cli.specs.Lines.{text_line};
 ghost use Rattle.reg_show_cli.specs.Topics.{topic_name};
 
 use crate::flags::{
@@ -59,7 +63,8 @@ fn asks_all(words: &[String]) -> bool
 
 /// Which order of a history the words ask to find, and None where they ask for none.
 fn order_asked(words: &[String]) -> Option<OrderKind>
-    ensures { MatchOption result ((kind : AnyKind) → ¬ IsFindLine (behind_name words.now) kind) (IsFindLine (behind_name words.now)) }
+    ensures { MatchOption result ((kind : AnyKind) → ¬ IsFindLine (behind_name words.now) kind)
+        (IsFindLine (behind_name words.now)) }
 {
     if are_two(words, "find", "serial") {
         return Some(OrderKind::Serial);
@@ -82,7 +87,8 @@ fn is_alone(words: &[String], word: &str) -> bool
 
 /// The number of the outcome that the words ask for, and None where they ask for none.
 fn outcome_asked(words: &[String]) -> Option<u32>
-    ensures { MatchOption result ((number : ℕ) → ¬ IsOneOutcomeLine (behind_name words.now) number) (IsOneOutcomeLine (behind_name words.now)) }
+    ensures { MatchOption result ((number : ℕ) → ¬ IsOneOutcomeLine (behind_name words.now) number)
+        (IsOneOutcomeLine (behind_name words.now)) }
 {
     let flags = behind(line_of(words), "outcomes")?;
     let number = number_alone(flags, "--all", LAST_OUTCOME as u64)?;
@@ -94,7 +100,8 @@ fn outcome_asked(words: &[String]) -> Option<u32>
 
 /// The player whose play the words ask for, and None where they ask for no schedule.
 fn player_asked(words: &[String]) -> Option<Player>
-    ensures { MatchOption result ((player : AnyPlayer) → ¬ IsScheduleLine (behind_name words.now) player) (IsScheduleLine (behind_name words.now)) }
+    ensures { MatchOption result ((player : AnyPlayer) → ¬ IsScheduleLine (behind_name words.now) player)
+        (IsScheduleLine (behind_name words.now)) }
 {
     let flags = behind(line_of(words), "schedule")?;
     player_said(flags)
@@ -102,7 +109,8 @@ fn player_asked(words: &[String]) -> Option<Player>
 
 /// The player whose play the words ask for in short, and None where they ask for no short schedule.
 fn short_asked(words: &[String]) -> Option<Player>
-    ensures { MatchOption result ((player : AnyPlayer) → ¬ IsShortLine (behind_name words.now) player) (IsShortLine (behind_name words.now)) }
+    ensures { MatchOption result ((player : AnyPlayer) → ¬ IsShortLine (behind_name words.now) player)
+        (IsShortLine (behind_name words.now)) }
 {
     let flags = behind(line_of(words), "schedule")?;
     short_said(flags)
@@ -110,7 +118,8 @@ fn short_asked(words: &[String]) -> Option<Player>
 
 /// The plays that the words ask to count, and None where they ask for none.
 fn plays_asked(words: &[String]) -> Option<Plays>
-    ensures { MatchOption result ((plays : ℕ) (seed : Option ℕ) → ¬ IsOutcomesLine (behind_name words.now) plays seed) (λ p. IsOutcomesLine (behind_name words.now) p.plays p.seed) }
+    ensures { MatchOption result ((plays : ℕ) (seed : Option ℕ) → ¬ IsOutcomesLine (behind_name words.now) plays seed)
+        (λ p. IsOutcomesLine (behind_name words.now) p.plays p.seed) }
 {
     let flags = behind(line_of(words), "outcomes")?;
     plays_said(flags)
@@ -118,7 +127,9 @@ fn plays_asked(words: &[String]) -> Option<Plays>
 
 /// How the words ask to judge a history, and None where they ask for none of it.
 fn judging_asked(words: &[String]) -> Option<JudgeFlags<'_>>
-    ensures { MatchOption result ((first : Option Text) (report : Bool) → ¬ IsJudgeLine (behind_name words.now) first report) (λ f. IsJudgeLine (behind_name words.now) (option_copied f.first) f.report) }
+    ensures { MatchOption result
+        ((first : Option Text) (report : Bool) → ¬ IsJudgeLine (behind_name words.now) first report)
+        (λ f. IsJudgeLine (behind_name words.now) (option_copied f.first) f.report) }
 {
     let flags = behind(line_of(words), "judge")?;
     judging_said(flags)
@@ -126,7 +137,8 @@ fn judging_asked(words: &[String]) -> Option<JudgeFlags<'_>>
 
 /// What of `awreg` the words ask for, and None where they ask for nothing of it.
 fn text_asked(words: &[String]) -> Option<Command>
-    ensures { MatchOption result ((command : AnyCommand) → ¬ (behind_name words.now ≡ text_line command)) (λ command. behind_name words.now ≡ text_line command) }
+    ensures { MatchOption result ((command : AnyCommand) → ¬ (behind_name words.now ≡ text_line command))
+        (λ command. behind_name words.now ≡ text_line command) }
 {
     if is_alone(words, "replay") {
         return Some(Command::Replay);
@@ -160,7 +172,9 @@ fn showing_named(word: &str) -> Option<Showing>
 
 /// The form in which the words ask for a large drawing, and None where they ask for none.
 fn large_asked(words: &[String]) -> Option<Form>
-    ensures { MatchOption result ((form : AnyForm) → ¬ IsShowLine (behind_name words.now) (record { showing = DrawLarge; form = form })) (λ form. IsShowLine (behind_name words.now) (record { showing = DrawLarge; form = form })) }
+    ensures { MatchOption result
+        ((form : AnyForm) → ¬ IsShowLine (behind_name words.now) (record { showing = DrawLarge; form = form }))
+        (λ form. IsShowLine (behind_name words.now) (record { showing = DrawLarge; form = form })) }
 {
     let flags = behind(behind(line_of(words), "draw")?, "--large")?;
     form_said(Showing::DrawLarge, flags)
@@ -168,7 +182,9 @@ fn large_asked(words: &[String]) -> Option<Form>
 
 /// What else the words ask to show, and None where they ask for nothing of it.
 fn usual_asked(words: &[String]) -> Option<View>
-    ensures { MatchOption result ((view : AnyView) → view.showing ≢ DrawLarge → ¬ IsShowLine (behind_name words.now) view) (IsShowLine (behind_name words.now)) }
+    ensures { MatchOption result
+        ((view : AnyView) → view.showing ≢ DrawLarge → ¬ IsShowLine (behind_name words.now) view)
+        (IsShowLine (behind_name words.now)) }
 {
     let (name, flags) = line_of(words).split_first()?;
     let showing = showing_named(name.as_str())?;
@@ -178,7 +194,8 @@ fn usual_asked(words: &[String]) -> Option<View>
 
 /// What the words ask to show, and None where they ask for nothing of it.
 fn view_asked(words: &[String]) -> Option<View>
-    ensures { MatchOption result ((view : AnyView) → ¬ IsShowLine (behind_name words.now) view) (IsShowLine (behind_name words.now)) }
+    ensures { MatchOption result ((view : AnyView) → ¬ IsShowLine (behind_name words.now) view)
+        (IsShowLine (behind_name words.now)) }
 {
     match large_asked(words) {
         Some(form) => Some(View {
@@ -205,7 +222,8 @@ fn two_words(words: &[String]) -> Option<(&str, &str)>
 
 /// The command with which the words ask for help, and None where they ask for none.
 fn topic_asked(words: &[String]) -> Option<Topic>
-    ensures { MatchOption result ((topic : AnyTopic) → ¬ IsHelpWith (behind_name words.now) (topic_name topic)) (λ topic. IsHelpWith (behind_name words.now) (topic_name topic)) }
+    ensures { MatchOption result ((topic : AnyTopic) → ¬ IsHelpWith (behind_name words.now) (topic_name topic))
+        (λ topic. IsHelpWith (behind_name words.now) (topic_name topic)) }
 {
     let (first, second) = two_words(words)?;
     if first == "help" {
@@ -226,7 +244,8 @@ fn asks_whole_help(words: &[String]) -> bool
 
 /// With which command, or with none, the words ask for help; and None where they ask for no help.
 fn help_asked(words: &[String]) -> Option<Option<Topic>>
-    ensures { MatchOption result ((topic : Option AnyTopic) → ¬ IsHelpLine (behind_name words.now) topic) (IsHelpLine (behind_name words.now)) }
+    ensures { MatchOption result ((topic : Option AnyTopic) → ¬ IsHelpLine (behind_name words.now) topic)
+        (IsHelpLine (behind_name words.now)) }
 {
     if asks_whole_help(words) {
         return Some(None);
@@ -274,7 +293,8 @@ fn plain_asked(words: &[String]) -> Option<Asked<'_>>
 
 /// What the words ask for, and None where they ask for nothing. The first word is the program's name.
 pub fn ask(words: &[String]) -> Option<Asked<'_>>
-    ensures { MatchOption result ((asked : AnyAsked) → ¬ IsLineOf asked (behind_name words.now)) (λ asked. IsLineOf asked (behind_name words.now)) }
+    ensures { MatchOption result ((asked : AnyAsked) → ¬ IsLineOf asked (behind_name words.now))
+        (λ asked. IsLineOf asked (behind_name words.now)) }
 {
     if let Some(asked) = plain_asked(words) {
         return Some(asked);

@@ -92,8 +92,12 @@ fn obey<R: AllocGlobal, I: Read, O: Write, E: Write>(
 ) -> u8
     requires { NumbersFit asked }
     ensures range { result ≤ 1 }
-    ensures obeyed { result ≡ 0 → Obeys VERSION.now asked.entry (I.remaining reader.old) (Appends (O.contents writer.old) (O.contents writer.new)) }
-    ensures stopped { result ≡ 1 → Stops asked.entry (I.remaining reader.old) (writer.new ≡ writer.old) (O.contents writer.old) (O.contents writer.new) (errors.new ≡ errors.old) (E.contents errors.old) (E.contents errors.new) }
+    ensures obeyed { result ≡ 0
+        → Obeys VERSION.now asked.entry (I.remaining reader.old)
+        (Appends (O.contents writer.old) (O.contents writer.new)) }
+    ensures stopped { result ≡ 1
+        → Stops asked.entry (I.remaining reader.old) (writer.new ≡ writer.old) (O.contents writer.old)
+        (O.contents writer.new) (errors.new ≡ errors.old) (E.contents errors.old) (E.contents errors.new) }
     ensures quiet { result ≡ 0 → errors.new ≡ errors.old }
 {
     let alloc = rt.alloc();
@@ -154,9 +158,15 @@ pub fn run_line<R: AllocGlobal, I: Read, O: Write, E: Write>(
     errors: &mut E,
 ) -> u8
     ensures range { result ≤ 2 }
-    ensures obeyed { result ≡ 0 → (asked : AnyAsked) × IsLineOf asked (behind_name words.now) × Obeys VERSION.now asked (I.remaining reader.old) (Appends (O.contents writer.old) (O.contents writer.new)) }
-    ensures stopped { result ≡ 1 → (asked : AnyAsked) × IsLineOf asked (behind_name words.now) × Stops asked (I.remaining reader.old) (writer.new ≡ writer.old) (O.contents writer.old) (O.contents writer.new) (errors.new ≡ errors.old) (E.contents errors.old) (E.contents errors.new) }
-    ensures refused { result ≡ 2 → ((asked : AnyAsked) → ¬ IsLineOf asked (behind_name words.now)) × (writer.new ≡ writer.old) }
+    ensures obeyed { result ≡ 0
+        → (asked : AnyAsked) × IsLineOf asked (behind_name words.now)
+        × Obeys VERSION.now asked (I.remaining reader.old) (Appends (O.contents writer.old) (O.contents writer.new)) }
+    ensures stopped { result ≡ 1
+        → (asked : AnyAsked) × IsLineOf asked (behind_name words.now)
+        × Stops asked (I.remaining reader.old) (writer.new ≡ writer.old) (O.contents writer.old) (O.contents writer.new)
+        (errors.new ≡ errors.old) (E.contents errors.old) (E.contents errors.new) }
+    ensures refused { result ≡ 2
+        → ((asked : AnyAsked) → ¬ IsLineOf asked (behind_name words.now)) × (writer.new ≡ writer.old) }
     ensures told { result ≡ 2 → AppendsPart (E.contents errors.old) (E.contents errors.new) refused_line }
     ensures quiet { result ≡ 0 → errors.new ≡ errors.old }
 {
@@ -173,7 +183,9 @@ where
     E: Write,
     ensures range { result ≤ 2 }
     ensures obeyed { result ≡ 0 → (asked : AnyAsked) × IsLineOf asked (behind_name words.now) }
-    ensures stopped { result ≡ 1 → ((asked : AnyAsked) × IsLineOf asked (behind_name words.now) × Tells asked (errors.new ≡ errors.old) (E.contents errors.old) (E.contents errors.new))
+    ensures stopped { result ≡ 1
+        → ((asked : AnyAsked) × IsLineOf asked (behind_name words.now)
+        × Tells asked (errors.new ≡ errors.old) (E.contents errors.old) (E.contents errors.new))
         ⊎ AppendsPart (E.contents errors.old) (E.contents errors.new) memory_line }
     ensures refused { result ≡ 2 → (asked : AnyAsked) → ¬ IsLineOf asked (behind_name words.now) }
     ensures told { result ≡ 2 → AppendsPart (E.contents errors.old) (E.contents errors.new) refused_line }

@@ -1,5 +1,6 @@
 -- A line that is asked for, wherever the cursor stands.
-use Rattle.std.proofs.Common.{ℕ, ◌≡◌, ◌+◌, ◌-◌, ◌<◌, ◌^◌, min, Bool, true, false, List, [], ◌∷◌, ◌++◌, length, get_or, drop, refl, sym, ap, ◌∙◌, subst, arith, append_assoc, length-append}
+use Rattle.std.proofs.Common.{ℕ, ◌≡◌, ◌+◌, ◌-◌, ◌<◌, ◌^◌, min, Bool, true, false, List, [], ◌∷◌, ◌++◌, length, get_or}
+use Rattle.std.proofs.Common.{drop, refl, sym, ap, ◌∙◌, subst, arith, append_assoc, length-append}
 use Rattle.reg_text.specs.Lines.{shown, Rest, StandsIn, StandsAt, IsAsked}
 use Rattle.reg_text.specs.Reading.{IsFound}
 use Rattle.reg_text.proofs.Split.{kept_line, none_kept}
@@ -11,14 +12,18 @@ pub record IsMet (skips : Bool) (line : List ℕ) (old new : List (List ℕ)) (f
   pub shows : shown skips (line ∷ []) ≡ line ∷ []
   pub number : to ≡ from + length skipped + 1
 
-pub met_kept : (line : List ℕ) (old new : List (List ℕ)) (from to : ℕ) → IsFound line old new from to → IsMet true line old new from to
+pub met_kept : (line : List ℕ) (old new : List (List ℕ)) (from to : ℕ) → IsFound line old new from to
+    → IsMet true line old new from to
 met_kept line old new from to f = record { skipped = f.skipped; lines = f.lines; shows = kept_line line [] f.kept ∙ ap (λ l. line ∷ l) none_kept; number = f.number }
 
 -- where no line is skipped it is the next one
-pub met_next : (line : List ℕ) (old new : List (List ℕ)) (from to : ℕ) → from + length old < 2 ^ 64 - 1 → old ≡ line ∷ new → to ≡ min (from + 1) (2 ^ 64 - 1) → IsMet false line old new from to
-met_next line old new from to few e more = record { skipped = []; lines = e; shows = refl; number = (let n = ap length e in omega (arith, n)) }
+pub met_next : (line : List ℕ) (old new : List (List ℕ)) (from to : ℕ) → from + length old < 2 ^ 64 - 1
+    → old ≡ line ∷ new → to ≡ min (from + 1) (2 ^ 64 - 1) → IsMet false line old new from to
+met_next line old new from to few e more =
+    record { skipped = []; lines = e; shows = refl; number = (let n = ap length e in omega (arith, n)) }
 
-pub end_next : (old : List (List ℕ)) (from to : ℕ) → from + length old < 2 ^ 64 - 1 → old ≡ [] → to ≡ min (from + 1) (2 ^ 64 - 1) → to ≡ from + length old + 1
+pub end_next : (old : List (List ℕ)) (from to : ℕ) → from + length old < 2 ^ 64 - 1 → old ≡ []
+    → to ≡ min (from + 1) (2 ^ 64 - 1) → to ≡ from + length old + 1
 end_next old from to few e more = let n = ap length e in omega (arith, n)
 
 -- the cursor over these lines
@@ -54,7 +59,8 @@ module _ (skips : Bool) (all : List (List ℕ)) (number : ℕ) where
       )
 
   -- no line is left
-  pub asked_none : (to : ℕ) (new : Rest) → shown skips all ≡ [] → new.number ≡ to → (number + length all < 2 ^ 64 - 1 → to ≡ number + length all + 1) → IsAsked (over skips all number) new
+  pub asked_none : (to : ℕ) (new : Rest) → shown skips all ≡ [] → new.number ≡ to
+      → (number + length all < 2 ^ 64 - 1 → to ≡ number + length all + 1) → IsAsked (over skips all number) new
   asked_none to new read is end way whole s = (
     λ none.
         let a = ap length s.lines in

@@ -1,5 +1,6 @@
 -- The numbers of lines.
-use Rattle.std.proofs.Common.{ℕ, suc, ◌≡◌, ◌+◌, ◌-◌, ◌<◌, ◌^◌, min, Bool, true, false, List, [], ◌∷◌, ◌++◌, length, refl, sym, ap, ◌∙◌, arith, append_assoc, length-append}
+use Rattle.std.proofs.Common.{ℕ, suc, ◌≡◌, ◌+◌, ◌-◌, ◌<◌, ◌^◌, min, Bool, true, false, List, [], ◌∷◌, ◌++◌, length}
+use Rattle.std.proofs.Common.{refl, sym, ap, ◌∙◌, arith, append_assoc, length-append}
 use Rattle.reg_text.specs.Lines.{shown, is_kept}
 use Rattle.reg_text.specs.Reading.{IsFound}
 use Rattle.reg_text.proofs.Split.{none_kept}
@@ -36,7 +37,8 @@ module _ (old now new : List (List ℕ)) (line : List ℕ) (from at next : ℕ) 
   one_found kept = record { skipped = p.passed; lines = whole; kept = kept; number = counted }
 
 -- the end is after the last line
-pub counted_end : (old now : List (List ℕ)) (from at next : ℕ) → from + length old < 2 ^ 64 - 1 → IsPassed old now from at → now ≡ [] → next ≡ min (at + 1) (2 ^ 64 - 1) → next ≡ from + length old + 1
+pub counted_end : (old now : List (List ℕ)) (from at next : ℕ) → from + length old < 2 ^ 64 - 1
+    → IsPassed old now from at → now ≡ [] → next ≡ min (at + 1) (2 ^ 64 - 1) → next ≡ from + length old + 1
 counted_end old now from at next few p e more =
     let all : length p.passed + length now ≡ length old = sym (ap length p.lines ∙ length-append p.passed now) in
     let none : length now ≡ 0 = ap length e in

@@ -1,5 +1,6 @@
 -- What `parse` answers for the text of a number, and what its answer says of the text.
-use Rattle.std.proofs.Common.{ℕ, zero, suc, ◌≡◌, ◌<◌, ◌^◌, List, [], ◌∷◌, get_or, Ok, Err, Result, Some, None, refl, sym, ap, subst, ◌∙◌, arith, inl, inr, ◌⊎◌}
+use Rattle.std.proofs.Common.{ℕ, zero, suc, ◌≡◌, ◌<◌, ◌^◌, List, [], ◌∷◌, get_or, Ok, Err, Result, Some, None, refl}
+use Rattle.std.proofs.Common.{sym, ap, subst, ◌∙◌, arith, inl, inr, ◌⊎◌}
 use Rattle.std.specs.Fmt.{decimal}
 use Rattle.std.specs.Result.{result_ok}
 use Rattle.std.specs.Str.Parse.{ParsesUnsigned, AllDigits, digits_value}
@@ -23,7 +24,8 @@ plain_decimal n small = elim (first_is n small) [
   | inr more ↦ (decimal_nonempty n small, λ e. omega (arith, e, more), λ e. absurd (omega (arith, e, more)))
 ]
 
-pub read_back : {E : Type 0} (bs : List ℕ) (r : Result ℕ E) (n : ℕ) → ParsesUnsigned 64 10 bs r → r ≡ Ok n → IsPlain bs → (bs ≡ decimal n) × (n < 2 ^ 64)
+pub read_back : {E : Type 0} (bs : List ℕ) (r : Result ℕ E) (n : ℕ) → ParsesUnsigned 64 10 bs r → r ≡ Ok n → IsPlain bs
+    → (bs ≡ decimal n) × (n < 2 ^ 64)
 read_back {E} bs r n h e plain =
     let P : Result ℕ E → Type 0 = λ s. ParsesUnsigned 64 10 bs s in
     let q = parse_plain own {E = E} 64 bs (Ok n) (subst P e h) plain.1 in
@@ -35,7 +37,8 @@ pub plain_text : (bs : List ℕ) (n : ℕ) → n < 2 ^ 64 → bs ≡ decimal n �
 plain_text bs n small e = let P : List ℕ → Type 0 = IsPlain in subst P (sym e) (plain_decimal n small)
 
 pub utf8_text : (bs : List ℕ) (n : ℕ) → n < 2 ^ 64 → bs ≡ decimal n → IsUtf8 bs
-utf8_text bs n small e = let P : List ℕ → Type 0 = IsUtf8 in subst P (sym e) (IsUtf8-from_ascii (decimal n) (IsAscii-decimal n small))
+utf8_text bs n small e =
+    let P : List ℕ → Type 0 = IsUtf8 in subst P (sym e) (IsUtf8-from_ascii (decimal n) (IsAscii-decimal n small))
 
 -- a result has one answer
 pub ok_same : {E : Type 0} (r : Result ℕ E) (m n : ℕ) → r ≡ Ok m → r ≡ Ok n → Some m ≡ Some n

@@ -1,5 +1,7 @@
 -- A number, and the spaces after it.
-use Rattle.std.proofs.Common.{ℕ, zero, suc, ◌≡◌, ◌-◌, ◌<◌, ◌≤◌, ◌^◌, ◌==◌, not, Bool, true, List, [], ◌∷◌, ◌++◌, length, take, drop, replicate, refl, sym, ap, subst, ◌∙◌, arith, rules, Option, None, Some, IfSome}
+use Rattle.std.proofs.Common.{ℕ, zero, suc, ◌≡◌, ◌-◌, ◌<◌, ◌≤◌, ◌^◌, ◌==◌, not, Bool, true, List, [], ◌∷◌, ◌++◌, length}
+use Rattle.std.proofs.Common.{take, drop, replicate, refl, sym, ap, subst, ◌∙◌, arith, rules, Option, None, Some}
+use Rattle.std.proofs.Common.{IfSome}
 use Rattle.std.specs.List.{prefix_len, list_all}
 use Rattle.std.specs.Fmt.{decimal}
 use Rattle.std.specs.Str.Parse.{AllDigits}
@@ -34,7 +36,8 @@ past_digits (d ∷ ds) m h =
     let other : no_blank d ≡ true = search (rules, digit) in
     rw (other, past_digits ds m h.1) (omega arith)
 
-pub left_read : (bs : List ℕ) (k n : ℕ) → k ≤ length bs → list_all is_space (take (length bs - k) (drop k bs)) ≡ true → take k bs ≡ decimal n → bs ≡ to_left (length bs) (decimal n)
+pub left_read : (bs : List ℕ) (k n : ℕ) → k ≤ length bs → list_all is_space (take (length bs - k) (drop k bs)) ≡ true
+    → take k bs ≡ decimal n → bs ≡ to_left (length bs) (decimal n)
 left_read bs k n fits blank digits =
     let P : List ℕ → Type 0 = λ l. list_all is_space l ≡ true in
     let after : drop k bs ≡ replicate (length (drop k bs)) 32 = blank_is (drop k bs) (subst P (rest_of bs k) blank) in
@@ -43,7 +46,8 @@ left_read bs k n fits blank digits =
     sym (take-append-drop k bs) ∙ ap (λ l. l ++ drop k bs) digits ∙ ap (λ l. decimal n ++ l) (after ∙ ap (λ m. replicate m 32) rest)
 
 -- what is found in a number with m spaces after it
-pub left_found : (bs : List ℕ) (k m n : ℕ) → n < 2 ^ 64 → k ≡ prefix_len no_blank bs → bs ≡ decimal n ++ replicate m 32 → (take k bs ≡ decimal n) × (list_all is_space (take (length bs - k) (drop k bs)) ≡ true)
+pub left_found : (bs : List ℕ) (k m n : ℕ) → n < 2 ^ 64 → k ≡ prefix_len no_blank bs → bs ≡ decimal n ++ replicate m 32
+    → (take k bs ≡ decimal n) × (list_all is_space (take (length bs - k) (drop k bs)) ≡ true)
 left_found bs k m n small count e =
     let ds = decimal n in
     let all : List ℕ = ds ++ replicate m 32 in
@@ -52,7 +56,9 @@ left_found bs k m n small count e =
     let back : drop k bs ≡ replicate m 32 = ap (λ l. drop k l) e ∙ ap (λ j. drop j all) long ∙ drop-append_seam ds (replicate m 32) in
     (front, ap (list_all is_space) (rest_of bs k ∙ back) ∙ all_blank m)
 
-pub column_read_left : (r : Option ℕ) (bs : List ℕ) (k : ℕ) → k ≤ length bs → list_all is_space (take (length bs - k) (drop k bs)) ≡ true → IfSome r (λ n. (take k bs ≡ decimal n) × (n < 2 ^ 64))
+pub column_read_left : (r : Option ℕ) (bs : List ℕ) (k : ℕ) → k ≤ length bs
+    → list_all is_space (take (length bs - k) (drop k bs)) ≡ true
+    → IfSome r (λ n. (take k bs ≡ decimal n) × (n < 2 ^ 64))
     → IfSome r (λ n. (bs ≡ to_left (length bs) (decimal n)) × (n < 2 ^ 64))
 column_read_left None bs k fits blank h = tt
 column_read_left (Some n) bs k fits blank h = (left_read bs k n fits blank h.0, h.1)

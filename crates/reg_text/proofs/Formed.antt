@@ -1,5 +1,7 @@
 -- Words, numerals and operations by their form alone.
-use Rattle.std.proofs.Common.{ℕ, zero, suc, ◌≡◌, ◌-◌, ◌<◌, ◌^◌, ◌==◌, not, true, false, cond, List, [], ◌∷◌, ◌++◌, length, replicate, get_or, refl, ap, ◌∙◌, arith, rules, inl, inr, append-nil, length-append}
+use Rattle.std.proofs.Common.{ℕ, zero, suc, ◌≡◌, ◌-◌, ◌<◌, ◌^◌, ◌==◌, not, true, false, cond, List, [], ◌∷◌, ◌++◌}
+use Rattle.std.proofs.Common.{length, replicate, get_or, refl, ap, ◌∙◌, arith, rules, inl, inr, append-nil}
+use Rattle.std.proofs.Common.{length-append}
 use Rattle.std.specs.Char.{is_ascii, is_ascii_digit}
 use Rattle.std.specs.List.{list_all}
 use Rattle.std.specs.Fmt.{decimal}
@@ -69,14 +71,16 @@ number_form bs n small e =
     ]
 
 -- a text before spaces
-pub padded : (bs front after : List ℕ) → bs ≡ front ++ 32 ∷ after → list_all is_space after ≡ true → bs ≡ to_left (length bs) front
+pub padded : (bs front after : List ℕ) → bs ≡ front ++ 32 ∷ after → list_all is_space after ≡ true
+    → bs ≡ to_left (length bs) front
 padded bs front after e blank =
     let spaces : 32 ∷ after ≡ replicate (suc (length after)) 32 = ap (λ l. 32 ∷ l) (blank_is after blank) in
     let count : suc (length after) ≡ length bs - length front = omega (arith, ap length e, length-append front (32 ∷ after)) in
     e ∙ ap (λ l. front ++ l) (spaces ∙ ap (λ m. replicate m 32) count)
 
 -- where other bytes follow the first space, no spaces stand at the end of a text without them
-pub unpadded : (bs front a after : List ℕ) (m : ℕ) → ((f r : List ℕ) → Lacks 32 f → bs ≡ f ++ 32 ∷ r → (a ≡ f) × (after ≡ r)) → list_all is_space after ≡ false
+pub unpadded : (bs front a after : List ℕ) (m : ℕ)
+    → ((f r : List ℕ) → Lacks 32 f → bs ≡ f ++ 32 ∷ r → (a ≡ f) × (after ≡ r)) → list_all is_space after ≡ false
     → Lacks 32 front → bs ≡ front ++ replicate m 32 → bs ≡ front
 unpadded bs front a after zero cut other lacks e = e ∙ append-nil front
 unpadded bs front a after (suc m) cut other lacks e =
@@ -85,7 +89,9 @@ unpadded bs front a after (suc m) cut other lacks e =
     absurd (cc)
 
 -- the parts of a name and a value
-pub valued_parts : (text name digits w d : List ℕ) → ((f r : List ℕ) → Lacks 32 f → text ≡ f ++ 32 ∷ r → (name ≡ f) × (digits ≡ r)) → IsValuedForm text w d → (name ≡ w) × (digits ≡ d)
+pub valued_parts : (text name digits w d : List ℕ)
+    → ((f r : List ℕ) → Lacks 32 f → text ≡ f ++ 32 ∷ r → (name ≡ f) × (digits ≡ r)) → IsValuedForm text w d
+    → (name ≡ w) × (digits ≡ d)
 valued_parts text name digits w d cut h = cut w d (word_lacks w h.0) h.2
 
 -- a text that is cut at the first such byte
@@ -93,7 +99,8 @@ abbrev pub IsCutAt : List ℕ → List ℕ → List ℕ → Type 0
 IsCutAt text before after = (f r : List ℕ) → Lacks 32 f → text ≡ f ++ 32 ∷ r → (before ≡ f) × (after ≡ r)
 
 -- the parts of a name and two values
-pub compared_parts : (text name values expected digits w x d : List ℕ) → IsCutAt text name values → IsCutAt values expected digits → IsComparedForm text w x d → (name ≡ w) × (expected ≡ x) × (digits ≡ d)
+pub compared_parts : (text name values expected digits w x d : List ℕ) → IsCutAt text name values
+    → IsCutAt values expected digits → IsComparedForm text w x d → (name ≡ w) × (expected ≡ x) × (digits ≡ d)
 compared_parts text name values expected digits w x d cut again h =
     let both = cut w (x ++ 32 ∷ d) (word_lacks w h.0) h.3 in
     let two = again x d (numeral_lacks 32 x (omega arith) h.1) both.1 in

@@ -1,5 +1,6 @@
 -- What the first place of a byte says of a text.
-use Rattle.std.proofs.Common.{ℕ, zero, suc, ◌≡◌, ◌+◌, ◌-◌, ◌<◌, ◌≤◌, ◌==◌, not, ◌&&◌, true, false, List, [], ◌∷◌, ◌++◌, length, take, drop, slice_index, refl, sym, ap, ◌∙◌, arith, rules}
+use Rattle.std.proofs.Common.{ℕ, zero, suc, ◌≡◌, ◌+◌, ◌-◌, ◌<◌, ◌≤◌, ◌==◌, not, ◌&&◌, true, false, List, [], ◌∷◌, ◌++◌}
+use Rattle.std.proofs.Common.{length, take, drop, slice_index, refl, sym, ap, ◌∙◌, arith, rules}
 use Rattle.std.specs.List.{list_all}
 use Rattle.std.proofs.lemmas.List.{length-take-le}
 use Rattle.reg_text.specs.Parts.{Lacks}
@@ -25,7 +26,8 @@ split (b ∷ bs) zero l = refl
 split (b ∷ bs) (suc k) l = ap (λ x. b ∷ x) (split bs k (omega (arith, l)))
 
 -- the text is cut at the first such place
-pub first_cut : (m : ℕ) (bs : List ℕ) (k : ℕ) → k < length bs → ((j : ℕ) → 0 ≤ j → j < k → (slice_index bs j == m) ≡ true → ⊥) → (slice_index bs k == m) ≡ true
+pub first_cut : (m : ℕ) (bs : List ℕ) (k : ℕ) → k < length bs
+    → ((j : ℕ) → 0 ≤ j → j < k → (slice_index bs j == m) ≡ true → ⊥) → (slice_index bs k == m) ≡ true
     → (bs ≡ take k bs ++ m ∷ take (length bs - (k + 1)) (drop (k + 1) bs)) × Lacks m (take k bs)
 first_cut m bs k l none here =
     let same : slice_index bs k ≡ m = search (rules, here) in

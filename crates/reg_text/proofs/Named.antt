@@ -1,5 +1,6 @@
 -- Names are words, and words are text.
-use Rattle.std.proofs.Common.{ℕ, ◌≡◌, ◌+◌, ◌<◌, ◌==◌, nat_lt, nat_le, nat_eq, not, ◌&&◌, true, false, cond, List, [], ◌∷◌, length, refl, rules, None, Some}
+use Rattle.std.proofs.Common.{ℕ, ◌≡◌, ◌+◌, ◌<◌, ◌==◌, nat_lt, nat_le, nat_eq, not, ◌&&◌, true, false, cond, List, []}
+use Rattle.std.proofs.Common.{◌∷◌, length, refl, rules, None, Some}
 use Rattle.std.specs.List.{list_all, position_from}
 use Rattle.std.specs.Char.{is_ascii, is_ascii_lowercase}
 use Rattle.std.specs.Str.{IsUtf8}
@@ -34,7 +35,8 @@ all_words k (n ∷ ns) h =
 
 -- names that differ are words
 pub names_words : (ns : List (List ℕ)) → names_fault ns ≡ None → list_all is_word ns ≡ true
-names_words ns h = all_words 0 ns (parts (nat_eq (length ns) 0) (nat_lt MOST_REGISTERS (length ns)) (first_bad ns) (first_repeat ns) h)
+names_words ns h =
+    all_words 0 ns (parts (nat_eq (length ns) 0) (nat_lt MOST_REGISTERS (length ns)) (first_bad ns) (first_repeat ns) h)
 
 word_low : (b : ℕ) → is_word_byte b ≡ true → b < 128
 word_low b h = let both = both_true (is_ascii b) (not (b == 32)) h in search (rules, both.0)

@@ -1,5 +1,6 @@
 -- What well spelt names lack.
-use Rattle.std.proofs.Common.{ℕ, zero, suc, ◌≡◌, ◌+◌, ◌<◌, ◌==◌, nat_lt, nat_le, nat_eq, not, ◌&&◌, Bool, true, false, cond, List, [], ◌∷◌, length, get_or, refl, arith, rules, Option, None, Some, slice_get}
+use Rattle.std.proofs.Common.{ℕ, zero, suc, ◌≡◌, ◌+◌, ◌<◌, ◌==◌, nat_lt, nat_le, nat_eq, not, ◌&&◌, Bool, true, false}
+use Rattle.std.proofs.Common.{cond, List, [], ◌∷◌, length, get_or, refl, arith, rules, Option, None, Some, slice_get}
 use Rattle.std.specs.List.{list_all, position_from}
 use Rattle.std.specs.Char.{is_ascii_lowercase}
 use Rattle.reg_base.specs.Names.{is_name, names_fault, first_bad, first_repeat, worst_place}
@@ -7,14 +8,16 @@ use Rattle.reg_base.specs.declared.limits.TheConstants.{MOST_REGISTERS, LONGEST_
 use Rattle.reg_base.specs.declared.naming.NamesFault.TheVariants.{NoName, TooManyNames}
 use Rattle.reg_text.specs.Parts.{Lacks}
 
-pub parts : (a b : Bool) (p q : Option ℕ) → cond a (Some NoName) (cond b (Some TooManyNames) (worst_place p q)) ≡ None → p ≡ None
+pub parts : (a b : Bool) (p q : Option ℕ) → cond a (Some NoName) (cond b (Some TooManyNames) (worst_place p q)) ≡ None
+    → p ≡ None
 parts true b p q h = absurd (cc)
 parts false true p q h = absurd (cc)
 parts false false (Some i) q h = absurd (cc)
 parts false false None (Some i) h = refl
 parts false false None None h = refl
 
-each_is : (k : ℕ) (ns : List (List ℕ)) → position_from (λ n. not (is_name n)) k ns ≡ None → (r : ℕ) → r < length ns → is_name (get_or ns r []) ≡ true
+each_is : (k : ℕ) (ns : List (List ℕ)) → position_from (λ n. not (is_name n)) k ns ≡ None → (r : ℕ) → r < length ns
+    → is_name (get_or ns r []) ≡ true
 each_is k [] h r l = absurd (omega arith)
 each_is k (n ∷ ns) h zero l =
     elim (is_name n) as (λ b. cond (not b) (Some k) (position_from (λ m. not (is_name m)) (k + 1) ns) ≡ None → b ≡ true) [
@@ -51,11 +54,13 @@ name_lacks m n low h =
     let rest = both_true (nat_lt 0 (length n)) (nat_le (length n) LONGEST_NAME && list_all is_ascii_lowercase n) h in
     letters_lack m n low (both_true (nat_le (length n) LONGEST_NAME) (list_all is_ascii_lowercase n) rest.1).1
 
-pub nth_lacks : (m : ℕ) (ns : List (List ℕ)) (r : ℕ) → m < 97 → names_fault ns ≡ None → r < length ns → Lacks m (get_or ns r [])
+pub nth_lacks : (m : ℕ) (ns : List (List ℕ)) (r : ℕ) → m < 97 → names_fault ns ≡ None → r < length ns
+    → Lacks m (get_or ns r [])
 nth_lacks m ns r low h l = name_lacks m (get_or ns r []) low (well_spelt ns r h l)
 
 -- what stands at a place
-pub got_is : (ns : List (List ℕ)) (r : ℕ) (n : List ℕ) → slice_get ns r ≡ Some n → (r < length ns) × (n ≡ get_or ns r [])
+pub got_is : (ns : List (List ℕ)) (r : ℕ) (n : List ℕ) → slice_get ns r ≡ Some n
+    → (r < length ns) × (n ≡ get_or ns r [])
 got_is [] r n h = absurd (cc)
 got_is (m ∷ ns) zero n h = (omega arith, cc)
 got_is (m ∷ ns) (suc r) n h = let g = got_is ns r n h in (omega (arith, g.0), g.1)

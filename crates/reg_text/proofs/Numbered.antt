@@ -1,13 +1,17 @@
 -- Readers that stop at a line, and its number.
-use Rattle.std.proofs.Common.{ℕ, suc, ◌≡◌, ◌==◌, ◌-◌, ◌<◌, ◌≤◌, ◌^◌, Bool, true, false, cond, Option, None, Some, List, [], ◌∷◌, ◌++◌, length, refl, sym, ap, ◌∙◌, arith, append_assoc, length-append}
+use Rattle.std.proofs.Common.{ℕ, suc, ◌≡◌, ◌==◌, ◌-◌, ◌<◌, ◌≤◌, ◌^◌, Bool, true, false, cond, Option, None, Some, List}
+use Rattle.std.proofs.Common.{[], ◌∷◌, ◌++◌, length, refl, sym, ap, ◌∙◌, arith, append_assoc, length-append}
 use Rattle.std.proofs.lemmas.List.{append_cancel_right, append-nil}
 use Rattle.reg_text.specs.Lines.{begins_with, lines_of, shown, kept, is_kept, Rest, StandsIn, IsAsked, IsNumbered}
 use Rattle.reg_text.specs.Reading.{GoesOn, IsNext, IsStopped}
 use Rattle.reg_text.proofs.Split.{kept_line, skipped_line, none_kept}
 
-kept_cons : (line : List ℕ) (xs ys : List (List ℕ)) (k : Bool) → is_kept line ≡ k → kept (xs ++ ys) ≡ kept xs ++ kept ys → kept (line ∷ (xs ++ ys)) ≡ kept (line ∷ xs) ++ kept ys
-kept_cons line xs ys true is more = kept_line line (xs ++ ys) is ∙ ap (λ l. line ∷ l) more ∙ sym (ap (λ l. l ++ kept ys) (kept_line line xs is))
-kept_cons line xs ys false is more = skipped_line line (xs ++ ys) is ∙ more ∙ sym (ap (λ l. l ++ kept ys) (skipped_line line xs is))
+kept_cons : (line : List ℕ) (xs ys : List (List ℕ)) (k : Bool) → is_kept line ≡ k → kept (xs ++ ys) ≡ kept xs ++ kept ys
+    → kept (line ∷ (xs ++ ys)) ≡ kept (line ∷ xs) ++ kept ys
+kept_cons line xs ys true is more =
+    kept_line line (xs ++ ys) is ∙ ap (λ l. line ∷ l) more ∙ sym (ap (λ l. l ++ kept ys) (kept_line line xs is))
+kept_cons line xs ys false is more =
+    skipped_line line (xs ++ ys) is ∙ more ∙ sym (ap (λ l. l ++ kept ys) (skipped_line line xs is))
 
 kept_append : (xs ys : List (List ℕ)) → kept (xs ++ ys) ≡ kept xs ++ kept ys
 kept_append [] ys = sym (ap (λ l. l ++ kept ys) none_kept)
@@ -18,7 +22,8 @@ shown_append true xs ys = kept_append xs ys
 shown_append false xs ys = refl
 
 -- the first line of those to come is asked for, and the cursor goes on
-pub asked_on : (old new : Rest) (line : List ℕ) (rest : List (List ℕ)) → IsAsked old new → old.left ≡ line ∷ rest → GoesOn old new
+pub asked_on : (old new : Rest) (line : List ℕ) (rest : List (List ℕ)) → IsAsked old new → old.left ≡ line ∷ rest
+    → GoesOn old new
 asked_on old new line rest asked e skips whole s =
     let at = ((asked skips whole s).1 line rest e).1 in
     record {
@@ -37,11 +42,14 @@ pub goes_on : (a b c : Rest) → GoesOn a b → GoesOn b c → GoesOn a c
 goes_on a b c first second skips whole s = second skips whole (first skips whole s)
 
 -- the very next line stops the reader
-pub stopped_now : (next : Option (List ℕ)) (old new : Rest) → IsNext old.left next → IsAsked old new → IsStopped [] next old new
-stopped_now next old new comes asked = record { middle = old; read = refl; on = stays old; comes = comes; asked = asked }
+pub stopped_now : (next : Option (List ℕ)) (old new : Rest) → IsNext old.left next → IsAsked old new
+    → IsStopped [] next old new
+stopped_now next old new comes asked =
+    record { middle = old; read = refl; on = stays old; comes = comes; asked = asked }
 
 -- it stops after these lines
-pub stopped_behind : (xs before : List (List ℕ)) (next : Option (List ℕ)) (old mid new : Rest) → old.left ≡ xs ++ mid.left → GoesOn old mid → IsStopped before next mid new → IsStopped (xs ++ before) next old new
+pub stopped_behind : (xs before : List (List ℕ)) (next : Option (List ℕ)) (old mid new : Rest)
+    → old.left ≡ xs ++ mid.left → GoesOn old mid → IsStopped before next mid new → IsStopped (xs ++ before) next old new
 stopped_behind xs before next old mid new read on s = record {
   middle = s.middle;
   read = read ∙ ap (λ l. xs ++ l) s.read ∙ sym (append_assoc xs before s.middle.left);
@@ -51,7 +59,8 @@ stopped_behind xs before next old mid new read on s = record {
 }
 
 -- a cursor that was not asked for any line yet
-pub starts : (skips : Bool) (whole : List (List ℕ)) (r : Rest) → r.all ≡ whole → r.number ≡ 0 → r.left ≡ shown skips whole → r.skips ≡ skips → length whole < 2 ^ 64 - 1 → StandsIn skips whole r
+pub starts : (skips : Bool) (whole : List (List ℕ)) (r : Rest) → r.all ≡ whole → r.number ≡ 0
+    → r.left ≡ shown skips whole → r.skips ≡ skips → length whole < 2 ^ 64 - 1 → StandsIn skips whole r
 starts skips whole r all number left way few = record { passed = []; lines = sym all; number = number; left = left ∙ ap (shown skips) (sym all); skipping = way; few = few }
 
 module _ (skips : Bool) (whole before : List (List ℕ)) (old new : Rest) (first : old.left ≡ shown skips whole) (s : StandsIn skips whole old) where
@@ -71,7 +80,8 @@ module _ (skips : Bool) (whole before : List (List ℕ)) (old new : Rest) (first
       (sym first ∙ t.read ∙ ap (λ l. before ++ l) t.comes ∙ append-nil before, at)
 
   -- a reader that stops names the line, or the end
-  pub stopped_numbered : (next : Option (List ℕ)) → IsStopped before next old new → IsNumbered skips whole new.number before next
+  pub stopped_numbered : (next : Option (List ℕ)) → IsStopped before next old new
+      → IsNumbered skips whole new.number before next
   stopped_numbered None t = end_numbered t
   stopped_numbered (Some line) t = line_numbered line t
 

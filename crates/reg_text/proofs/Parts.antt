@@ -1,5 +1,6 @@
 -- The first mark of a text.
-use Rattle.std.proofs.Common.{ℕ, suc, ◌≡◌, ◌+◌, ◌-◌, ◌==◌, not, ◌&&◌, Bool, true, false, cond, List, [], ◌∷◌, ◌++◌, length, take, drop, refl, sym, ap, subst, ◌∙◌, arith, rules, None, Some}
+use Rattle.std.proofs.Common.{ℕ, suc, ◌≡◌, ◌+◌, ◌-◌, ◌==◌, not, ◌&&◌, Bool, true, false, cond, List, [], ◌∷◌, ◌++◌}
+use Rattle.std.proofs.Common.{length, take, drop, refl, sym, ap, subst, ◌∙◌, arith, rules, None, Some}
 use Rattle.std.specs.List.{list_all, position_from}
 use Rattle.std.proofs.lemmas.List.{length-drop, take_all}
 use Rattle.std.proofs.Math.Seq.{take-append_seam}
@@ -36,7 +37,8 @@ found_there m k (b ∷ bs) i h =
           record { at = suc r.at; is_at = omega (arith, r.is_at); split = ap (λ l. b ∷ l) r.split; before = rw first r.before }
     ] refl h
 
-pub whole_there : (m k : ℕ) (front rest : List ℕ) → Lacks m front → position_from (is m) k (front ++ m ∷ rest) ≡ Some (k + length front)
+pub whole_there : (m k : ℕ) (front rest : List ℕ) → Lacks m front
+    → position_from (is m) k (front ++ m ∷ rest) ≡ Some (k + length front)
 whole_there m k [] rest h =
     let same : (m == m) ≡ true = search rules in
     let n : k ≡ k + 0 = omega arith in
@@ -51,7 +53,8 @@ whole_there m k (b ∷ front) rest h =
 pub rest_of : (bs : List ℕ) (j : ℕ) → take (length bs - j) (drop j bs) ≡ drop j bs
 rest_of bs j = take_all (length bs - j) (drop j bs) (omega (arith, length-drop j bs))
 
-pub cut_read : (m : ℕ) (bs : List ℕ) (i : ℕ) → position_from (is m) 0 bs ≡ Some i → (bs ≡ take i bs ++ m ∷ take (length bs - (i + 1)) (drop (i + 1) bs)) × Lacks m (take i bs)
+pub cut_read : (m : ℕ) (bs : List ℕ) (i : ℕ) → position_from (is m) 0 bs ≡ Some i
+    → (bs ≡ take i bs ++ m ∷ take (length bs - (i + 1)) (drop (i + 1) bs)) × Lacks m (take i bs)
 cut_read m bs i h =
     let f = found_there m 0 bs i h in
     let n : i ≡ f.at = omega (arith, f.is_at) in
@@ -65,10 +68,12 @@ after_seam m (b ∷ front) rest =
     let n : suc (length front) + 1 ≡ suc (length front + 1) = omega arith in
     ap (λ j. drop j (b ∷ (front ++ m ∷ rest))) n ∙ after_seam m front rest
 
-pub cut_whole : (m : ℕ) (bs : List ℕ) (front rest : List ℕ) → Lacks m front → bs ≡ front ++ m ∷ rest → position_from (is m) 0 bs ≡ Some (length front)
+pub cut_whole : (m : ℕ) (bs : List ℕ) (front rest : List ℕ) → Lacks m front → bs ≡ front ++ m ∷ rest
+    → position_from (is m) 0 bs ≡ Some (length front)
 cut_whole m bs front rest h e = let n : 0 + length front ≡ length front = omega arith in ap (position_from (is m) 0) e ∙ whole_there m 0 front rest h ∙ ap Some n
 
-pub cut_parts : (m : ℕ) (bs : List ℕ) (i : ℕ) (front rest : List ℕ) → position_from (is m) 0 bs ≡ Some i → Lacks m front → bs ≡ front ++ m ∷ rest
+pub cut_parts : (m : ℕ) (bs : List ℕ) (i : ℕ) (front rest : List ℕ) → position_from (is m) 0 bs ≡ Some i → Lacks m front
+    → bs ≡ front ++ m ∷ rest
     → (take i bs ≡ front) × (take (length bs - (i + 1)) (drop (i + 1) bs) ≡ rest)
 cut_parts m bs i front rest here h e =
     let there = cut_whole m bs front rest h e in

@@ -1,5 +1,6 @@
 -- Whether a text is words, each after a space.
-use Rattle.std.proofs.Common.{ℕ, suc, ◌≡◌, ◌+◌, ◌<◌, ◌≤◌, ◌==◌, true, false, List, [], ◌∷◌, ◌++◌, length, drop, refl, sym, ap, subst, ◌∙◌, arith, append_assoc, append-nil, length-append}
+use Rattle.std.proofs.Common.{ℕ, suc, ◌≡◌, ◌+◌, ◌<◌, ◌≤◌, ◌==◌, true, false, List, [], ◌∷◌, ◌++◌, length, drop, refl}
+use Rattle.std.proofs.Common.{sym, ap, subst, ◌∙◌, arith, append_assoc, append-nil, length-append}
 use Rattle.std.specs.List.{list_all}
 use Rattle.std.proofs.lemmas.Grind.{flat_map-append}
 use Rattle.reg_text.specs.Words.{names_text, HasWords}
@@ -11,7 +12,8 @@ use Rattle.reg_text.proofs.Formed.{word_lacks}
 use Rattle.reg_text.proofs.Split.{empty_is}
 use Rattle.reg_text.proofs.Worded.{Cuts, each_word, name_at, starts}
 
-one_more : (ws : List (List ℕ)) (w : List ℕ) → list_all is_word ws ≡ true → is_word w ≡ true → list_all is_word (ws ++ w ∷ []) ≡ true
+one_more : (ws : List (List ℕ)) (w : List ℕ) → list_all is_word ws ≡ true → is_word w ≡ true
+    → list_all is_word (ws ++ w ∷ []) ≡ true
 one_more [] w h k = rw k refl
 one_more (v ∷ ws) w h k =
     let both = both_true (is_word v) (list_all is_word ws) h in
@@ -28,7 +30,8 @@ pub record Seen (all now : List ℕ) (i : ℕ) : Type 0 where
 pub seen : (all : List ℕ) → Seen all all 0
 seen all = record { words = []; text = refl; good = refl; short = omega arith; only = λ ws h e. e }
 
-pub sees : (all now : List ℕ) (i : ℕ) (word after : List ℕ) → Seen all now i → (length now == 0) ≡ false → now ≡ 32 ∷ (word ++ after) → Cuts now word after → is_word word ≡ true → Seen all after (i + 1)
+pub sees : (all now : List ℕ) (i : ℕ) (word after : List ℕ) → Seen all now i → (length now == 0) ≡ false
+    → now ≡ 32 ∷ (word ++ after) → Cuts now word after → is_word word ≡ true → Seen all after (i + 1)
 sees all now i word after t some e cuts good =
     let up : i + 1 ≡ suc i = omega arith in
     record {
@@ -44,7 +47,8 @@ sees all now i word after t some e cuts good =
           c.1 ∙ ap (λ j. names_text (drop j ws)) (sym up);
     }
 
-pub none_next : (all now : List ℕ) (i : ℕ) → Seen all now i → (length now == 0) ≡ false → ((w a : List ℕ) → Lacks 32 w → Starts 32 a → now ≡ 32 ∷ (w ++ a) → ⊥)
+pub none_next : (all now : List ℕ) (i : ℕ) → Seen all now i → (length now == 0) ≡ false
+    → ((w a : List ℕ) → Lacks 32 w → Starts 32 a → now ≡ 32 ∷ (w ++ a) → ⊥)
     → (ws : List (List ℕ)) → list_all is_word ws ≡ true → all ≡ names_text ws → ⊥
 none_next all now i t some none ws h f =
     let n = name_at ws now i some (t.only ws h f) in
@@ -52,7 +56,8 @@ none_next all now i t some none ws h f =
     let fine : is_word n.name ≡ true = subst P n.here (each_word ws i h n.within) in
     none n.name (names_text (drop (suc i) ws)) (word_lacks n.name fine) (starts (drop (suc i) ws)) n.text
 
-pub bad_next : (all now : List ℕ) (i : ℕ) (word after : List ℕ) → Seen all now i → (length now == 0) ≡ false → Cuts now word after → is_word word ≡ false
+pub bad_next : (all now : List ℕ) (i : ℕ) (word after : List ℕ) → Seen all now i → (length now == 0) ≡ false
+    → Cuts now word after → is_word word ≡ false
     → (ws : List (List ℕ)) → list_all is_word ws ≡ true → all ≡ names_text ws → ⊥
 bad_next all now i word after t some cuts bad ws h f =
     let n = name_at ws now i some (t.only ws h f) in
@@ -72,7 +77,8 @@ all_seen all now i t some e =
     (t.words, ((some_words t.words all whole some, t.good), whole))
 
 -- words are no empty text
-pub no_words : (text : List ℕ) (ws : List (List ℕ)) → (length text == 0) ≡ true → 0 < length ws → text ≡ names_text ws → ⊥
+pub no_words : (text : List ℕ) (ws : List (List ℕ)) → (length text == 0) ≡ true → 0 < length ws → text ≡ names_text ws
+    → ⊥
 no_words text [] none some e = omega (arith, some)
 no_words text (w ∷ ws) none some e =
     let nil : [] ≡ 32 ∷ (w ++ names_text ws) = sym (empty_is text none) ∙ e in

@@ -1,5 +1,6 @@
 -- The lines of a text, and the text of lines.
-use Rattle.std.proofs.Common.{ℕ, suc, ◌≡◌, ◌==◌, not, ◌⊎◌, inl, inr, true, false, cond, List, [], ◌∷◌, ◌++◌, length, refl, sym, ap, subst, ◌∙◌, arith, rules, append_assoc}
+use Rattle.std.proofs.Common.{ℕ, suc, ◌≡◌, ◌==◌, not, ◌⊎◌, inl, inr, true, false, cond, List, [], ◌∷◌, ◌++◌, length}
+use Rattle.std.proofs.Common.{refl, sym, ap, subst, ◌∙◌, arith, rules, append_assoc}
 use Rattle.std.specs.List.{list_all}
 use Rattle.reg_text.specs.Parts.{Lacks}
 use Rattle.reg_text.specs.Lines.{begins_with, lines_of, text_of, kept, is_kept}
@@ -32,7 +33,8 @@ abbrev pub AllLack : List (List ℕ) → Type 0
 AllLack [] = Unit {0}
 AllLack (line ∷ lines) = Lacks 10 line × AllLack lines
 
-pub lines_text : (lines : List (List ℕ)) (t : List ℕ) → AllLack lines → lines_of (text_of lines ++ t) ≡ lines ++ lines_of t
+pub lines_text : (lines : List (List ℕ)) (t : List ℕ) → AllLack lines
+    → lines_of (text_of lines ++ t) ≡ lines ++ lines_of t
 lines_text [] t h = refl
 lines_text (line ∷ lines) t h =
     let shape : (line ++ 10 ∷ []) ++ text_of lines ++ t ≡ line ++ 10 ∷ (text_of lines ++ t) = append_assoc (line ++ 10 ∷ []) (text_of lines) t ∙ append_assoc line (10 ∷ []) (text_of lines ++ t) in

@@ -30,14 +30,16 @@ abbrev pub OpFits : List (List ℕ) → Op → Type 0
 OpFits names (Read register) = register < length names
 OpFits names (Write register value) = (register < length names) × (value < 2 ^ 64)
 OpFits names (Swap register value) = (register < length names) × (value < 2 ^ 64)
-OpFits names (CompareAndSwap register expected value) = (register < length names) × (expected < 2 ^ 64) × (value < 2 ^ 64)
+OpFits names (CompareAndSwap register expected value) =
+    (register < length names) × (expected < 2 ^ 64) × (value < 2 ^ 64)
 
 -- the operation in text, where its register has this name
 abbrev pub op_line : List ℕ → Op → List ℕ
 op_line name (Read register) = codes "read " ++ name
 op_line name (Write register value) = codes "write " ++ name ++ codes " " ++ decimal value
 op_line name (Swap register value) = codes "swap " ++ name ++ codes " " ++ decimal value
-op_line name (CompareAndSwap register expected value) = codes "cas " ++ (name ++ 32 ∷ (decimal expected ++ 32 ∷ decimal value))
+op_line name (CompareAndSwap register expected value) =
+    codes "cas " ++ (name ++ 32 ∷ (decimal expected ++ 32 ∷ decimal value))
 
 -- an answer
 abbrev pub answer_text : Answer → List ℕ

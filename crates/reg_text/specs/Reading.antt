@@ -1,5 +1,6 @@
 -- The parts of lines that are being read. They carry a proof: no promise speaks of them.
-use Rattle.std.specs.Prelude.{ℕ, ◌≡◌, ◌+◌, Bool, true, Option, None, Some, List, ◌∷◌, ◌++◌, map, length, ◌^◌, ◌<◌, ⊤, [], ◌⊎◌}
+use Rattle.std.specs.Prelude.{ℕ, ◌≡◌, ◌+◌, Bool, true, Option, None, Some, List, ◌∷◌, ◌++◌, map, length, ◌^◌, ◌<◌, ⊤}
+use Rattle.std.specs.Prelude.{[], ◌⊎◌}
 use Rattle.reg_text.specs.Forms.{is_numeral, is_word}
 use Rattle.reg_text.specs.Lines.{AllFit, is_kept, Rest, StandsIn, IsAsked}
 use Rattle.reg_base.specs.declared.memory.Op.{Op}
@@ -12,10 +13,12 @@ IsValuedForm text name digits = (is_word name ≡ true) × (is_numeral digits �
 -- a word and two numerals
 abbrev pub IsComparedForm : List ℕ → List ℕ → List ℕ → List ℕ → Type 0
 IsComparedForm text name expected digits =
-    (is_word name ≡ true) × (is_numeral expected ≡ true) × (is_numeral digits ≡ true) × (text ≡ name ++ 32 ∷ (expected ++ 32 ∷ digits))
+    (is_word name ≡ true) × (is_numeral expected ≡ true) × (is_numeral digits ≡ true)
+    × (text ≡ name ++ 32 ∷ (expected ++ 32 ∷ digits))
 
 -- the lines `old` are those of n elements, each fit, and then the lines `rest`
-pub record IsBlock {X : Type 0} (line_of : X → List ℕ) (Fits : List X → X → Type 0) (n : ℕ) (old rest : List (List ℕ)) (xs : List X) : Type 0 where
+pub record IsBlock {X : Type 0} (line_of : X → List ℕ) (Fits : List X → X → Type 0) (n : ℕ) (old rest : List (List ℕ))
+    (xs : List X) : Type 0 where
   pub lines : old ≡ map line_of xs ++ rest
   pub fit : AllFit Fits xs
   pub count : length xs ≡ n

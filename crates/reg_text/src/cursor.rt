@@ -37,8 +37,11 @@ fn is_kept(line: &[u8]) -> bool
 /// The first line that is kept, and the rest. The number grows by the lines passed.
 #[inline]
 fn next_kept<'a>(text: &'a [u8], number: &mut u64) -> Option<(&'a [u8], &'a [u8])>
-    ensures lines { MatchOption result (kept (lines_of text.now) ≡ []) (λ p. kept (lines_of text.now) ≡ p.0.now ∷ kept (lines_of p.1.now)) }
-    ensures number { number.old + length (lines_of text.now) < u64.MAX → MatchOption result (number.new ≡ number.old + length (lines_of text.now) + 1) (λ p. IsFound p.0.now (lines_of text.now) (lines_of p.1.now) number.old number.new) }
+    ensures lines { MatchOption result (kept (lines_of text.now) ≡ [])
+        (λ p. kept (lines_of text.now) ≡ p.0.now ∷ kept (lines_of p.1.now)) }
+    ensures number { number.old + length (lines_of text.now) < u64.MAX
+        → MatchOption result (number.new ≡ number.old + length (lines_of text.now) + 1)
+        (λ p. IsFound p.0.now (lines_of text.now) (lines_of p.1.now) number.old number.new) }
 {
     let mut rest = text;
     while let Some((line, after)) = cut_line(rest) {
@@ -66,7 +69,13 @@ impl<'a> Model for Lines<'a> {
 
     ghost Value = { Rest };
 
-    ghost view = { λ l. record { left = shown l.skips (lines_of l.rest.now); all = lines_of l.rest.now; number = l.number; skips = l.skips } };
+    ghost view = { λ l.
+        record {
+          left = shown l.skips (lines_of l.rest.now);
+          all = lines_of l.rest.now;
+          number = l.number;
+          skips = l.skips;
+        } };
 }
 
 impl<'a> Lines<'a> {

@@ -1,7 +1,8 @@
 //! Exact readers of the parts of a line.
 #![tactic(auto)]
 
-ghost use Rattle.std.specs.Prelude.{◌≡◌, ◌==◌, ◌<◌, ◌≤◌, ◌^◌, ℕ, List, ◌++◌, length, Some, IfSome, IsSomeAnd, IsTrue, ◌↔◌, not, MatchOption, ◌∷◌, []};
+ghost use Rattle.std.specs.Prelude.{◌≡◌, ◌==◌, ◌<◌, ◌≤◌, ◌^◌, ℕ, List, ◌++◌, length, Some, IfSome, IsSomeAnd, IsTrue};
+ghost use Rattle.std.specs.Prelude.{◌↔◌, not, MatchOption, ◌∷◌, []};
 ghost use Rattle.std.specs.Fmt.{decimal};
 ghost use Rattle.std.specs.List.{prefix_len, list_all, position_from};
 ghost use Rattle.reg_text.specs.Plain.{IsPlain};
@@ -136,7 +137,8 @@ pub fn left_column(bytes: &[u8]) -> Option<u64>
 /// The first `places` bytes, and the rest. None where there are fewer.
 pub fn cut(bytes: &[u8], places: usize) -> Option<(&[u8], &[u8])>
     ensures read { IfSome result (λ p. (bytes.now ≡ p.0.now ++ p.1.now) × (length p.0.now ≡ places)) }
-    ensures whole { (front rest : List ℕ) → bytes.now ≡ front ++ rest → length front ≡ places → IsSomeAnd result (λ p. (p.0.now ≡ front) × (p.1.now ≡ rest)) }
+    ensures whole { (front rest : List ℕ) → bytes.now ≡ front ++ rest → length front ≡ places
+        → IsSomeAnd result (λ p. (p.0.now ≡ front) × (p.1.now ≡ rest)) }
 {
     bytes.split_at_checked(places)
 }
@@ -152,9 +154,12 @@ pub fn skip<'a>(bytes: &'a [u8], mark: &[u8]) -> Option<&'a [u8]>
 /// The number of 64 bits at the left of a column of `places` bytes, and what stands after the mark that follows. None
 /// where the bytes don't begin so: a number wider than its column is refused.
 pub fn left_field<'a>(bytes: &'a [u8], places: usize, mark: &[u8]) -> Option<(u64, &'a [u8])>
-    ensures read { IfSome result (λ p. (bytes.now ≡ to_left places (decimal p.0) ++ (mark.now ++ p.1.now)) × (p.0 < 2 ^ 64)) }
+    ensures read { IfSome result
+        (λ p. (bytes.now ≡ to_left places (decimal p.0) ++ (mark.now ++ p.1.now)) × (p.0 < 2 ^ 64)) }
     ensures fits { IfSome result (λ p. length (decimal p.0) ≤ places) }
-    ensures whole { (n : ℕ) (rest : List ℕ) → n < 2 ^ 64 → length (decimal n) ≤ places → bytes.now ≡ to_left places (decimal n) ++ (mark.now ++ rest) → IsSomeAnd result (λ p. (p.0 ≡ n) × (p.1.now ≡ rest)) }
+    ensures whole { (n : ℕ) (rest : List ℕ) → n < 2 ^ 64 → length (decimal n) ≤ places
+        → bytes.now ≡ to_left places (decimal n) ++ (mark.now ++ rest)
+        → IsSomeAnd result (λ p. (p.0 ≡ n) × (p.1.now ≡ rest)) }
 {
     let (digits, after) = cut(bytes, places)?;
     left_column(digits).zip(skip(after, mark))
@@ -163,9 +168,12 @@ pub fn left_field<'a>(bytes: &'a [u8], places: usize, mark: &[u8]) -> Option<(u6
 /// The number of 64 bits at the right of a column of `places` bytes, and what stands after the mark that follows. None
 /// where the bytes don't begin so: a number wider than its column is refused.
 pub fn right_field<'a>(bytes: &'a [u8], places: usize, mark: &[u8]) -> Option<(u64, &'a [u8])>
-    ensures read { IfSome result (λ p. (bytes.now ≡ to_right places (decimal p.0) ++ (mark.now ++ p.1.now)) × (p.0 < 2 ^ 64)) }
+    ensures read { IfSome result
+        (λ p. (bytes.now ≡ to_right places (decimal p.0) ++ (mark.now ++ p.1.now)) × (p.0 < 2 ^ 64)) }
     ensures fits { IfSome result (λ p. length (decimal p.0) ≤ places) }
-    ensures whole { (n : ℕ) (rest : List ℕ) → n < 2 ^ 64 → length (decimal n) ≤ places → bytes.now ≡ to_right places (decimal n) ++ (mark.now ++ rest) → IsSomeAnd result (λ p. (p.0 ≡ n) × (p.1.now ≡ rest)) }
+    ensures whole { (n : ℕ) (rest : List ℕ) → n < 2 ^ 64 → length (decimal n) ≤ places
+        → bytes.now ≡ to_right places (decimal n) ++ (mark.now ++ rest)
+        → IsSomeAnd result (λ p. (p.0 ≡ n) × (p.1.now ≡ rest)) }
 {
     let (digits, after) = cut(bytes, places)?;
     right_column(digits).zip(skip(after, mark))
@@ -180,8 +188,10 @@ fn place_of(bytes: &[u8], mark: u8) -> Option<usize>
 
 /// What stands before the first mark, and what after it. None where there is no mark.
 pub fn cut_at(bytes: &[u8], mark: u8) -> Option<(&[u8], &[u8])>
-    ensures read { MatchOption result (Lacks mark bytes.now) (λ p. (bytes.now ≡ p.0.now ++ mark ∷ p.1.now) × Lacks mark p.0.now) }
-    ensures whole { (front rest : List ℕ) → Lacks mark front → bytes.now ≡ front ++ mark ∷ rest → IsSomeAnd result (λ p. (p.0.now ≡ front) × (p.1.now ≡ rest)) }
+    ensures read { MatchOption result (Lacks mark bytes.now)
+        (λ p. (bytes.now ≡ p.0.now ++ mark ∷ p.1.now) × Lacks mark p.0.now) }
+    ensures whole { (front rest : List ℕ) → Lacks mark front → bytes.now ≡ front ++ mark ∷ rest
+        → IsSomeAnd result (λ p. (p.0.now ≡ front) × (p.1.now ≡ rest)) }
 {
     match place_of(bytes, mark) {
         Some(place) => Some((&bytes[..place], &bytes[place + 1..])),

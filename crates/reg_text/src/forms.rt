@@ -1,11 +1,13 @@
 //! What is wrong with a line that no reader took: whether it has its form, whatever the limits and the names.
-ghost use Rattle.std.specs.Prelude.{◌≡◌, ◌↔◌, ◌<◌, ◌≤◌, ◌^◌, ℕ, List, ◌⊎◌, length, IsTrue, IsSome, IfSome, IsSomeAnd, Some, None, slice_get, if◌then◌else◌};
+ghost use Rattle.std.specs.Prelude.{◌≡◌, ◌↔◌, ◌<◌, ◌≤◌, ◌^◌, ℕ, List, ◌⊎◌, length, IsTrue, IsSome, IfSome, IsSomeAnd};
+ghost use Rattle.std.specs.Prelude.{Some, None, slice_get, if◌then◌else◌};
 ghost use Rattle.std.specs.Fmt.{decimal};
 ghost use Rattle.std.specs.Char.{is_ascii_digit};
 ghost use Rattle.std.specs.List.{list_all};
 ghost use Rattle.reg_text.specs.Columns.{to_left};
 ghost use Rattle.reg_text.specs.Parts.{Lacks};
-ghost use Rattle.reg_text.specs.Forms.{is_numeral as is_numeral_of, is_word as is_word_of, is_word_byte, IsReadForm, IsWriteForm, IsSwapForm, IsCasForm, HasOpForm};
+ghost use Rattle.reg_text.specs.Forms.{is_numeral as is_numeral_of, is_word as is_word_of, is_word_byte, IsReadForm};
+ghost use Rattle.reg_text.specs.Forms.{IsWriteForm, IsSwapForm, IsCasForm, HasOpForm};
 ghost use Rattle.reg_text.specs.Reading.{IsValuedForm, IsComparedForm};
 
 use crate::faults::Why;
@@ -70,8 +72,10 @@ pub fn why_number(bytes: &[u8]) -> Why
 
 /// The bytes without the spaces at their end. Where a space stands elsewhere too, all bytes.
 pub fn in_front(bytes: &[u8]) -> &[u8]
-    ensures front { (front : List ℕ) → Lacks 32 front → bytes.now ≡ to_left (length bytes.now) front → result.now ≡ front }
-    ensures only { (result.now ≡ bytes.now) ⊎ (Lacks 32 result.now × (bytes.now ≡ to_left (length bytes.now) result.now)) }
+    ensures front { (front : List ℕ) → Lacks 32 front → bytes.now ≡ to_left (length bytes.now) front
+        → result.now ≡ front }
+    ensures only { (result.now ≡ bytes.now)
+        ⊎ (Lacks 32 result.now × (bytes.now ≡ to_left (length bytes.now) result.now)) }
 {
     match cut_at(bytes, b' ') {
         Some((front, after)) => { if is_blank(after) { front } else { bytes } }
@@ -89,10 +93,14 @@ pub fn within(bytes: &[u8], limit: u64) -> bool
 /// Why the text is no register and value: Name where the register is not known, else Range. None where its form is
 /// not kept.
 fn valued_form<A: Allocator + Copy>(text: &[u8], names: &Names<A>) -> Option<Why>
-    ensures form { IfSome result (λ why. ((name : List ℕ) × ((digits : List ℕ) × IsValuedForm text.now name digits)) × ((why ≡ Why.Range) ⊎ (why ≡ Why.Name))) }
+    ensures form { IfSome result
+        (λ why. ((name : List ℕ) × ((digits : List ℕ) × IsValuedForm text.now name digits))
+        × ((why ≡ Why.Range) ⊎ (why ≡ Why.Name))) }
     ensures whole { (name digits : List ℕ) → IsValuedForm text.now name digits → IsSome result }
-    ensures known { (name digits : List ℕ) (i : ℕ) → IsValuedForm text.now name digits → slice_get names.now i ≡ Some name → result ≡ Some Why.Range }
-    ensures unknown { (name digits : List ℕ) → IsValuedForm text.now name digits → ((i : ℕ) → ¬ (slice_get names.now i ≡ Some name)) → result ≡ Some Why.Name }
+    ensures known { (name digits : List ℕ) (i : ℕ) → IsValuedForm text.now name digits
+        → slice_get names.now i ≡ Some name → result ≡ Some Why.Range }
+    ensures unknown { (name digits : List ℕ) → IsValuedForm text.now name digits
+        → ((i : ℕ) → ¬ (slice_get names.now i ≡ Some name)) → result ≡ Some Why.Name }
 {
     let (name, digits) = cut_at(text, b' ')?;
     if !is_word(name) {
@@ -110,7 +118,8 @@ fn valued_form<A: Allocator + Copy>(text: &[u8], names: &Names<A>) -> Option<Why
 /// The word and the two numerals that the text is. None where it is none of these.
 fn compared_parts(text: &[u8]) -> Option<(&[u8], &[u8], &[u8])>
     ensures read { IfSome result (λ p. IsComparedForm text.now p.0.now p.1.now p.2.now) }
-    ensures whole { (name expected digits : List ℕ) → IsComparedForm text.now name expected digits → IsSomeAnd result (λ p. (p.0.now ≡ name) × (p.1.now ≡ expected) × (p.2.now ≡ digits)) }
+    ensures whole { (name expected digits : List ℕ) → IsComparedForm text.now name expected digits
+        → IsSomeAnd result (λ p. (p.0.now ≡ name) × (p.1.now ≡ expected) × (p.2.now ≡ digits)) }
 {
     let (name, values) = cut_at(text, b' ')?;
     let (expected, digits) = cut_at(values, b' ')?;
@@ -129,10 +138,14 @@ fn compared_parts(text: &[u8]) -> Option<(&[u8], &[u8], &[u8])>
 /// Why the text is no register and two values: Name where the register is not known, else Range. None where its form is
 /// not kept.
 fn compared_form<A: Allocator + Copy>(text: &[u8], names: &Names<A>) -> Option<Why>
-    ensures form { IfSome result (λ why. ((name expected digits : List ℕ) × IsComparedForm text.now name expected digits) × ((why ≡ Why.Range) ⊎ (why ≡ Why.Name))) }
+    ensures form { IfSome result
+        (λ why. ((name expected digits : List ℕ) × IsComparedForm text.now name expected digits)
+        × ((why ≡ Why.Range) ⊎ (why ≡ Why.Name))) }
     ensures whole { (name expected digits : List ℕ) → IsComparedForm text.now name expected digits → IsSome result }
-    ensures known { (name expected digits : List ℕ) (i : ℕ) → IsComparedForm text.now name expected digits → slice_get names.now i ≡ Some name → result ≡ Some Why.Range }
-    ensures unknown { (name expected digits : List ℕ) → IsComparedForm text.now name expected digits → ((i : ℕ) → ¬ (slice_get names.now i ≡ Some name)) → result ≡ Some Why.Name }
+    ensures known { (name expected digits : List ℕ) (i : ℕ) → IsComparedForm text.now name expected digits
+        → slice_get names.now i ≡ Some name → result ≡ Some Why.Range }
+    ensures unknown { (name expected digits : List ℕ) → IsComparedForm text.now name expected digits
+        → ((i : ℕ) → ¬ (slice_get names.now i ≡ Some name)) → result ≡ Some Why.Name }
 {
     let (name, _, _) = compared_parts(text)?;
     match names.find(name) {
@@ -147,12 +160,18 @@ pub fn op_form<A: Allocator + Copy>(text: &[u8], names: &Names<A>) -> Option<Why
     ensures form { IfSome result (λ why. HasOpForm text.now × ((why ≡ Why.Range) ⊎ (why ≡ Why.Name))) }
     ensures whole { HasOpForm text.now → IsSome result }
     ensures read { (name : List ℕ) → IsReadForm text.now name → result ≡ Some Why.Name }
-    ensures known { (name digits : List ℕ) (i : ℕ) → IsWriteForm text.now name digits → slice_get names.now i ≡ Some name → result ≡ Some Why.Range }
-    ensures unknown { (name digits : List ℕ) → IsWriteForm text.now name digits → ((i : ℕ) → ¬ (slice_get names.now i ≡ Some name)) → result ≡ Some Why.Name }
-    ensures known_swap { (name digits : List ℕ) (i : ℕ) → IsSwapForm text.now name digits → slice_get names.now i ≡ Some name → result ≡ Some Why.Range }
-    ensures unknown_swap { (name digits : List ℕ) → IsSwapForm text.now name digits → ((i : ℕ) → ¬ (slice_get names.now i ≡ Some name)) → result ≡ Some Why.Name }
-    ensures known_cas { (name expected digits : List ℕ) (i : ℕ) → IsCasForm text.now name expected digits → slice_get names.now i ≡ Some name → result ≡ Some Why.Range }
-    ensures unknown_cas { (name expected digits : List ℕ) → IsCasForm text.now name expected digits → ((i : ℕ) → ¬ (slice_get names.now i ≡ Some name)) → result ≡ Some Why.Name }
+    ensures known { (name digits : List ℕ) (i : ℕ) → IsWriteForm text.now name digits
+        → slice_get names.now i ≡ Some name → result ≡ Some Why.Range }
+    ensures unknown { (name digits : List ℕ) → IsWriteForm text.now name digits
+        → ((i : ℕ) → ¬ (slice_get names.now i ≡ Some name)) → result ≡ Some Why.Name }
+    ensures known_swap { (name digits : List ℕ) (i : ℕ) → IsSwapForm text.now name digits
+        → slice_get names.now i ≡ Some name → result ≡ Some Why.Range }
+    ensures unknown_swap { (name digits : List ℕ) → IsSwapForm text.now name digits
+        → ((i : ℕ) → ¬ (slice_get names.now i ≡ Some name)) → result ≡ Some Why.Name }
+    ensures known_cas { (name expected digits : List ℕ) (i : ℕ) → IsCasForm text.now name expected digits
+        → slice_get names.now i ≡ Some name → result ≡ Some Why.Range }
+    ensures unknown_cas { (name expected digits : List ℕ) → IsCasForm text.now name expected digits
+        → ((i : ℕ) → ¬ (slice_get names.now i ≡ Some name)) → result ≡ Some Why.Name }
 {
     if let Some(name) = skip(text, b"read ") {
         if !is_word(name) {

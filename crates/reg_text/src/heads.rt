@@ -1,5 +1,6 @@
 //! Lines that are wanted as they are, and lines with one number or word.
-ghost use Rattle.std.specs.Prelude.{◌≡◌, ◌≢◌, ◌<◌, ◌≤◌, ℕ, List, [], ◌∷◌, ◌++◌, Ok, Err, None, Some, true, false, IfOk, IfErr, OnOk, MatchResult, MatchOption, string_bytes};
+ghost use Rattle.std.specs.Prelude.{◌≡◌, ◌≢◌, ◌<◌, ◌≤◌, ℕ, List, [], ◌∷◌, ◌++◌, Ok, Err, None, Some, true, false, IfOk};
+ghost use Rattle.std.specs.Prelude.{IfErr, OnOk, MatchResult, MatchOption, string_bytes};
 ghost use Rattle.std.specs.Fmt.{decimal};
 ghost use Rattle.std.specs.Str.{IsUtf8};
 ghost use Rattle.std.specs.List.{list_all};
@@ -23,9 +24,11 @@ use std::str;
 /// A fault of this line: End where the text ends before it, and Form where it is another one.
 pub fn expect_line(lines: &mut Lines<'_>, text: &[u8]) -> Result<(), TextFault>
     ensures read { OnOk result (lines.old.left ≡ text.now ∷ lines.new.left) }
-    ensures whole { (rest : List (List ℕ)) → lines.old.left ≡ text.now ∷ rest → MatchResult result (λ _. lines.new.left ≡ rest) (λ _. ⊥) }
+    ensures whole { (rest : List (List ℕ)) → lines.old.left ≡ text.now ∷ rest
+        → MatchResult result (λ _. lines.new.left ≡ rest) (λ _. ⊥) }
     ensures end { lines.old.left ≡ [] → result ≡ Err (TextFault.Line lines.new.number Why.End) }
-    ensures form { (line : List ℕ) (rest : List (List ℕ)) → lines.old.left ≡ line ∷ rest → line ≢ text.now → result ≡ Err (TextFault.Line lines.new.number Why.Form) }
+    ensures form { (line : List ℕ) (rest : List (List ℕ)) → lines.old.left ≡ line ∷ rest → line ≢ text.now
+        → result ≡ Err (TextFault.Line lines.new.number Why.Form) }
     ensures fault { IfErr result (λ f. (why : AnyWhy) × (f ≡ TextFault.Line lines.new.number why)) }
     ensures asked { IsAsked lines.old lines.new }
 {
@@ -49,10 +52,15 @@ pub fn expect_line(lines: &mut Lines<'_>, text: &[u8]) -> Result<(), TextFault>
 /// there, and Form for anything else.
 pub fn read_count(lines: &mut Lines<'_>, mark: &[u8], limit: u64) -> Result<u64, TextFault>
     ensures read { IfOk result (λ n. (lines.old.left ≡ (mark.now ++ decimal n) ∷ lines.new.left) × (n ≤ limit)) }
-    ensures whole { (n : ℕ) (rest : List (List ℕ)) → n ≤ limit → lines.old.left ≡ (mark.now ++ decimal n) ∷ rest → MatchResult result (λ m. (m ≡ n) × (lines.new.left ≡ rest)) (λ _. ⊥) }
+    ensures whole { (n : ℕ) (rest : List (List ℕ)) → n ≤ limit → lines.old.left ≡ (mark.now ++ decimal n) ∷ rest
+        → MatchResult result (λ m. (m ≡ n) × (lines.new.left ≡ rest)) (λ _. ⊥) }
     ensures end { lines.old.left ≡ [] → result ≡ Err (TextFault.Line lines.new.number Why.End) }
-    ensures range { (digits : List ℕ) (rest : List (List ℕ)) → is_numeral digits ≡ true → lines.old.left ≡ (mark.now ++ digits) ∷ rest → IfErr result (λ f. f ≡ TextFault.Line lines.new.number Why.Range) }
-    ensures form { (line : List ℕ) (rest : List (List ℕ)) → lines.old.left ≡ line ∷ rest → ((digits : List ℕ) → line ≡ mark.now ++ digits → is_numeral digits ≡ false) → result ≡ Err (TextFault.Line lines.new.number Why.Form) }
+    ensures range { (digits : List ℕ) (rest : List (List ℕ)) → is_numeral digits ≡ true
+        → lines.old.left ≡ (mark.now ++ digits) ∷ rest
+        → IfErr result (λ f. f ≡ TextFault.Line lines.new.number Why.Range) }
+    ensures form { (line : List ℕ) (rest : List (List ℕ)) → lines.old.left ≡ line ∷ rest
+        → ((digits : List ℕ) → line ≡ mark.now ++ digits → is_numeral digits ≡ false)
+        → result ≡ Err (TextFault.Line lines.new.number Why.Form) }
     ensures fault { IfErr result (λ f. (why : AnyWhy) × (f ≡ TextFault.Line lines.new.number why)) }
     ensures asked { IsAsked lines.old lines.new }
 {

@@ -20,7 +20,8 @@ pub fn numeral_within(bytes: &[u8], limit: u64) -> Option<u64>
 fn field(bytes: &[u8], mark: u8) -> Option<(u64, &[u8])>
     requires { mark < 48 }
     ensures read { IfSome result (λ p. (bytes.now ≡ decimal p.0 ++ mark ∷ p.1.now) × (p.0 < 2 ^ 64)) }
-    ensures whole { (n : ℕ) (rest : List ℕ) → n < 2 ^ 64 → bytes.now ≡ decimal n ++ mark ∷ rest → IsSomeAnd result (λ p. (p.0 ≡ n) × (p.1.now ≡ rest)) }
+    ensures whole { (n : ℕ) (rest : List ℕ) → n < 2 ^ 64 → bytes.now ≡ decimal n ++ mark ∷ rest
+        → IsSomeAnd result (λ p. (p.0 ≡ n) × (p.1.now ≡ rest)) }
 {
     if let [first, second, rest @ ..] = bytes {
         if *second == mark {
@@ -39,7 +40,8 @@ fn field(bytes: &[u8], mark: u8) -> Option<(u64, &[u8])>
 pub fn field_within(bytes: &[u8], limit: u64, mark: u8) -> Option<(u64, &[u8])>
     requires { mark < 48 }
     ensures read { IfSome result (λ p. (bytes.now ≡ decimal p.0 ++ mark ∷ p.1.now) × (p.0 ≤ limit)) }
-    ensures whole { (n : ℕ) (rest : List ℕ) → n ≤ limit → bytes.now ≡ decimal n ++ mark ∷ rest → IsSomeAnd result (λ p. (p.0 ≡ n) × (p.1.now ≡ rest)) }
+    ensures whole { (n : ℕ) (rest : List ℕ) → n ≤ limit → bytes.now ≡ decimal n ++ mark ∷ rest
+        → IsSomeAnd result (λ p. (p.0 ≡ n) × (p.1.now ≡ rest)) }
 {
     let (number, rest) = field(bytes, mark)?;
     if number <= limit {

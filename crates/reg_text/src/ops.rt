@@ -3,7 +3,8 @@ ghost use Rattle.std.specs.Prelude.{◌≡◌, ◌<◌, ◌^◌, ℕ, ◌∷◌,
 ghost use Rattle.std.specs.Fmt.{decimal};
 ghost use Rattle.reg_base.specs.Names.{names_fault};
 ghost use Rattle.reg_base.specs.declared.memory.Op.{Op};
-ghost use Rattle.reg_text.specs.Ops.{answer_text, op_text, valued, compared, OpFits, op_line, name_of as name_of_register};
+ghost use Rattle.reg_text.specs.Ops.{answer_text, op_text, valued, compared, OpFits, op_line};
+ghost use Rattle.reg_text.specs.Ops.{name_of as name_of_register};
 ghost use Rattle.reg_text.specs.Writing.{Puts};
 
 use crate::fields::{cut_at, numeral, skip};
@@ -18,8 +19,10 @@ use std::io::Write;
 /// value of 64 bits.
 fn read_valued<A: Allocator + Copy>(text: &[u8], names: &Names<A>) -> Option<(u16, u64)>
     requires { names_fault names.now ≡ None }
-    ensures read { IfSome result (λ p. (text.now ≡ valued names.now p.0 p.1) × (p.0 < length names.now) × (p.1 < 2 ^ 64)) }
-    ensures whole { (register value : ℕ) → register < length names.now → value < 2 ^ 64 → text.now ≡ valued names.now register value → result ≡ Some (register, value) }
+    ensures read { IfSome result
+        (λ p. (text.now ≡ valued names.now p.0 p.1) × (p.0 < length names.now) × (p.1 < 2 ^ 64)) }
+    ensures whole { (register value : ℕ) → register < length names.now → value < 2 ^ 64
+        → text.now ≡ valued names.now register value → result ≡ Some (register, value) }
 {
     let (name, digits) = cut_at(text, b' ')?;
     names.find(name).zip(numeral(digits))
@@ -29,8 +32,11 @@ fn read_valued<A: Allocator + Copy>(text: &[u8], names: &Names<A>) -> Option<(u1
 /// these names and two values of 64 bits.
 fn read_compared<A: Allocator + Copy>(text: &[u8], names: &Names<A>) -> Option<(u16, u64, u64)>
     requires { names_fault names.now ≡ None }
-    ensures read { IfSome result (λ p. (text.now ≡ compared names.now p.0 p.1 p.2) × (p.0 < length names.now) × (p.1 < 2 ^ 64) × (p.2 < 2 ^ 64)) }
-    ensures whole { (register expected value : ℕ) → register < length names.now → expected < 2 ^ 64 → value < 2 ^ 64 → text.now ≡ compared names.now register expected value → result ≡ Some (register, expected, value) }
+    ensures read { IfSome result
+        (λ p. (text.now ≡ compared names.now p.0 p.1 p.2) × (p.0 < length names.now) × (p.1 < 2 ^ 64)
+        × (p.2 < 2 ^ 64)) }
+    ensures whole { (register expected value : ℕ) → register < length names.now → expected < 2 ^ 64 → value < 2 ^ 64
+        → text.now ≡ compared names.now register expected value → result ≡ Some (register, expected, value) }
 {
     let (name, values) = cut_at(text, b' ')?;
     let (expected, value) = cut_at(values, b' ')?;

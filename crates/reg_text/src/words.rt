@@ -1,5 +1,6 @@
 //! The names of a line.
-ghost use Rattle.std.specs.Prelude.{◌≡◌, ◌<◌, ◌≤◌, ℕ, List, [], ◌∷◌, ◌⊎◌, ◌++◌, Ok, Err, None, Some, IfOk, IfErr, IfSome, IsSomeAnd, MatchResult, codes, length, true};
+ghost use Rattle.std.specs.Prelude.{◌≡◌, ◌<◌, ◌≤◌, ℕ, List, [], ◌∷◌, ◌⊎◌, ◌++◌, Ok, Err, None, Some, IfOk, IfErr};
+ghost use Rattle.std.specs.Prelude.{IfSome, IsSomeAnd, MatchResult, codes, length, true};
 ghost use Rattle.reg_base.specs.Names.{names_fault, texts};
 ghost use Rattle.std.specs.List.{list_all};
 ghost use Rattle.reg_text.specs.declared.faults.Why.{Why as AnyWhy};
@@ -32,7 +33,8 @@ pub enum WordsFault {
 pub fn next_word(text: &[u8]) -> Option<(&[u8], &[u8])>
     ensures read { IfSome result (λ p. text.now ≡ 32 ∷ (p.0.now ++ p.1.now)) }
     ensures word { IfSome result (λ p. Lacks 32 p.0.now × Starts 32 p.1.now) }
-    ensures whole { (word after : List ℕ) → Lacks 32 word → Starts 32 after → text.now ≡ 32 ∷ (word ++ after) → IsSomeAnd result (λ p. (p.0.now ≡ word) × (p.1.now ≡ after)) }
+    ensures whole { (word after : List ℕ) → Lacks 32 word → Starts 32 after → text.now ≡ 32 ∷ (word ++ after)
+        → IsSomeAnd result (λ p. (p.0.now ≡ word) × (p.1.now ≡ after)) }
 {
     let rest = skip(text, b" ")?;
     match cut_at(rest, b' ') {
@@ -43,7 +45,8 @@ pub fn next_word(text: &[u8]) -> Option<(&[u8], &[u8])>
 
 /// Why there may be no more words after these: Range where they are names that differ, and else Name.
 fn why_more<A: Allocator + Copy>(words: Vec<String<A>, A>) -> Why
-    ensures { ((result ≡ Why.Range) × (names_fault (texts words.items) ≡ None)) ⊎ ((result ≡ Why.Name) × ¬ (names_fault (texts words.items) ≡ None)) }
+    ensures { ((result ≡ Why.Range) × (names_fault (texts words.items) ≡ None))
+        ⊎ ((result ≡ Why.Name) × ¬ (names_fault (texts words.items) ≡ None)) }
 {
     match Names::new(words) {
         Ok(_) => Why::Range,
@@ -59,8 +62,10 @@ pub fn read_words<A: Allocator + Copy>(
     limit: u32,
 ) -> Result<Vec<String<A>, A>, WordsFault>
     ensures read { IfOk result (λ v. (text.now ≡ names_text (texts v.items)) × (length (texts v.items) ≤ limit)) }
-    ensures whole { (ns : List (List ℕ)) → names_fault ns ≡ None → length ns ≤ limit → text.now ≡ names_text ns → MatchResult result (λ v. texts v.items ≡ ns) (λ f. f ≡ WordsFault.OutOfMemory) }
-    ensures words { (ws : List (List ℕ)) → list_all is_word_of ws ≡ true → text.now ≡ names_text ws → MatchResult result (λ v. texts v.items ≡ ws) (λ f. (f ≡ WordsFault.OutOfMemory) ⊎ IsWordsWhy limit ws f) }
+    ensures whole { (ns : List (List ℕ)) → names_fault ns ≡ None → length ns ≤ limit → text.now ≡ names_text ns
+        → MatchResult result (λ v. texts v.items ≡ ns) (λ f. f ≡ WordsFault.OutOfMemory) }
+    ensures words { (ws : List (List ℕ)) → list_all is_word_of ws ≡ true → text.now ≡ names_text ws
+        → MatchResult result (λ v. texts v.items ≡ ws) (λ f. (f ≡ WordsFault.OutOfMemory) ⊎ IsWordsWhy limit ws f) }
 {
     let mut words = Vec::new(alloc);
     let mut rest = text;
@@ -126,16 +131,23 @@ pub fn read_names<A: Allocator + Copy>(
     lines: &mut Lines<'_>,
     limit: u32,
 ) -> Result<Names<A>, TextFault>
-    ensures read { IfOk result (λ n. (lines.old.left ≡ (codes "registers" ++ names_text n) ∷ lines.new.left) × (names_fault n ≡ None)) }
+    ensures read { IfOk result
+        (λ n. (lines.old.left ≡ (codes "registers" ++ names_text n) ∷ lines.new.left) × (names_fault n ≡ None)) }
     ensures few { IfOk result (λ n. length n ≤ limit) }
-    ensures whole { (ns : List (List ℕ)) (rest : List (List ℕ)) → names_fault ns ≡ None → length ns ≤ limit → lines.old.left ≡ (codes "registers" ++ names_text ns) ∷ rest
+    ensures whole { (ns : List (List ℕ)) (rest : List (List ℕ)) → names_fault ns ≡ None → length ns ≤ limit
+        → lines.old.left ≡ (codes "registers" ++ names_text ns) ∷ rest
         → MatchResult result (λ n. (n ≡ ns) × (lines.new.left ≡ rest)) (λ f. f ≡ TextFault.OutOfMemory) }
-    ensures words { (ws : List (List ℕ)) (rest : List (List ℕ)) → AreWords ws → lines.old.left ≡ (codes "registers" ++ names_text ws) ∷ rest
-        → IfErr result (λ f. (f ≡ TextFault.OutOfMemory) ⊎ ((why : AnyWhy) × IsNamesWhy limit ws why × (f ≡ TextFault.Line lines.new.number why))) }
-    ensures form { (line : List ℕ) (rest : List (List ℕ)) → lines.old.left ≡ line ∷ rest → ((text : List ℕ) → HasWords text → ¬ (line ≡ codes "registers" ++ text))
+    ensures words { (ws : List (List ℕ)) (rest : List (List ℕ)) → AreWords ws
+        → lines.old.left ≡ (codes "registers" ++ names_text ws) ∷ rest
+        → IfErr result
+        (λ f. (f ≡ TextFault.OutOfMemory)
+        ⊎ ((why : AnyWhy) × IsNamesWhy limit ws why × (f ≡ TextFault.Line lines.new.number why))) }
+    ensures form { (line : List ℕ) (rest : List (List ℕ)) → lines.old.left ≡ line ∷ rest
+        → ((text : List ℕ) → HasWords text → ¬ (line ≡ codes "registers" ++ text))
         → IfErr result (λ f. (f ≡ TextFault.OutOfMemory) ⊎ (f ≡ TextFault.Line lines.new.number Why.Form)) }
     ensures end { lines.old.left ≡ [] → result ≡ Err (TextFault.Line lines.new.number Why.End) }
-    ensures fault { IfErr result (λ f. (f ≡ TextFault.OutOfMemory) ⊎ ((why : AnyWhy) × (f ≡ TextFault.Line lines.new.number why))) }
+    ensures fault { IfErr result
+        (λ f. (f ≡ TextFault.OutOfMemory) ⊎ ((why : AnyWhy) × (f ≡ TextFault.Line lines.new.number why))) }
     ensures asked { IsAsked lines.old lines.new }
 {
     let Some(line) = lines.next() else {

@@ -1,8 +1,11 @@
 -- A frame that is taken was put by an earlier event.
-use Rattle.std.proofs.Common.{ℕ, zero, suc, ◌≡◌, ◌+◌, ◌<◌, ◌≤◌, ◌⊎◌, inl, inr, Bool, true, false, List, [], ◌∷◌, ◌++◌, length, map, drop, Option, None, Some, refl, sym, ap, ◌∙◌, subst, arith, append_assoc, length-append}
+use Rattle.std.proofs.Common.{ℕ, zero, suc, ◌≡◌, ◌+◌, ◌<◌, ◌≤◌, ◌⊎◌, inl, inr, Bool, true, false, List, [], ◌∷◌, ◌++◌}
+use Rattle.std.proofs.Common.{length, map, drop, Option, None, Some, refl, sym, ap, ◌∙◌, subst, arith, append_assoc}
+use Rattle.std.proofs.Common.{length-append}
 use Rattle.std.specs.Prelude.{All, cond, ◌==◌, ◌&&◌, ◌||◌, not, nat_lt, position, slice_get}
 use Rattle.std.specs.List.{list_any, prefix_len}
-use Rattle.std.proofs.lemmas.Bool.{and_parts, cases_eq, cases_order, cond_both, eq-eqb, eqb-false, lt-ltb, ltb-true, ne_eqb, not-true}
+use Rattle.std.proofs.lemmas.Bool.{and_parts, cases_eq, cases_order, cond_both, eq-eqb, eqb-false, lt-ltb, ltb-true}
+use Rattle.std.proofs.lemmas.Bool.{ne_eqb, not-true}
 use Rattle.std.proofs.lemmas.List.{length-drop}
 use Rattle.std.proofs.lemmas.List.Elements.{All-nil, All-cons}
 use Rattle.std.proofs.lemmas.List.Folds.{list_any-append}
@@ -29,7 +32,8 @@ use Rattle.reg_trace.proofs.Moving.{first_moved}
 use Rattle.reg_world.proofs.run.Along.{move_is, one_more}
 
 -- in a list whose front has an element that passes, the first one is there
-passes_first : {X : Type 0} (p : X → Bool) (xs ys : List X) → list_any p xs ≡ true → prefix_len (λ x. not (p x)) (xs ++ ys) < length xs
+passes_first : {X : Type 0} (p : X → Bool) (xs ys : List X) → list_any p xs ≡ true
+    → prefix_len (λ x. not (p x)) (xs ++ ys) < length xs
 passes_first p [] ys h = absurd (cc)
 passes_first p (x ∷ xs) ys h = by (p x) refl (λ later. passes_first p xs ys later)
   where
@@ -39,7 +43,8 @@ passes_first p (x ∷ xs) ys h = by (p x) refl (λ later. passes_first p xs ys l
         let k = rest (sym (ap (λ b. b || list_any p xs) e) ∙ h) in
         rw e (omega (arith, k))
 
-first_place : {X : Type 0} (p : X → Bool) (xs ys : List X) → list_any p xs ≡ true → (j : ℕ) × (position p (xs ++ ys) ≡ Some j) × (j < length xs)
+first_place : {X : Type 0} (p : X → Bool) (xs ys : List X) → list_any p xs ≡ true
+    → (j : ℕ) × (position p (xs ++ ys) ≡ Some j) × (j < length xs)
 first_place p xs ys h =
     let k = prefix_len (λ x. not (p x)) (xs ++ ys) in
     let front = passes_first p xs ys h in
@@ -58,9 +63,11 @@ or_right false b h = h
 abbrev is_at : ℕ → ℕ → Sent → Bool
 is_at to place s = (s.to == to) && (s.place == place)
 
-placed_has : (to place first : ℕ) (frames : List Frame) → first ≤ place → place < first + length frames → list_any (is_at to place) (placed to first frames) ≡ true
+placed_has : (to place first : ℕ) (frames : List Frame) → first ≤ place → place < first + length frames
+    → list_any (is_at to place) (placed to first frames) ≡ true
 placed_has to place first [] low high = absurd (omega (arith, low, high))
-placed_has to place first (f ∷ fs) low high = by (cases_eq first place) (λ lower higher. placed_has to place (first + 1) fs lower higher)
+placed_has to place first (f ∷ fs) low high =
+    by (cases_eq first place) (λ lower higher. placed_has to place (first + 1) fs lower higher)
   where
     rest : Bool
     rest = list_any (is_at to place) (placed to (first + 1) fs)
@@ -70,7 +77,8 @@ placed_has to place first (f ∷ fs) low high = by (cases_eq first place) (λ lo
     by (inr ne) later = or_right ((to == to) && (first == place)) rest (later (omega (arith, low, ne)) (omega (arith, high)))
 
 -- among the frames that an event put is each that stands after the wire as it was
-puts_has : (p to place : ℕ) (lengths : ℕ → ℕ) (wire : ℕ → List Frame) (n : ℕ) → to < n → (to ≡ p → ⊥) → lengths to ≤ place → place < length (wire to) → list_any (is_at to place) (puts_since p lengths wire n) ≡ true
+puts_has : (p to place : ℕ) (lengths : ℕ → ℕ) (wire : ℕ → List Frame) (n : ℕ) → to < n → (to ≡ p → ⊥)
+    → lengths to ≤ place → place < length (wire to) → list_any (is_at to place) (puts_since p lengths wire n) ≡ true
 puts_has p to place lengths wire zero l ne low high = absurd (omega (arith, l))
 puts_has p to place lengths wire (suc n) l ne low high =
     list_any-append (is_at to place) (puts_since p lengths wire n) (cond (n == p) [] (placed n (lengths n) (drop (lengths n) (wire n)))) ∙ by (cases_eq to n) (λ less. puts_has p to place lengths wire n less ne low high)
@@ -104,7 +112,8 @@ mover n registers w (Tick p) m =
     cond_both _ (Some (p, TickStep)) None (λ (o : Option (ℕ × Step)). o ≡ Some m → m.0 ≡ p) (λ _ h. sym (ap (λ (s : ℕ × Step). s.0) (same_Some (p, TickStep) m h))) (λ _ h. absurd (none-some m h))
 
 -- the other processes stand as they were
-others_stand : (start : Op → ℕ → Start) (n registers : ℕ) (w : World) (e : Event) (m : Option (ℕ × Step)) → move_of n registers w e ≡ m → (q : ℕ) → (q ≡ process_of e → ⊥) → (moved start w e m).nodes q ≡ w.nodes q
+others_stand : (start : Op → ℕ → Start) (n registers : ℕ) (w : World) (e : Event) (m : Option (ℕ × Step))
+    → move_of n registers w e ≡ m → (q : ℕ) → (q ≡ process_of e → ⊥) → (moved start w e m).nodes q ≡ w.nodes q
 others_stand start n registers w e None is q ne = refl
 others_stand start n registers w e (Some m) is q ne = put_other w.nodes m.0 (after_step start (w.nodes m.0) m.1) q (λ same. ne (same ∙ mover n registers w.nodes e m (move_is n registers w e m is).1))
 
@@ -113,7 +122,9 @@ abbrev AllPut : ℕ → Nodes → List Fact → Type 0
 AllPut n w facts = (from to place : ℕ) → to < n → (from ≡ to → ⊥) → place < length ((w from).wire to) → list_any (is_put from to place) facts ≡ true
 
 -- so it is behind one more event
-one_more_put : (start : Op → ℕ → Start) (n registers : ℕ) (w : World) (e : Event) (reply : Option Reply) (facts : List Fact) → AllPut n w.nodes facts
+one_more_put : (start : Op → ℕ → Start) (n registers : ℕ) (w : World) (e : Event) (reply : Option Reply)
+    (facts : List Fact)
+    → AllPut n w.nodes facts
     → AllPut n (moved start w e (move_of n registers w e)).nodes (facts ++ moment_between n e (process_of e) reply w (moved start w e (move_of n registers w e)) ∷ [])
 one_more_put start n registers w e reply facts so from to place l ne there =
     list_any-append (is_put from to place) facts (moment_between n e (process_of e) reply w after ∷ []) ∙ by (cases_eq from (process_of e))
@@ -144,12 +155,15 @@ one_more_put start n registers w e reply facts so from to place l ne there =
     by (inr other) = early (subst (λ (x : Node). place < length (x.wire to)) (others_stand start n registers w e (move_of n registers w e) refl from other) there)
 
 -- the frame of a take stands on its wire
-got_within : (from to place : ℕ) (frames : List Frame) (m : ℕ × Step) → take_step from to (slice_get frames place) ≡ Some m → place < length frames
+got_within : (from to place : ℕ) (frames : List Frame) (m : ℕ × Step)
+    → take_step from to (slice_get frames place) ≡ Some m → place < length frames
 got_within from to place [] m h = absurd (none-some m h)
 got_within from to zero (f ∷ fs) m h = omega arith
 got_within from to (suc place) (f ∷ fs) m h = let k = got_within from to place fs m h in omega (arith, k)
 
-taken_stands : (n registers : ℕ) (w : Nodes) (from to place : ℕ) (m : ℕ × Step) → step_of n registers w (Take from to place) ≡ Some m → (to < n) × (from ≡ to → ⊥) × (place < length ((w from).wire to))
+taken_stands : (n registers : ℕ) (w : Nodes) (from to place : ℕ) (m : ℕ × Step)
+    → step_of n registers w (Take from to place) ≡ Some m
+    → (to < n) × (from ≡ to → ⊥) × (place < length ((w from).wire to))
 taken_stands n registers w from to place m =
     cond_both (nat_lt from n && (nat_lt to n && not (from == to))) (take_step from to (slice_get ((w from).wire to) place)) None (λ (o : Option (ℕ × Step)). o ≡ Some m → (to < n) × (from ≡ to → ⊥) × (place < length ((w from).wire to)))
     (λ e h.
@@ -163,23 +177,32 @@ record Arrowed (k : ℕ) (events : List Event) (arrows : List Arrow) : Type 0 wh
   each : map (λ (a : Arrow). a.takes) arrows ≡ takes_in k events
   earlier : All (λ (a : Arrow). a.puts < a.takes) arrows
 
-one_arrow : (facts : List Fact) (k from to place j : ℕ) (es : List Event) (rest : List Arrow) → putter from to place facts ≡ Some j → j < k → Arrowed (k + 1) es rest → Arrowed k (Take from to place ∷ es) (arrow_of facts k (Take from to place) ++ rest)
+one_arrow : (facts : List Fact) (k from to place j : ℕ) (es : List Event) (rest : List Arrow)
+    → putter from to place facts ≡ Some j → j < k → Arrowed (k + 1) es rest
+    → Arrowed k (Take from to place ∷ es) (arrow_of facts k (Take from to place) ++ rest)
 one_arrow facts k from to place j es rest is less others =
     let arrow : Arrow = record { from = from; to = to; place = place; puts = j; takes = k } in
     let P : Option ℕ → Type 0 = λ o. Arrowed k (Take from to place ∷ es) (arrow_from k from to place o ++ rest) in
     subst P (sym is) (record { each = ap (λ l. k ∷ l) others.each; earlier = All-cons (λ (a : Arrow). a.puts < a.takes) arrow rest less others.earlier })
 
-first_arrow : (n registers : ℕ) (w : World) (e : Event) (m : ℕ × Step) (before after all : List Fact) (es : List Event) (rest : List Arrow) → move_of n registers w e ≡ Some m → all ≡ before ++ after → AllPut n w.nodes before → Arrowed (length before + 1) es rest → Arrowed (length before) (e ∷ es) (arrow_of all (length before) e ++ rest)
-first_arrow n registers w (Call p op) m before after all es rest is same put others = record { each = others.each; earlier = others.earlier }
+first_arrow : (n registers : ℕ) (w : World) (e : Event) (m : ℕ × Step) (before after all : List Fact) (es : List Event)
+    (rest : List Arrow)
+    → move_of n registers w e ≡ Some m → all ≡ before ++ after → AllPut n w.nodes before
+    → Arrowed (length before + 1) es rest → Arrowed (length before) (e ∷ es) (arrow_of all (length before) e ++ rest)
+first_arrow n registers w (Call p op) m before after all es rest is same put others =
+    record { each = others.each; earlier = others.earlier }
 first_arrow n registers w (Take from to place) m before after all es rest is same put others =
     let stands = taken_stands n registers w.nodes from to place m (move_is n registers w (Take from to place) m is).1 in
     let found = first_place (is_put from to place) before after (put from to place stands.0 stands.1 stands.2) in
     one_arrow all (length before) from to place found.0 es rest (ap (putter from to place) same ∙ found.1) found.2 others
-first_arrow n registers w (Tick p) m before after all es rest is same put others = record { each = others.each; earlier = others.earlier }
+first_arrow n registers w (Tick p) m before after all es rest is same put others =
+    record { each = others.each; earlier = others.earlier }
 
-all_arrows : (start : Op → ℕ → Start) (w : Made) (es : List Event) (before all : List Fact) → all ≡ before ++ moments_from start w es → AllPut w.processes (run_in start w).nodes before
+all_arrows : (start : Op → ℕ → Start) (w : Made) (es : List Event) (before all : List Fact)
+    → all ≡ before ++ moments_from start w es → AllPut w.processes (run_in start w).nodes before
     → (run start w.processes w.registers es (run_in start w)).accepted ≡ (run_in start w).accepted ++ es → Arrowed (length before) es (arrows_in all (length before) (moments_from start w es))
-all_arrows start w [] before all same put accepted = record { each = refl; earlier = All-nil (λ (a : Arrow). a.puts < a.takes) }
+all_arrows start w [] before all same put accepted =
+    record { each = refl; earlier = All-nil (λ (a : Arrow). a.puts < a.takes) }
 all_arrows start w (e ∷ es) before all same put accepted =
     let n = w.processes in
     let r = w.registers in
@@ -198,7 +221,9 @@ all_arrows start w (e ∷ es) before all same put accepted =
     first_arrow n r now e first.0 before (fact ∷ rest) all es (arrows_in all (length before + 1) rest) first.1 same put others
 
 -- each take of an accepted run has its arrow
-pub have_arrows : (start : Op → ℕ → Start) (shape : Extent) (events : List Event) → (whole start shape.processes shape.registers events).accepted ≡ events → HaveArrows events (arrows_of (moments_of start shape events))
+pub have_arrows : (start : Op → ℕ → Start) (shape : Extent) (events : List Event)
+    → (whole start shape.processes shape.registers events).accepted ≡ events
+    → HaveArrows events (arrows_of (moments_of start shape events))
 have_arrows start shape events accepted =
     let all = all_arrows start (new_world shape) events [] (moments_of start shape events) refl (λ from to place l ne there. absurd (omega (arith, there))) accepted in
     record { each = all.each; earlier = all.earlier }

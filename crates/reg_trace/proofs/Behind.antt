@@ -1,5 +1,7 @@
 -- What an event did, by what its world answers before and after it.
-use Rattle.std.proofs.Common.{unwrap_or, ℕ, zero, suc, ◌≡◌, ◌+◌, ◌<◌, ◌≤◌, ◌⊎◌, inl, inr, List, [], ◌∷◌, ◌++◌, length, drop, take, map, get_or, set, append_assoc, append-nil, Option, refl, sym, ap, ap₂, ◌∙◌, arith, drop-cons}
+use Rattle.std.proofs.Common.{unwrap_or, ℕ, zero, suc, ◌≡◌, ◌+◌, ◌<◌, ◌≤◌, ◌⊎◌, inl, inr, List, [], ◌∷◌, ◌++◌, length}
+use Rattle.std.proofs.Common.{drop, take, map, get_or, set, append_assoc, append-nil, Option, refl, sym, ap, ap₂, ◌∙◌}
+use Rattle.std.proofs.Common.{arith, drop-cons}
 use Rattle.std.proofs.lemmas.List.{get_or-set_same, get_or-set_other, drop_all}
 use Rattle.std.specs.Prelude.{slice_get, slice_index, cond, ◌==◌}
 use Rattle.std.proofs.lemmas.Bool.{cases_eq, cases_order, eq-eqb}
@@ -19,9 +21,11 @@ use Rattle.reg_trace.specs.declared.moments.Delivery.{Delivery}
 use Rattle.reg_trace.specs.declared.moments.Sent.{Sent}
 use Rattle.reg_trace.specs.declared.waits.Wait.{Wait}
 use Rattle.reg_trace.specs.Waits.{waits_of}
-use Rattle.reg_trace.specs.Moments.{Fact, deliveries_of, expected_by, frame_taken, out_of_turn, placed, puts_since, moment_between, moment_of, moments_from}
+use Rattle.reg_trace.specs.Moments.{Fact, deliveries_of, expected_by, frame_taken, out_of_turn, placed, puts_since}
+use Rattle.reg_trace.specs.Moments.{moment_between, moment_of, moments_from}
 
-pub puts_same : (p : ℕ) (f g : ℕ → ℕ) (wire : ℕ → List Frame) (n : ℕ) → ((to : ℕ) → to < n → (to ≡ p → ⊥) → f to ≡ g to) → puts_since p f wire n ≡ puts_since p g wire n
+pub puts_same : (p : ℕ) (f g : ℕ → ℕ) (wire : ℕ → List Frame) (n : ℕ) → ((to : ℕ) → to < n → (to ≡ p → ⊥) → f to ≡ g to)
+    → puts_since p f wire n ≡ puts_since p g wire n
 puts_same p f g wire zero h = refl
 puts_same p f g wire (suc n) h = ap₂ (λ (a b : List Sent). a ++ b) (puts_same p f g wire n (λ to l ne. h to (omega (arith, l)) ne)) (one (cases_eq n p))
   where
@@ -30,12 +34,15 @@ puts_same p f g wire (suc n) h = ap₂ (λ (a b : List Sent). a ++ b) (puts_same
     one (inr ne) = ap (λ k. cond (n == p) [] (placed n k (drop k (wire n)))) (h n (omega arith) ne)
 
 -- all other processes are peers
-pub is_peer : (s : State) (n from to : ℕ) → length s.peers ≡ n → s.me ≡ to → from < n → (from ≡ to → ⊥) → IsNoPeer s from → ⊥
+pub is_peer : (s : State) (n from to : ℕ) → length s.peers ≡ n → s.me ≡ to → from < n → (from ≡ to → ⊥)
+    → IsNoPeer s from → ⊥
 is_peer s n from to size me l ne (inl ge) = absurd (omega (arith, size, l, ge))
 is_peer s n from to size me l ne (inr e) = ne (e ∙ me)
 
 -- an event told with its parts
-pub told_is : (start : Op → ℕ → Start) (w : Made) (e : Event) (new : Made) (p : ℕ) (frame : Option Frame) (awaited expected : Option ℕ) (clock : ℕ) (copy : Memory) (casts : List Delivered) (delivered : List Delivery) (reply : Option Reply) (waits : List Wait) (sent : List Sent) (before behind : ℕ) (lengths : ℕ → ℕ)
+pub told_is : (start : Op → ℕ → Start) (w : Made) (e : Event) (new : Made) (p : ℕ) (frame : Option Frame)
+    (awaited expected : Option ℕ) (clock : ℕ) (copy : Memory) (casts : List Delivered) (delivered : List Delivery)
+    (reply : Option Reply) (waits : List Wait) (sent : List Sent) (before behind : ℕ) (lengths : ℕ → ℕ)
     → new ≡ with_event start w e → p ≡ process_of e → frame ≡ frame_taken w.processes (run_in start w).nodes e → awaited ≡ expected_by w.processes (run_in start w).nodes e → expected ≡ out_of_turn frame awaited → clock ≡ ((run_in start new).nodes p).state.clock
     → before ≡ ((run_in start w).nodes p).state.delivered → behind ≡ ((run_in start new).nodes p).state.delivered → casts ≡ drop before (take behind (map delivered_of (run_in start new).order))
     → copy ≡ ((run_in start w).nodes p).state.copy → delivered ≡ deliveries_of casts copy
@@ -59,7 +66,9 @@ told_is start w e new p frame awaited expected clock copy casts delivered reply 
     here ∙ ap₂ (λ (q : ℕ) (v : Made). moment_between w.processes e q (reply_in start w e) (run_in start w) (run_in start v)) is_p is_new
 
 -- one more length
-pub length_noted : (lengths : List ℕ) (wire : ℕ → List Frame) (p to v : ℕ) → ((k : ℕ) → k < to → (k ≡ p → ⊥) → slice_index lengths k ≡ length (wire k)) → to < length lengths → v ≡ length (wire to) → (k : ℕ) → k < to + 1 → (k ≡ p → ⊥) → slice_index (set lengths to v) k ≡ length (wire k)
+pub length_noted : (lengths : List ℕ) (wire : ℕ → List Frame) (p to v : ℕ)
+    → ((k : ℕ) → k < to → (k ≡ p → ⊥) → slice_index lengths k ≡ length (wire k)) → to < length lengths
+    → v ≡ length (wire to) → (k : ℕ) → k < to + 1 → (k ≡ p → ⊥) → slice_index (set lengths to v) k ≡ length (wire k)
 length_noted lengths wire p to v so room is k lt ne = by (cases_eq k to)
   where
     by : (k ≡ to) ⊎ (k ≡ to → ⊥) → slice_index (set lengths to v) k ≡ length (wire k)
@@ -72,7 +81,9 @@ length_noted lengths wire p to v so room is k lt ne = by (cases_eq k to)
         below (inr (inr g)) = absurd (omega (arith, lt, g))
 
 -- no wire to itself
-pub length_passed : (lengths : List ℕ) (wire : ℕ → List Frame) (p to n : ℕ) → ((k : ℕ) → k < to → (k ≡ p → ⊥) → slice_index lengths k ≡ length (wire k)) → p < n → to < n → (n ≤ p) ⊎ ((n ≤ to) ⊎ (p ≡ to)) → (k : ℕ) → k < to + 1 → (k ≡ p → ⊥) → slice_index lengths k ≡ length (wire k)
+pub length_passed : (lengths : List ℕ) (wire : ℕ → List Frame) (p to n : ℕ)
+    → ((k : ℕ) → k < to → (k ≡ p → ⊥) → slice_index lengths k ≡ length (wire k)) → p < n → to < n
+    → (n ≤ p) ⊎ ((n ≤ to) ⊎ (p ≡ to)) → (k : ℕ) → k < to + 1 → (k ≡ p → ⊥) → slice_index lengths k ≡ length (wire k)
 length_passed lengths wire p to n so a b none k lt ne = by (cases_order k to)
   where
     own : (n ≤ p) ⊎ ((n ≤ to) ⊎ (p ≡ to)) → p ≡ to
@@ -86,7 +97,11 @@ length_passed lengths wire p to n so a b none k lt ne = by (cases_order k to)
     by (inr (inr g)) = absurd (omega (arith, lt, g))
 
 -- one more event told
-pub one_told : (start : Op → ℕ → Start) (w new : Made) (moments pushed all : List Fact) (m : Fact) (events : List Event) (i : ℕ) (d : Event) → i < length events → new ≡ with_event start w (get_or events i d) → m ≡ moment_of start w (get_or events i d) → pushed ≡ moments ++ m ∷ [] → moments ++ moments_from start w (drop i events) ≡ all → pushed ++ moments_from start new (drop (i + 1) events) ≡ all
+pub one_told : (start : Op → ℕ → Start) (w new : Made) (moments pushed all : List Fact) (m : Fact) (events : List Event)
+    (i : ℕ) (d : Event)
+    → i < length events → new ≡ with_event start w (get_or events i d) → m ≡ moment_of start w (get_or events i d)
+    → pushed ≡ moments ++ m ∷ [] → moments ++ moments_from start w (drop i events) ≡ all
+    → pushed ++ moments_from start new (drop (i + 1) events) ≡ all
 one_told start w new moments pushed all m events i d lt is_new is_m is_pushed so =
     let e = get_or events i d in
     let k : i + 1 ≡ suc i = omega arith in
@@ -98,12 +113,17 @@ one_told start w new moments pushed all m events i d lt is_new is_m is_pushed so
     ∙ (ap (λ (es : List Event). moments ++ moments_from start w es) (sym (drop-cons events i d lt)) ∙ so))))
 
 -- all events told
-pub all_told : (start : Op → ℕ → Start) (w : Made) (moments all : List Fact) (events : List Event) (i : ℕ) → length events ≤ i → moments ++ moments_from start w (drop i events) ≡ all → moments ≡ all
+pub all_told : (start : Op → ℕ → Start) (w : Made) (moments all : List Fact) (events : List Event) (i : ℕ)
+    → length events ≤ i → moments ++ moments_from start w (drop i events) ≡ all → moments ≡ all
 all_told start w moments all events i ge so =
     sym (append-nil moments) ∙ (ap (λ (es : List Event). moments ++ moments_from start w es) (sym (drop_all i events ge)) ∙ so)
 
 -- one more cast delivered
-pub one_delivered : (items pushed all : List Delivery) (copy new : Memory) (casts : List Delivered) (i : ℕ) (d : Delivered) (x : Delivery) → i < length casts → x.cast ≡ get_or casts i d → x.value ≡ slice_index (after (get_or casts i d).op copy) (register_of (get_or casts i d).op) → new ≡ after (get_or casts i d).op copy
+pub one_delivered : (items pushed all : List Delivery) (copy new : Memory) (casts : List Delivered) (i : ℕ)
+    (d : Delivered) (x : Delivery)
+    → i < length casts → x.cast ≡ get_or casts i d
+    → x.value ≡ slice_index (after (get_or casts i d).op copy) (register_of (get_or casts i d).op)
+    → new ≡ after (get_or casts i d).op copy
     → pushed ≡ items ++ x ∷ [] → items ++ deliveries_of (drop i casts) copy ≡ all → pushed ++ deliveries_of (drop (i + 1) casts) new ≡ all
 one_delivered items pushed all copy new casts i d x lt is_cast is_value is_new is_pushed so =
     let c : Delivered = get_or casts i d in
@@ -118,7 +138,8 @@ one_delivered items pushed all copy new casts i d x lt is_cast is_value is_new i
     ∙ (ap (λ (cs : List Delivered). items ++ deliveries_of cs copy) (sym (drop-cons casts i d lt)) ∙ so))))
 
 -- all delivered
-pub all_delivered : (items all : List Delivery) (copy : Memory) (casts : List Delivered) (i : ℕ) → length casts ≤ i → items ++ deliveries_of (drop i casts) copy ≡ all → items ≡ all
+pub all_delivered : (items all : List Delivery) (copy : Memory) (casts : List Delivered) (i : ℕ) → length casts ≤ i
+    → items ++ deliveries_of (drop i casts) copy ≡ all → items ≡ all
 all_delivered items all copy casts i ge so = sym (append-nil items) ∙ (ap (λ (cs : List Delivered). items ++ deliveries_of cs copy) (sym (drop_all i casts ge)) ∙ so)
 
 -- the value of a register, 0 past the last

@@ -9,11 +9,13 @@ no_notes : notes_above [] ≡ []
 unfolding notes_above
 no_notes = refl
 
-kept_above : (line : List ℕ) (lines : List (List ℕ)) → is_kept line ≡ true → notes_above (line ∷ lines) ≡ [] ∷ notes_above lines
+kept_above : (line : List ℕ) (lines : List (List ℕ)) → is_kept line ≡ true
+    → notes_above (line ∷ lines) ≡ [] ∷ notes_above lines
 unfolding notes_above
 kept_above line lines h = rw h refl
 
-said_above : (line : List ℕ) (lines : List (List ℕ)) → is_kept line ≡ false → notes_above (line ∷ lines) ≡ above_first (comment_of line) (notes_above lines)
+said_above : (line : List ℕ) (lines : List (List ℕ)) → is_kept line ≡ false
+    → notes_above (line ∷ lines) ≡ above_first (comment_of line) (notes_above lines)
 unfolding notes_above
 said_above line lines h = rw h refl
 
@@ -28,7 +30,8 @@ spaced_assoc (x ∷ a) (y ∷ b) [] = refl
 spaced_assoc (x ∷ a) (y ∷ b) (z ∷ c) = append_assoc (x ∷ a) (32 ∷ y ∷ b) (32 ∷ z ∷ c)
 
 -- the first note goes on with a comment
-above_more : (note words : List ℕ) (notes : List (List ℕ)) → above_first (spaced note words) notes ≡ above_first note (above_first words notes)
+above_more : (note words : List ℕ) (notes : List (List ℕ))
+    → above_first (spaced note words) notes ≡ above_first note (above_first words notes)
 above_more note words [] = refl
 above_more note words (n ∷ notes) = ap (λ t. t ∷ notes) (spaced_assoc note words n)
 
@@ -36,12 +39,15 @@ above_none : (notes : List (List ℕ)) → above_first [] notes ≡ notes
 above_none [] = refl
 above_none (n ∷ notes) = refl
 
-texts_more : {A : Type 0} (above : List (String A)) (note : String A) → texts (above ++ note ∷ []) ≡ texts above ++ string_bytes note ∷ []
+texts_more : {A : Type 0} (above : List (String A)) (note : String A)
+    → texts (above ++ note ∷ []) ≡ texts above ++ string_bytes note ∷ []
 texts_more [] note = refl
 texts_more (a ∷ above) note = ap (λ t. string_bytes a ∷ t) (texts_more above note)
 
 -- one more line that is kept: its note is whole
-pub one_kept : {A : Type 0} (above pushed : List (String A)) (note new : String A) (line : List ℕ) (before lines all : List (List ℕ)) → before ≡ line ∷ lines → is_kept line ≡ true → pushed ≡ above ++ note ∷ [] → string_bytes new ≡ []
+pub one_kept : {A : Type 0} (above pushed : List (String A)) (note new : String A) (line : List ℕ)
+    (before lines all : List (List ℕ))
+    → before ≡ line ∷ lines → is_kept line ≡ true → pushed ≡ above ++ note ∷ [] → string_bytes new ≡ []
     → texts above ++ above_first (string_bytes note) (notes_above before) ≡ all → texts pushed ++ above_first (string_bytes new) (notes_above lines) ≡ all
 one_kept {A} above pushed note new line before lines all cut h push none so =
     ap (λ (p : List (String A)). texts p ++ above_first (string_bytes new) (notes_above lines)) push
@@ -53,7 +59,8 @@ one_kept {A} above pushed note new line before lines all cut h push none so =
     ∙ (ap (λ ns. texts above ++ above_first (string_bytes note) ns) (sym (kept_above line lines h) ∙ ap notes_above (sym cut)) ∙ so))))))
 
 -- one more comment, or an empty line
-pub one_said : (above : List (List ℕ)) (note words new line : List ℕ) (before lines all : List (List ℕ)) → before ≡ line ∷ lines → is_kept line ≡ false → words ≡ comment_of line → new ≡ spaced note words
+pub one_said : (above : List (List ℕ)) (note words new line : List ℕ) (before lines all : List (List ℕ))
+    → before ≡ line ∷ lines → is_kept line ≡ false → words ≡ comment_of line → new ≡ spaced note words
     → above ++ above_first note (notes_above before) ≡ all → above ++ above_first new (notes_above lines) ≡ all
 one_said above note words new line before lines all cut h is_words is_new so =
     ap (λ w. above ++ above_first w (notes_above lines)) is_new
@@ -62,6 +69,7 @@ one_said above note words new line before lines all cut h is_words is_new so =
     ∙ (ap (λ ns. above ++ above_first note ns) (sym (said_above line lines h) ∙ ap notes_above (sym cut)) ∙ so)))
 
 -- no line is left
-pub all_noted : (above : List (List ℕ)) (note : List ℕ) (before all : List (List ℕ)) → before ≡ [] → above ++ above_first note (notes_above before) ≡ all → above ≡ all
+pub all_noted : (above : List (List ℕ)) (note : List ℕ) (before all : List (List ℕ)) → before ≡ []
+    → above ++ above_first note (notes_above before) ≡ all → above ≡ all
 all_noted above note before all none so =
     sym (append-nil above) ∙ (ap (λ ns. above ++ above_first note ns) (sym (ap notes_above none ∙ no_notes)) ∙ so)

@@ -12,7 +12,8 @@ next_note [] k = refl
 next_note (n ∷ notes) k = refl
 
 -- the event at a place has the note at that place
-pub noted_at : (facts : List Fact) (notes : List (List ℕ)) (k : ℕ) (f : Fact) (d : Noted) → k < length facts → record { fact = get_or facts k f; note = get_or notes k [] } ≡ get_or (noted facts notes) k d
+pub noted_at : (facts : List Fact) (notes : List (List ℕ)) (k : ℕ) (f : Fact) (d : Noted) → k < length facts
+    → record { fact = get_or facts k f; note = get_or notes k [] } ≡ get_or (noted facts notes) k d
 noted_at [] notes k f d l = absurd (omega (arith, l))
 noted_at (x ∷ facts) notes zero f d l = refl
 noted_at (x ∷ facts) notes (suc k) f d l =

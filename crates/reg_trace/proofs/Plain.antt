@@ -1,5 +1,7 @@
 -- The data is plain text.
-use Rattle.std.proofs.Common.{ℕ, zero, suc, ◌≡◌, ◌+◌, ◌/◌, ◌%◌, ◌<◌, ◌≤◌, ◌==◌, Bool, true, false, List, [], ◌∷◌, ◌++◌, length, map, get_or, codes, Option, None, Some, refl, sym, ap₂, ◌∙◌, subst, arith, inl, inr, nat_lt, nat_le, ◌&&◌, if◌then◌else◌}
+use Rattle.std.proofs.Common.{ℕ, zero, suc, ◌≡◌, ◌+◌, ◌/◌, ◌%◌, ◌<◌, ◌≤◌, ◌==◌, Bool, true, false, List, [], ◌∷◌, ◌++◌}
+use Rattle.std.proofs.Common.{length, map, get_or, codes, Option, None, Some, refl, sym, ap₂, ◌∙◌, subst, arith, inl}
+use Rattle.std.proofs.Common.{inr, nat_lt, nat_le, ◌&&◌, if◌then◌else◌}
 use Rattle.std.specs.Prelude.{flat_map, not}
 use Rattle.std.specs.List.{All, list_all}
 use Rattle.std.specs.Char.{digit_char, is_ascii_lowercase}
@@ -40,7 +42,8 @@ use Rattle.reg_trace.specs.declared.data.looks.Kept.{Kept}
 use Rattle.reg_trace.specs.Data.{Data, data_text, head_text, order_text, points_part, run_text}
 use Rattle.reg_trace.specs.Json.{joined, lines_text, list_text, numbers_text, quoted}
 use Rattle.reg_trace.specs.Looks.{Look}
-use Rattle.reg_trace.specs.Parts.{bar_part, body_part, end_part, frame_part, kept_part, look_part, moment_part, peer_part, reply_part, running_part, sent_part, taken_part}
+use Rattle.reg_trace.specs.Parts.{bar_part, body_part, end_part, frame_part, kept_part, look_part, moment_part}
+use Rattle.reg_trace.specs.Parts.{peer_part, reply_part, running_part, sent_part, taken_part}
 use Rattle.reg_trace.specs.Noted.{Noted, noted}
 use Rattle.reg_trace.specs.Plain.{IsPiece, IsPlainText, is_plain}
 use Rattle.reg_trace.specs.Strings.{char_text, escape_of, is_bare, string_text, unit_text}
@@ -50,7 +53,8 @@ use Rattle.reg_trace.specs.Rows.{arrow_row, cast_row, delivery_row, first_row, i
 abbrev is_single : ℕ → Bool
 is_single c = is_plain c && not (c == 92)
 
-both : (xs ys : List ℕ) → list_all is_plain xs ≡ true → list_all is_plain ys ≡ true → list_all is_plain (xs ++ ys) ≡ true
+both : (xs ys : List ℕ) → list_all is_plain xs ≡ true → list_all is_plain ys ≡ true
+    → list_all is_plain (xs ++ ys) ≡ true
 both [] ys h k = k
 both (x ∷ xs) ys h k =
     let b = both_true (is_plain x) (list_all is_plain xs) h in
@@ -107,7 +111,8 @@ glyph n =
     let is : digit_glyph false (n % 10) ≡ 48 + n % 10 = grind (arith, nat_tests) in
     subst (λ c. is_single c ≡ true) (sym is) (plain_low (48 + n % 10) (omega arith) (omega arith))
 
-digits_plain : (k n : ℕ) (acc : List ℕ) → list_all is_single acc ≡ true → list_all is_single (digits_onto k 10 false n acc) ≡ true
+digits_plain : (k n : ℕ) (acc : List ℕ) → list_all is_single acc ≡ true
+    → list_all is_single (digits_onto k 10 false n acc) ≡ true
 digits_plain zero n acc h = h
 digits_plain (suc k) n acc h =
     let one : list_all is_single (digit_glyph false (n % 10) ∷ acc) ≡ true = rw (glyph n) h in
@@ -149,11 +154,13 @@ operation : (names : List (List ℕ)) → names_fault names ≡ None → (op : O
 operation names ok (Read r) = lit (codes "read ") refl ⊳ name names ok r
 operation names ok (Write r v) = lit (codes "write ") refl ⊳ (name names ok r ⊳ (lit (32 ∷ []) refl ⊳ number v))
 operation names ok (Swap r v) = lit (codes "swap ") refl ⊳ (name names ok r ⊳ (lit (32 ∷ []) refl ⊳ number v))
-operation names ok (CompareAndSwap r e v) = lit (codes "cas ") refl ⊳ (name names ok r ⊳ (lit (32 ∷ []) refl ⊳ (number e ⊳ (lit (32 ∷ []) refl ⊳ number v))))
+operation names ok (CompareAndSwap r e v) =
+    lit (codes "cas ") refl ⊳ (name names ok r ⊳ (lit (32 ∷ []) refl ⊳ (number e ⊳ (lit (32 ∷ []) refl ⊳ number v))))
 
 event : (names : List (List ℕ)) → names_fault names ≡ None → (e : Event) → IsPlainText (event_text names e)
 event names ok (Call p op) = lit (codes "call ") refl ⊳ (number p ⊳ (lit (32 ∷ []) refl ⊳ operation names ok op))
-event names ok (Take from to place) = lit (codes "take ") refl ⊳ (number from ⊳ (lit (32 ∷ []) refl ⊳ (number to ⊳ (lit (32 ∷ []) refl ⊳ number place))))
+event names ok (Take from to place) =
+    lit (codes "take ") refl ⊳ (number from ⊳ (lit (32 ∷ []) refl ⊳ (number to ⊳ (lit (32 ∷ []) refl ⊳ number place))))
 event names ok (Tick p) = lit (codes "tick ") refl ⊳ number p
 
 answer : (a : Answer) → IsPlainText (answer_text a)
@@ -168,18 +175,21 @@ front_plain LocalWrite = lit (front_name LocalWrite) refl
 
 -- ---- lists
 
-tail_plain : {X : Type 0} (f : X → List ℕ) (xs : List X) → ((x : X) → IsPlainText (f x)) → IsPlainText (flat_map (λ other. 44 ∷ other) (map f xs))
+tail_plain : {X : Type 0} (f : X → List ℕ) (xs : List X) → ((x : X) → IsPlainText (f x))
+    → IsPlainText (flat_map (λ other. 44 ∷ other) (map f xs))
 tail_plain f [] h = lit [] refl
 tail_plain f (x ∷ xs) h = (lit (44 ∷ []) refl ⊳ h x) ⊳ tail_plain f xs h
 
-joined_plain : {X : Type 0} (f : X → List ℕ) (xs : List X) → ((x : X) → IsPlainText (f x)) → IsPlainText (joined (map f xs))
+joined_plain : {X : Type 0} (f : X → List ℕ) (xs : List X) → ((x : X) → IsPlainText (f x))
+    → IsPlainText (joined (map f xs))
 joined_plain f [] h = lit [] refl
 joined_plain f (x ∷ xs) h = h x ⊳ tail_plain f xs h
 
 list_plain : {X : Type 0} (f : X → List ℕ) (xs : List X) → ((x : X) → IsPlainText (f x)) → IsPlainText (list_text f xs)
 list_plain f xs h = lit (codes "[") refl ⊳ (joined_plain f xs h ⊳ lit (codes "]") refl)
 
-lines_plain : {X : Type 0} (f : X → List ℕ) (xs : List X) → ((x : X) → IsPlainText (f x)) → IsPlainText (lines_text f xs)
+lines_plain : {X : Type 0} (f : X → List ℕ) (xs : List X) → ((x : X) → IsPlainText (f x))
+    → IsPlainText (lines_text f xs)
 lines_plain f xs h = lit (91 ∷ 10 ∷ []) refl ⊳ (joined_plain (λ x. f x ++ 10 ∷ []) xs (λ x. h x ⊳ lit (10 ∷ []) refl) ⊳ lit (codes "]") refl)
 
 numbers : (ns : List ℕ) → IsPlainText (numbers_text ns)

@@ -1,5 +1,6 @@
 -- Which event put each frame.
-use Rattle.std.proofs.Common.{ℕ, ◌≡◌, ◌+◌, ◌<◌, Bool, true, false, List, length, take, drop, get_or, Some, refl, sym, ap, ◌∙◌}
+use Rattle.std.proofs.Common.{ℕ, ◌≡◌, ◌+◌, ◌<◌, Bool, true, false, List, length, take, drop, get_or, Some, refl, sym}
+use Rattle.std.proofs.Common.{ap, ◌∙◌}
 use Rattle.std.specs.Prelude.{cond, ◌==◌, ◌&&◌, ◌||◌}
 use Rattle.std.specs.Ordering.{nat_cmp}
 use Rattle.std.specs.Cmp.{both_tied, unsigned_ties}
@@ -16,7 +17,8 @@ abbrev pub Putters : Type 0
 Putters = BTreeMap WirePlace ℕ
 
 -- a place compares as equal with the one of the same processes and the same number
-is_there : (a q : WirePlace) → is_at (wire_place_cmp a) q ≡ ((a.from == q.from) && ((a.to == q.to) && (a.place == q.place)))
+is_there : (a q : WirePlace)
+    → is_at (wire_place_cmp a) q ≡ ((a.from == q.from) && ((a.to == q.to) && (a.place == q.place)))
 is_there a q = sym (both_tied (a.from == q.from) ((a.to == q.to) && (a.place == q.place)) (nat_cmp a.from q.from) _ (unsigned_ties a.from q.from) (both_tied (a.to == q.to) (a.place == q.place) (nat_cmp a.to q.to) (nat_cmp a.place q.place) (unsigned_ties a.to q.to) (unsigned_ties a.place q.place)))
 
 -- whether a frame was put for this place's receiver there
@@ -24,14 +26,16 @@ abbrev pub is_for : WirePlace → Sent → Bool
 is_for q s = (s.to == q.to) && (s.place == q.place)
 
 -- one more of the frames that a process put
-more : {X : Type 0} (ours this before : Bool) (new old : X) → cond (ours && this) new (cond (ours && before) new old) ≡ cond (ours && (before || this)) new old
+more : {X : Type 0} (ours this before : Bool) (new old : X)
+    → cond (ours && this) new (cond (ours && before) new old) ≡ cond (ours && (before || this)) new old
 more false this before new old = refl
 more true false false new old = refl
 more true false true new old = refl
 more true true false new old = refl
 more true true true new old = refl
 
-pub one_put : (from ours puts j : ℕ) (sent all : List Sent) (d : Sent) (old before after : Putters) → ours ≡ from → sent ≡ all → j < length sent →
+pub one_put : (from ours puts j : ℕ) (sent all : List Sent) (d : Sent) (old before after : Putters) → ours ≡ from
+    → sent ≡ all → j < length sent →
     Updates wire_place_cmp before after (record { from = ours; to = (get_or sent j d).to; place = (get_or sent j d).place }) (Some puts) →
     ((q : WirePlace) → get wire_place_cmp before q ≡ cond ((from == q.from) && list_any (is_for q) (take j all)) (Some puts) (get wire_place_cmp old q)) →
     (q : WirePlace) → get wire_place_cmp after q ≡ cond ((from == q.from) && list_any (is_for q) (take (j + 1) all)) (Some puts) (get wire_place_cmp old q)
@@ -46,7 +50,8 @@ one_put from ours puts j sent all d old before after own same lt updates known q
     ∙ ap (λ b. cond ((from == q.from) && b) (Some puts) (get wire_place_cmp old q)) (sym longer)
 
 -- one event before those whose frames are noted
-pub one_before : (facts : List Fact) (k : ℕ) (f d : Fact) (before after : Putters) → k < length facts → get_or facts k d ≡ f →
+pub one_before : (facts : List Fact) (k : ℕ) (f d : Fact) (before after : Putters) → k < length facts
+    → get_or facts k d ≡ f →
     ((q : WirePlace) → get wire_place_cmp after q ≡ cond (puts_at q f) (Some k) (get wire_place_cmp before q)) →
     ((q : WirePlace) → get wire_place_cmp before q ≡ position_from (puts_at q) (k + 1) (drop (k + 1) facts)) →
     (q : WirePlace) → get wire_place_cmp after q ≡ position_from (puts_at q) k (drop k facts)

@@ -1,5 +1,7 @@
 -- The lines of a trace as they are put are its text.
-use Rattle.std.proofs.Common.{ℕ, zero, suc, ◌≡◌, ◌+◌, ◌<◌, List, [], ◌∷◌, ◌++◌, length, take, map, flat_map, get_or, codes, cond, Bool, true, false, Option, None, Some, refl, sym, ap, ap₂, ◌∙◌, arith, append_assoc, append-nil}
+use Rattle.std.proofs.Common.{ℕ, zero, suc, ◌≡◌, ◌+◌, ◌<◌, List, [], ◌∷◌, ◌++◌, length, take, map, flat_map, get_or}
+use Rattle.std.proofs.Common.{codes, cond, Bool, true, false, Option, None, Some, refl, sym, ap, ap₂, ◌∙◌, arith}
+use Rattle.std.proofs.Common.{append_assoc, append-nil}
 use Rattle.std.specs.Fmt.{decimal}
 use Rattle.std.proofs.lemmas.Grind.{flat_map-append}
 use Rattle.std.proofs.lemmas.List.{take_more}
@@ -10,7 +12,8 @@ use Rattle.reg_text.specs.Writing.{Puts}
 use Rattle.reg_text.proofs.Sent.{puts_two, puts_as, puts_four}
 use Rattle.reg_inputs.specs.Schedules.{event_text}
 use Rattle.reg_trace.specs.Moments.{Fact}
-use Rattle.reg_trace.specs.Traces.{answers_lines, delivers_lines, drops_lines, holds_line, moment_lines, puts_line, takes_lines, trace_lines, trace_text}
+use Rattle.reg_trace.specs.Traces.{answers_lines, delivers_lines, drops_lines, holds_line, moment_lines, puts_line}
+use Rattle.reg_trace.specs.Traces.{takes_lines, trace_lines, trace_text}
 
 -- the text of one line
 pub one_line : (line : List ℕ) → line ++ 10 ∷ [] ≡ text_of (line ∷ [])
@@ -44,7 +47,8 @@ moment_parts names number f =
     ∙ ap₂ (λ (x y : List ℕ). x ++ y) (text_map holds_line f.waits) (text_map (puts_line names f.process) f.sent))))))
     )
 
-pub moment_put : {S : Type 0} (held : S → Option (List ℕ)) (names : List (List ℕ)) (number : ℕ) (f : Fact) (a b t c d e h j k : Sink S)
+pub moment_put : {S : Type 0} (held : S → Option (List ℕ)) (names : List (List ℕ)) (number : ℕ) (f : Fact)
+    (a b t c d e h j k : Sink S)
     → Puts held a b ((decimal number ++ (codes " " ++ event_text names f.event)) ++ 10 ∷ []) → Puts held b t (text_of (takes_lines names f.event f.frame)) → Puts held t c (text_of (drops_lines f.expected)) → Puts held c d ((codes "    clock " ++ decimal f.clock) ++ 10 ∷ [])
     → Puts held d e (text_of (flat_map (delivers_lines names) f.delivered)) → Puts held e h (text_of (answers_lines f.reply)) → Puts held h j (lines_by holds_line f.waits) → Puts held j k (lines_by (puts_line names f.process) f.sent) → Puts held a k (text_of (moment_lines names number f))
 moment_put held names number f a b t c d e h j k one two turn three four five waits six =
@@ -64,7 +68,8 @@ abbrev pub lines_at : (ℕ → List (List ℕ)) → Option ℕ → List (List �
 lines_at f None = []
 lines_at f (Some x) = f x
 
-pub lines_if : (f : ℕ → List (List ℕ)) (b : Bool) (x : ℕ) (o : Option ℕ) → o ≡ cond b (Some x) None → lines_at f o ≡ cond b (f x) []
+pub lines_if : (f : ℕ → List (List ℕ)) (b : Bool) (x : ℕ) (o : Option ℕ) → o ≡ cond b (Some x) None
+    → lines_at f o ≡ cond b (f x) []
 lines_if f b x o is = ap (lines_at f) is ∙ chosen b
   where
     chosen : (b : Bool) → lines_at f (cond b (Some x) None) ≡ cond b (f x) []
@@ -72,20 +77,26 @@ lines_if f b x o is = ap (lines_at f) is ∙ chosen b
     chosen false = refl
 
 -- the lines of one more of these
-block_more : {X : Type 0} (f : X → List (List ℕ)) (xs : List X) (i : ℕ) (d : X) → i < length xs → text_of (flat_map f (take (i + 1) xs)) ≡ text_of (flat_map f (take i xs)) ++ text_of (f (get_or xs i d))
+block_more : {X : Type 0} (f : X → List (List ℕ)) (xs : List X) (i : ℕ) (d : X) → i < length xs
+    → text_of (flat_map f (take (i + 1) xs)) ≡ text_of (flat_map f (take i xs)) ++ text_of (f (get_or xs i d))
 block_more f xs i d l =
     ap (λ t. text_of (flat_map f t)) (take_more xs i d l)
     ∙ (ap text_of (flat_map-append f (take i xs) (get_or xs i d ∷ []) ∙ ap (λ t. flat_map f (take i xs) ++ t) (append-nil (f (get_or xs i d))))
     ∙ text_append (flat_map f (take i xs)) (f (get_or xs i d)))
 
 -- one more of these was put
-pub block_put : {S X : Type 0} (held : S → Option (List ℕ)) (a b c : Sink S) (f : X → List (List ℕ)) (xs : List X) (i : ℕ) (d : X) → i < length xs → Puts held a b (text_of (flat_map f (take i xs))) → Puts held b c (text_of (f (get_or xs i d))) → Puts held a c (text_of (flat_map f (take (i + 1) xs)))
+pub block_put : {S X : Type 0} (held : S → Option (List ℕ)) (a b c : Sink S) (f : X → List (List ℕ)) (xs : List X)
+    (i : ℕ) (d : X)
+    → i < length xs → Puts held a b (text_of (flat_map f (take i xs))) → Puts held b c (text_of (f (get_or xs i d)))
+    → Puts held a c (text_of (flat_map f (take (i + 1) xs)))
 block_put held a b c f xs i d l p q =
     puts_as held a c (text_of (flat_map f (take i xs)) ++ text_of (f (get_or xs i d))) (text_of (flat_map f (take (i + 1) xs))) (sym (block_more f xs i d l))
     (puts_two held a b c (text_of (flat_map f (take i xs))) (text_of (f (get_or xs i d))) p q)
 
 -- the lines of one more event
-lines_more : (names : List (List ℕ)) (number : ℕ) (facts : List Fact) (i : ℕ) (d : Fact) → i < length facts → trace_lines names number (take (i + 1) facts) ≡ trace_lines names number (take i facts) ++ moment_lines names (number + i) (get_or facts i d)
+lines_more : (names : List (List ℕ)) (number : ℕ) (facts : List Fact) (i : ℕ) (d : Fact) → i < length facts
+    → trace_lines names number (take (i + 1) facts)
+    ≡ trace_lines names number (take i facts) ++ moment_lines names (number + i) (get_or facts i d)
 lines_more names number [] i d l = absurd (omega (arith, l))
 lines_more names number (f ∷ fs) zero d l =
     let k : number + 0 ≡ number = omega arith in
@@ -101,7 +112,11 @@ lines_more names number (f ∷ fs) (suc i) d l =
     append_assoc_lines xs ys zs = append_assoc xs ys zs
 
 -- one more event was put
-pub trace_more : {S : Type 0} (held : S → Option (List ℕ)) (names : List (List ℕ)) (facts : List Fact) (i : ℕ) (d : Fact) (a b c : Sink S) → i < length facts → Puts held a b (trace_text names (take i facts)) → Puts held b c (text_of (moment_lines names i (get_or facts i d))) → Puts held a c (trace_text names (take (i + 1) facts))
+pub trace_more : {S : Type 0} (held : S → Option (List ℕ)) (names : List (List ℕ)) (facts : List Fact) (i : ℕ)
+    (d : Fact) (a b c : Sink S)
+    → i < length facts → Puts held a b (trace_text names (take i facts))
+    → Puts held b c (text_of (moment_lines names i (get_or facts i d)))
+    → Puts held a c (trace_text names (take (i + 1) facts))
 trace_more held names facts i d a b c l p q =
     let before : List (List ℕ) = trace_lines names 0 (take i facts) in
     let k : 0 + i ≡ i = omega arith in

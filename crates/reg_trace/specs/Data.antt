@@ -60,11 +60,13 @@ data_in p notes facts looks w witness points = record {
 
 abbrev pub data_of : (Op → ℕ → Start) → Plan → Notes → List OpId → Option (List Point) → Data
 data_of start p notes witness points =
-    data_in p notes (moments_of start p.shape p.events) (looks_of start p.shape p.events) (whole start p.shape.processes p.shape.registers p.events) witness points
+    data_in p notes (moments_of start p.shape p.events) (looks_of start p.shape p.events)
+    (whole start p.shape.processes p.shape.registers p.events) witness points
 
 -- All events of a plan are accepted, and this is all that is told of their run, with these notes, its witness, and
 -- these points or none.
-pub record IsDataOf (start : Op → ℕ → Start) (p : Plan) (notes : Notes) (points : Option (List Point)) (d : Data) : Type 0 where
+pub record IsDataOf (start : Op → ℕ → Start) (p : Plan) (notes : Notes) (points : Option (List Point))
+    (d : Data) : Type 0 where
   pub accepted : (whole start p.shape.processes p.shape.registers p.events).accepted ≡ p.events
   pub witness : List OpId
   pub keyed : IsWitness (run_of p.shape.registers (whole start p.shape.processes p.shape.registers p.events)) witness

@@ -1,5 +1,6 @@
 -- What a drawing of a run joins.
-use Rattle.std.specs.Prelude.{ℕ, ◌≡◌, ◌+◌, ◌<◌, ◌==◌, ◌&&◌, Bool, false, cond, List, [], ◌∷◌, ◌++◌, map, All, Option, None, Some, position}
+use Rattle.std.specs.Prelude.{ℕ, ◌≡◌, ◌+◌, ◌<◌, ◌==◌, ◌&&◌, Bool, false, cond, List, [], ◌∷◌, ◌++◌, map, All, Option}
+use Rattle.std.specs.Prelude.{None, Some, position}
 use Rattle.std.specs.List.{list_any}
 use Rattle.reg_base.specs.declared.memory.OpId.{OpId}
 use Rattle.reg_checkers.specs.declared.entries.Entry.{Entry}
@@ -16,7 +17,9 @@ use Rattle.reg_trace.specs.Moments.{Fact}
 abbrev pub end_of : OpId → List Entry → Option End
 end_of id [] = None
 end_of id (Called at other op ∷ es) = end_of id es
-end_of id (Answered at other answer ∷ es) = cond ((other.process == id.process) && (other.number == id.number)) (Some (record { at = at; answer = answer })) (end_of id es)
+end_of id (Answered at other answer ∷ es) =
+    cond ((other.process == id.process) && (other.number == id.number)) (Some (record { at = at; answer = answer }))
+    (end_of id es)
 
 -- a bar for each call of the entries, up to its answer in the history h, or open
 abbrev pub bars_in : List Entry → List Entry → List Bar

@@ -42,11 +42,20 @@ kept_of values (suc r) = kept_of values r ++ kept_at values r
 
 -- what is told of the state of a process, in a run of this shape
 abbrev pub look_of : Extent → State → Look
-look_of shape s = record { peers = peers_of s shape.processes; held = s.held; copy = kept_of s.copy shape.registers; delivered = s.delivered; running = s.running }
+look_of shape s =
+    record {
+      peers = peers_of s shape.processes;
+      held = s.held;
+      copy = kept_of s.copy shape.registers;
+      delivered = s.delivered;
+      running = s.running;
+    }
 
 -- what is told of the state of an event's process, after the event in this world
 abbrev pub look_behind : (Op → ℕ → Start) → Made → Event → Look
-look_behind start w e = look_of (record { processes = w.processes; registers = w.registers }) ((run_in start (with_event start w e)).nodes (process_of e)).state
+look_behind start w e =
+    look_of (record { processes = w.processes; registers = w.registers })
+    ((run_in start (with_event start w e)).nodes (process_of e)).state
 
 -- the state after the first event in this world, and then those after the others in the world after it
 abbrev pub looks_from : (Op → ℕ → Start) → Made → List Event → List Look

@@ -1,5 +1,6 @@
 -- What the events of a run do, by the runs before and after each of them.
-use Rattle.std.specs.Prelude.{ℕ, zero, suc, ◌+◌, ◌==◌, ◌&&◌, not, nat_lt, cond, List, [], ◌∷◌, ◌++◌, length, map, take, drop, Option, None, Some, slice_get, slice_index}
+use Rattle.std.specs.Prelude.{ℕ, zero, suc, ◌+◌, ◌==◌, ◌&&◌, not, nat_lt, cond, List, [], ◌∷◌, ◌++◌, length, map, take}
+use Rattle.std.specs.Prelude.{drop, Option, None, Some, slice_get, slice_index}
 use Rattle.reg_base.specs.Shape.{Extent}
 use Rattle.reg_base.specs.Memory.{Memory, after, register_of}
 use Rattle.reg_base.specs.declared.memory.Op.{Op}
@@ -23,7 +24,9 @@ use Rattle.reg_trace.specs.Waits.{waits_of}
 -- these casts as a process with this copy delivers them, one after another: each with its register's value after it
 abbrev pub deliveries_of : List Delivered → Memory → List Delivery
 deliveries_of [] m = []
-deliveries_of (cast ∷ casts) m = record { cast = cast; value = slice_index (after cast.op m) (register_of cast.op) } ∷ deliveries_of casts (after cast.op m)
+deliveries_of (cast ∷ casts) m =
+    record { cast = cast; value = slice_index (after cast.op m) (register_of cast.op) }
+    ∷ deliveries_of casts (after cast.op m)
 
 -- What an event did: the process that it is of, the frame that a take took, the number that was expected where that is
 -- a data frame out of turn, the clock of the process after it, the casts that the process delivered, each with its
@@ -43,13 +46,15 @@ pub record Fact : Type 0 where
 -- the frame that an event takes: the one at that place of that wire
 abbrev pub frame_taken : ℕ → Nodes → Event → Option Frame
 frame_taken n w (Call p op) = None
-frame_taken n w (Take from to place) = cond (nat_lt from n && (nat_lt to n && not (from == to))) (slice_get ((w from).wire to) place) None
+frame_taken n w (Take from to place) =
+    cond (nat_lt from n && (nat_lt to n && not (from == to))) (slice_get ((w from).wire to) place) None
 frame_taken n w (Tick p) = None
 
 -- the number that the receiver of a take expects of the sender's next data frame
 abbrev pub expected_by : ℕ → Nodes → Event → Option ℕ
 expected_by n w (Call p op) = None
-expected_by n w (Take from to place) = cond (nat_lt from n && (nat_lt to n && not (from == to))) (Some (peer_at (w to).state from).expected) None
+expected_by n w (Take from to place) =
+    cond (nat_lt from n && (nat_lt to n && not (from == to))) (Some (peer_at (w to).state from).expected) None
 expected_by n w (Tick p) = None
 
 -- the number expected, where the frame is a data frame of another number: one that is dropped
@@ -66,7 +71,8 @@ placed to place (frame ∷ frames) = record { to = to; place = place; frame = fr
 -- for each wire
 abbrev pub puts_since : ℕ → (ℕ → ℕ) → (ℕ → List Frame) → ℕ → List Sent
 puts_since p lengths wire zero = []
-puts_since p lengths wire (suc to) = puts_since p lengths wire to ++ cond (to == p) [] (placed to (lengths to) (drop (lengths to) (wire to)))
+puts_since p lengths wire (suc to) =
+    puts_since p lengths wire to ++ cond (to == p) [] (placed to (lengths to) (drop (lengths to) (wire to)))
 
 -- what an event of process p did, by the worlds before and after it: of the one order of casts, p delivered those after
 -- the ones that it had delivered before, up to as many as it has delivered now
@@ -77,14 +83,18 @@ moment_between n e p reply before behind = record {
   frame = frame_taken n before.nodes e;
   expected = out_of_turn (frame_taken n before.nodes e) (expected_by n before.nodes e);
   clock = (behind.nodes p).state.clock;
-  delivered = deliveries_of (drop (before.nodes p).state.delivered (take (behind.nodes p).state.delivered (map delivered_of behind.order))) (before.nodes p).state.copy;
+  delivered = deliveries_of
+      (drop (before.nodes p).state.delivered (take (behind.nodes p).state.delivered (map delivered_of behind.order)))
+      (before.nodes p).state.copy;
   reply = reply;
   waits = waits_of n (behind.nodes p).state (behind.nodes p).state.held;
   sent = puts_since p (λ to. length ((before.nodes p).wire to)) (behind.nodes p).wire n;
 }
 
 abbrev pub moment_of : (Op → ℕ → Start) → Made → Event → Fact
-moment_of start w e = moment_between w.processes e (process_of e) (reply_in start w e) (run_in start w) (run_in start (with_event start w e))
+moment_of start w e =
+    moment_between w.processes e (process_of e) (reply_in start w e) (run_in start w)
+    (run_in start (with_event start w e))
 
 -- the moment of the first event in this world, and then those of the others in the world after it
 abbrev pub moments_from : (Op → ℕ → Start) → Made → List Event → List Fact

@@ -27,7 +27,8 @@ above_first words (note ∷ notes) = spaced words note ∷ notes
 -- before it.
 unfoldable pub notes_above : List (List ℕ) → List (List ℕ)
 notes_above [] = []
-notes_above (line ∷ lines) = if is_kept line then [] ∷ notes_above lines else above_first (comment_of line) (notes_above lines)
+notes_above (line ∷ lines) =
+    if is_kept line then [] ∷ notes_above lines else above_first (comment_of line) (notes_above lines)
 
 -- the comments of a schedule: its title, and a note for each event
 pub record Notes : Type 0 where

@@ -47,7 +47,9 @@ look_part names l =
 
 -- a data frame: its number, and its body's time and operation
 abbrev pub body_part : List (List ℕ) → ℕ → Body → List ℕ
-body_part names number (Cast time op) = (codes "[\"cast\"," ++ decimal number) ++ ((codes "," ++ decimal time) ++ (codes "," ++ (quoted (op_text names op) ++ codes "]")))
+body_part names number (Cast time op) =
+    (codes "[\"cast\"," ++ decimal number)
+    ++ ((codes "," ++ decimal time) ++ (codes "," ++ (quoted (op_text names op) ++ codes "]")))
 body_part names number (Ack time) = (codes "[\"ack\"," ++ decimal number) ++ ((codes "," ++ decimal time) ++ codes "]")
 
 -- a frame
@@ -62,12 +64,16 @@ taken_part names (Some frame) = frame_part names frame
 
 -- a frame that was put: for whom, its place on that wire, and the frame
 abbrev pub sent_part : List (List ℕ) → Sent → List ℕ
-sent_part names s = (codes "[" ++ decimal s.to) ++ ((codes "," ++ decimal s.place) ++ (codes "," ++ (frame_part names s.frame ++ codes "]")))
+sent_part names s =
+    (codes "[" ++ decimal s.to)
+    ++ ((codes "," ++ decimal s.place) ++ (codes "," ++ (frame_part names s.frame ++ codes "]")))
 
 -- a reply: its answer, and how many casts the process had delivered before it
 abbrev pub reply_part : Option Reply → List ℕ
 reply_part None = codes "null"
-reply_part (Some reply) = codes "{\"answer\":" ++ (quoted (answer_text reply.answer) ++ ((codes ",\"place\":" ++ decimal reply.place) ++ codes "}"))
+reply_part (Some reply) =
+    codes "{\"answer\":"
+    ++ (quoted (answer_text reply.answer) ++ ((codes ",\"place\":" ++ decimal reply.place) ++ codes "}"))
 
 -- an event, what it did, and its note
 abbrev pub moment_part : List (List ℕ) → Noted → List ℕ
@@ -84,7 +90,8 @@ moment_part names n =
 -- the answer of an operation, where it has one
 abbrev pub end_part : Option End → List ℕ
 end_part None = codes "null"
-end_part (Some end) = (codes "{\"at\":" ++ decimal end.at) ++ (codes ",\"text\":" ++ (quoted (answer_text end.answer) ++ codes "}"))
+end_part (Some end) =
+    (codes "{\"at\":" ++ decimal end.at) ++ (codes ",\"text\":" ++ (quoted (answer_text end.answer) ++ codes "}"))
 
 -- an operation, from its call to its answer
 abbrev pub bar_part : List (List ℕ) → Bar → List ℕ

@@ -9,7 +9,8 @@ is_plain c = (c == 10) || (nat_le 32 c && (nat_le c 126 && (not (c == 60) && (no
 
 -- a plain character other than a backslash, or the escape of a unit
 abbrev pub IsPiece : List ℕ → Type 0
-IsPiece piece = ((c : ℕ) × (is_plain c ≡ true) × (not (c == 92) ≡ true) × (piece ≡ c ∷ [])) ⊎ ((u : ℕ) × (piece ≡ escape_of u))
+IsPiece piece =
+    ((c : ℕ) × (is_plain c ≡ true) × (not (c == 92) ≡ true) × (piece ≡ c ∷ [])) ⊎ ((u : ℕ) × (piece ≡ escape_of u))
 
 -- All characters of the text are plain, and it is put together of such pieces: each backslash in it begins an escape.
 pub record IsPlainText (text : List ℕ) : Type 0 where

@@ -5,7 +5,9 @@ use Rattle.std.specs.Str.{chars}
 
 -- a printable character of ASCII that is none of ", \, <, > and &
 abbrev pub is_bare : ℕ → Bool
-is_bare u = nat_le 32 u && (nat_le u 126 && (not (u == 34) && (not (u == 92) && (not (u == 60) && (not (u == 62) && not (u == 38))))))
+is_bare u =
+    nat_le 32 u &&
+    (nat_le u 126 && (not (u == 34) && (not (u == 92) && (not (u == 60) && (not (u == 62) && not (u == 38))))))
 
 -- \u and four digits, of a unit of UTF-16
 abbrev pub escape_of : ℕ → List ℕ

@@ -29,12 +29,14 @@ cast_text names cast = stamp_text cast.stamp ++ (codes " " ++ op_text names cast
 
 -- a body that this process made: its time and its process are its stamp
 abbrev pub body_text : List (List ℕ) → ℕ → Body → List ℕ
-body_text names from (Cast time op) = codes "cast " ++ cast_text names (record { stamp = record { time = time; process = from }; op = op })
+body_text names from (Cast time op) =
+    codes "cast " ++ cast_text names (record { stamp = record { time = time; process = from }; op = op })
 body_text names from (Ack time) = codes "acknowledgement " ++ stamp_text (record { time = time; process = from })
 
 -- a frame that this process put
 abbrev pub frame_text : List (List ℕ) → ℕ → Frame → List ℕ
-frame_text names from (Numbered number body) = codes "data " ++ (decimal number ++ (codes ": " ++ body_text names from body))
+frame_text names from (Numbered number body) =
+    codes "data " ++ (decimal number ++ (codes ": " ++ body_text names from body))
 frame_text names from (Got count) = codes "count " ++ decimal count
 
 -- the line of a frame that was taken, where there is one
@@ -55,7 +57,8 @@ drops_lines (Some number) = (codes "    drops it: number " ++ (decimal number ++
 
 -- the line of what a copy has of an operation's register after its delivery, where the operation may change that
 abbrev pub copy_lines : List (List ℕ) → Delivery → List (List ℕ)
-copy_lines names d = cond (updates d.cast.op) ((codes "    copy " ++ valued names (register_of d.cast.op) d.value) ∷ []) []
+copy_lines names d =
+    cond (updates d.cast.op) ((codes "    copy " ++ valued names (register_of d.cast.op) d.value) ∷ []) []
 
 -- the line of a cast that was delivered
 abbrev pub delivers_line : List (List ℕ) → Delivered → List ℕ
@@ -68,15 +71,21 @@ delivers_lines names d = delivers_line names d.cast ∷ copy_lines names d
 -- the line of a reply, where there is one
 abbrev pub answers_lines : Option Reply → List (List ℕ)
 answers_lines None = []
-answers_lines (Some reply) = (codes "    answers " ++ (answer_text reply.answer ++ (codes ", place " ++ decimal reply.place))) ∷ []
+answers_lines (Some reply) =
+    (codes "    answers " ++ (answer_text reply.answer ++ (codes ", place " ++ decimal reply.place))) ∷ []
 
 -- the line of a cast that is held back: with the process that it waits for
 abbrev pub holds_line : Wait → List ℕ
-holds_line wait = codes "    holds " ++ (stamp_text wait.stamp ++ (codes ": p" ++ (decimal wait.unheard ++ codes " was not heard past it")))
+holds_line wait =
+    codes "    holds "
+    ++ (stamp_text wait.stamp ++ (codes ": p" ++ (decimal wait.unheard ++ codes " was not heard past it")))
 
 -- the line of a frame that this process put, with the event that takes it
 abbrev pub puts_line : List (List ℕ) → ℕ → Sent → List ℕ
-puts_line names from sent = codes "    puts " ++ (frame_text names from sent.frame ++ (codes " (" ++ (event_text names (Take from sent.to sent.place) ++ codes ")")))
+puts_line names from sent =
+    codes "    puts "
+    ++ (frame_text names from sent.frame
+    ++ (codes " (" ++ (event_text names (Take from sent.to sent.place) ++ codes ")")))
 
 -- the lines of an event: its number and its words; the frame that it took, and whether it was dropped; its process's
 -- clock after it; the casts delivered, each with the copy after it; the reply; the casts held back; and the frames put
@@ -86,7 +95,8 @@ moment_lines names number f =
     ∷ (takes_lines names f.event f.frame
     ++ (drops_lines f.expected
     ++ ((codes "    clock " ++ decimal f.clock)
-    ∷ (flat_map (delivers_lines names) f.delivered ++ (answers_lines f.reply ++ (map holds_line f.waits ++ map (puts_line names f.process) f.sent))))))
+    ∷ (flat_map (delivers_lines names) f.delivered
+    ++ (answers_lines f.reply ++ (map holds_line f.waits ++ map (puts_line names f.process) f.sent))))))
 
 -- the lines of these events, the first of which has this number
 abbrev pub trace_lines : List (List ℕ) → ℕ → List Fact → List (List ℕ)

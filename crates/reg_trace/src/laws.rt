@@ -14,7 +14,9 @@ ghost use Rattle.reg_trace.specs.Plain.{IsPlainText};
 
 /// Where all events of a run are accepted, each take has an arrow, from an earlier event that put its frame.
 pub fn takes_have_arrows()
-    ensures { (start : Op → ℕ → Start) (shape : Extent) (events : List Event) → (whole start shape.processes shape.registers events).accepted ≡ events → HaveArrows events (arrows_of (moments_of start shape events)) }
+    ensures { (start : Op → ℕ → Start) (shape : Extent) (events : List Event)
+        → (whole start shape.processes shape.registers events).accepted ≡ events
+        → HaveArrows events (arrows_of (moments_of start shape events)) }
 {}
 
 /// Where the names are names, the data is line feeds and printable characters of ASCII other than `<`, `>` and `&`,

@@ -1,11 +1,13 @@
 //! What each event of a run did.
-ghost use Rattle.std.specs.Prelude.{◌≡◌, ◌≢◌, ◌<◌, ◌++◌, ℕ, Some, false, drop, length, map, take, slice_index, IfErr, IfOk, OnOk};
+ghost use Rattle.std.specs.Prelude.{◌≡◌, ◌≢◌, ◌<◌, ◌++◌, ℕ, Some, false, drop, length, map, take, slice_index, IfErr};
+ghost use Rattle.std.specs.Prelude.{IfOk, OnOk};
 ghost use Rattle.reg_base.specs.Memory.{after, register_of};
 ghost use Rattle.reg_process.specs.Process.{peer_at};
 ghost use Rattle.reg_world.specs.Histories.{process_of};
 ghost use Rattle.reg_world.specs.World.{delivered_of};
 ghost use Rattle.reg_world.specs.Worlds.{Accepts, refusal, run_in};
-ghost use Rattle.reg_trace.specs.Moments.{deliveries_of, expected_by, frame_taken, moment_of, out_of_turn, placed, puts_since};
+ghost use Rattle.reg_trace.specs.Moments.{deliveries_of, expected_by, frame_taken, moment_of, out_of_turn, placed};
+ghost use Rattle.reg_trace.specs.Moments.{puts_since};
 
 use crate::waits::{Wait, waits_in};
 use reg_base::Registers;
@@ -62,7 +64,18 @@ impl<A: Allocator + Copy> Model for Moment<A> {
 
     ghost Value = { Fact };
 
-    ghost view = { λ m. record { event = m.event; process = m.process; frame = m.frame; expected = m.expected; clock = m.clock; delivered = m.delivered.items; reply = m.reply; waits = m.waits.items; sent = m.sent.items } };
+    ghost view = { λ m.
+        record {
+          event = m.event;
+          process = m.process;
+          frame = m.frame;
+          expected = m.expected;
+          clock = m.clock;
+          delivered = m.delivered.items;
+          reply = m.reply;
+          waits = m.waits.items;
+          sent = m.sent.items;
+        } };
 }
 
 /// The process that an event is of.
@@ -144,7 +157,8 @@ fn unexpected(frame: Option<Frame>, expected: Option<u64>) -> Option<u64>
 fn lengths<F: FrontEnd, A: Allocator + Copy>(world: &World<F, A>, process: u8) -> [usize; WIDTH]
     requires going { world.now.failed ≡ false }
     requires process { process < world.now.processes }
-    ensures { (to : ℕ) → to < world.now.processes → (to ≡ process → ⊥) → slice_index result to ≡ length (((run_in F.start world.now).nodes process).wire to) }
+    ensures { (to : ℕ) → to < world.now.processes → (to ≡ process → ⊥)
+        → slice_index result to ≡ length (((run_in F.start world.now).nodes process).wire to) }
 {
     let mut lengths = [0; WIDTH];
     for to in 0..world.shape().processes() as u8 {
@@ -180,7 +194,9 @@ fn sent_since<F: FrontEnd, A: Allocator + Copy>(
 ) -> Result<Vec<Sent, A>, AllocError>
     requires going { world.now.failed ≡ false }
     requires process { process < world.now.processes }
-    ensures { IfOk result (λ v. v.items ≡ puts_since process (slice_index lengths.now) ((run_in F.start world.now).nodes process).wire world.now.processes) }
+    ensures { IfOk result (λ v. v.items
+        ≡ puts_since process (slice_index lengths.now) ((run_in F.start world.now).nodes process).wire
+        world.now.processes) }
 {
     let mut sent = Vec::new(alloc);
     for to in 0..world.shape().processes() as u8 {
@@ -286,7 +302,8 @@ fn delivered_between<F: FrontEnd, A: Allocator + Copy>(
     first: u64,
     end: u64,
 ) -> Result<Vec<Delivery, A>, AllocError>
-    ensures { IfOk result (λ v. v.items ≡ deliveries_of (drop first (take end (map delivered_of (run_in F.start world.now).order))) copy) }
+    ensures { IfOk result (λ v. v.items
+        ≡ deliveries_of (drop first (take end (map delivered_of (run_in F.start world.now).order))) copy) }
 {
     let casts = casts_between(alloc, world, first, end)?;
     deliveries(alloc, copy, casts.as_slice())

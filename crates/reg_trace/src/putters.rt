@@ -25,7 +25,10 @@ fn note_puts<A: Allocator + Copy>(
     moment: &Moment<A>,
     puts: usize,
 ) -> Result<(), AllocError>
-    ensures { OnOk result ((q : AnyPlace) → get wire_place_cmp putters.new q ≡ cond (puts_at q moment.now) (Some puts) (get wire_place_cmp putters.old q)) }
+    ensures { OnOk result
+        ((q : AnyPlace)
+        → get wire_place_cmp putters.new q
+        ≡ cond (puts_at q moment.now) (Some puts) (get wire_place_cmp putters.old q)) }
 {
     for sent in &moment.sent {
         let at = WirePlace {

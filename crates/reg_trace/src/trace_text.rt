@@ -5,7 +5,9 @@ ghost use Rattle.std.specs.Fmt.{decimal};
 ghost use Rattle.reg_text.specs.Lines.{text_of, lines_by};
 ghost use Rattle.reg_text.specs.Writing.{Puts, IsWritten};
 ghost use Rattle.reg_inputs.specs.Schedules.{event_text};
-ghost use Rattle.reg_trace.specs.Traces.{answers_lines, body_text, cast_text, copy_lines, delivers_line, delivers_lines, drops_lines, holds_line, frame_text, moment_lines, puts_line, stamp_text, taken_lines, takes_lines, title_line, trace_text};
+ghost use Rattle.reg_trace.specs.Traces.{answers_lines, body_text, cast_text, copy_lines, delivers_line};
+ghost use Rattle.reg_trace.specs.Traces.{delivers_lines, drops_lines, holds_line, frame_text, moment_lines, puts_line};
+ghost use Rattle.reg_trace.specs.Traces.{stamp_text, taken_lines, takes_lines, title_line, trace_text};
 
 use crate::moments::{Delivery, Moment, Sent};
 use crate::waits::Wait;
@@ -88,7 +90,8 @@ fn put_head<A: Allocator + Copy, W: Write>(
     number: usize,
     event: Event,
 )
-    ensures { Puts W.contents sink.old sink.new ((decimal number ++ (codes " " ++ event_text names.now event)) ++ 10 ∷ []) }
+    ensures { Puts W.contents sink.old sink.new
+        ((decimal number ++ (codes " " ++ event_text names.now event)) ++ 10 ∷ []) }
 {
     put_number(sink, "", number as u64);
     sink.put(b" ");
@@ -323,7 +326,8 @@ pub fn write_trace<A: Allocator + Copy, W: Write>(
     names: &Names<A>,
     moments: &[Moment<A>],
 ) -> Result<(), Unwritten>
-    ensures { IsWritten result (W.contents writer.old) (W.contents writer.new) (title_line title.now ++ trace_text names.now moments.now) }
+    ensures { IsWritten result (W.contents writer.old) (W.contents writer.new)
+        (title_line title.now ++ trace_text names.now moments.now) }
 {
     let mut sink = Sink::new(writer);
     put_titled(&mut sink, title, names, moments);

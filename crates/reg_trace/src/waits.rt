@@ -100,7 +100,9 @@ pub(crate) fn waits_in<F: FrontEnd, A: Allocator + Copy>(
 ) -> Result<Vec<Wait, A>, AllocError>
     requires going { world.now.failed ≡ false }
     requires process { process < world.now.processes }
-    ensures { IfOk result (λ v. v.items ≡ waits_of world.now.processes ((run_in F.start world.now).nodes process).state ((run_in F.start world.now).nodes process).state.held) }
+    ensures { IfOk result (λ v. v.items
+        ≡ waits_of world.now.processes ((run_in F.start world.now).nodes process).state
+        ((run_in F.start world.now).nodes process).state.held) }
 {
     match world.process(process) {
         Some(found) => waits_at(alloc, found, process, world.shape().processes() as u8),

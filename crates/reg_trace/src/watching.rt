@@ -68,8 +68,12 @@ pub fn watch_run<F: FrontEnd, A: Allocator + Copy>(
 ) -> Result<Watched<F, A>, RunFault>
     ensures world { IfOk result (λ w. w.world ≡ after_events F.start shape events.now) }
     ensures told { IfOk result (λ w. w.moments.items ≡ moments_of F.start shape events.now) }
-    ensures refused { IfErr result (λ f. f.fault ≢ WorldFault.OutOfMemory → RunRefuses F.start shape events.now f.at f.fault) }
-    ensures accepted { MatchResult result (λ _. (run_in F.start (after_events F.start shape events.now)).accepted ≡ events.now) (λ f. f.fault ≢ WorldFault.OutOfMemory → (run_in F.start (after_events F.start shape (take f.at events.now))).accepted ≡ take f.at events.now) }
+    ensures refused { IfErr result (λ f. f.fault ≢ WorldFault.OutOfMemory
+        → RunRefuses F.start shape events.now f.at f.fault) }
+    ensures accepted { MatchResult result
+        (λ _. (run_in F.start (after_events F.start shape events.now)).accepted ≡ events.now)
+        (λ f. f.fault ≢ WorldFault.OutOfMemory
+        → (run_in F.start (after_events F.start shape (take f.at events.now))).accepted ≡ take f.at events.now) }
 {
     let fault = WorldFault::OutOfMemory;
     let Ok(mut world) = World::new(alloc, shape) else {

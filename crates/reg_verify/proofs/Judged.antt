@@ -1,5 +1,6 @@
 -- Reports in a row, one by one.
-use Rattle.std.proofs.Common.{ℕ, suc, ◌≡◌, ◌≢◌, ◌+◌, ◌<◌, ◌≤◌, ◌==◌, ◌⊎◌, inl, inr, ◌&&◌, Bool, true, false, List, [], ◌∷◌, ◌++◌, length, Option, Some, None, refl, sym, ap, ◌∙◌, subst, arith}
+use Rattle.std.proofs.Common.{ℕ, suc, ◌≡◌, ◌≢◌, ◌+◌, ◌<◌, ◌≤◌, ◌==◌, ◌⊎◌, inl, inr, ◌&&◌, Bool, true, false, List, []}
+use Rattle.std.proofs.Common.{◌∷◌, ◌++◌, length, Option, Some, None, refl, sym, ap, ◌∙◌, subst, arith}
 use Rattle.std.specs.Prelude.{MatchOption}
 use Rattle.std.proofs.lemmas.Bool.{cond_both}
 use Rattle.std.proofs.lemmas.Option.{slice_get_within}
@@ -20,13 +21,15 @@ use Rattle.reg_commands.specs.declared.verdicts.Reason.TheVariants as reasons
 use Rattle.reg_commands.specs.declared.verdicts.Verdict.{Verdict}
 use Rattle.reg_commands.specs.declared.verdicts.Verdict.TheVariants.{Yes, No}
 use Rattle.reg_commands.specs.declared.verdicts.Verdicts.{Verdicts}
-use Rattle.reg_commands.specs.Verdicts.{AllPointsSay, Judges, PointsSay, SerialSays, all_yes, fault_of, is_yes, is_yes_or_none}
+use Rattle.reg_commands.specs.Verdicts.{AllPointsSay, Judges, PointsSay, SerialSays, all_yes, fault_of, is_yes}
+use Rattle.reg_commands.specs.Verdicts.{is_yes_or_none}
 use Rattle.reg_node.specs.Openings.{opening_of, writes_from}
 use Rattle.reg_verify.specs.declared.stories.breaches.Breach.{Breach}
 use Rattle.reg_verify.specs.declared.stories.breaches.Breach.TheVariants.{Order, Points, Other}
 use Rattle.reg_verify.specs.declared.stories.breaches.ChapterPart.{ChapterPart}
 use Rattle.reg_verify.specs.declared.stories.breaches.ChapterPart.TheVariants.{Front, Processes, Registers}
-use Rattle.reg_verify.specs.Stories.{AreAlike, AreStory, DiffersFirst, EndsWith, Follows, GoesOn, IsBreach, IsBreachBehind, IsOpened, IsRefused, IsUnopened, Passes, is_last}
+use Rattle.reg_verify.specs.Stories.{AreAlike, AreStory, DiffersFirst, EndsWith, Follows, GoesOn, IsBreach}
+use Rattle.reg_verify.specs.Stories.{IsBreachBehind, IsOpened, IsRefused, IsUnopened, Passes, is_last}
 
 -- One report
 
@@ -35,7 +38,8 @@ both_true true b e = (refl, e)
 both_true false b e = absurd (cc)
 
 -- the order of a report that passes is serial
-pub serial_of : (r : Contents) (v : Verdicts) → Judges r v → all_yes v ≡ true → IsSerial r.shape.registers r.entries r.order
+pub serial_of : (r : Contents) (v : Verdicts) → Judges r v → all_yes v ≡ true
+    → IsSerial r.shape.registers r.entries r.order
 serial_of r v judged agreed = by v.serial refl
   where
     by : (s : Verdict) → v.serial ≡ s → IsSerial r.shape.registers r.entries r.order
@@ -45,7 +49,8 @@ serial_of r v judged agreed = by v.serial refl
         absurd (cc)
 
 -- and its points are a point order
-points_of : (r : Contents) (v : Verdicts) (ps : List Point) → Judges r v → all_yes v ≡ true → r.points ≡ Some ps → IsPointOrder r.shape.registers r.entries ps
+points_of : (r : Contents) (v : Verdicts) (ps : List Point) → Judges r v → all_yes v ≡ true → r.points ≡ Some ps
+    → IsPointOrder r.shape.registers r.entries ps
 points_of r v ps judged agreed is = by v.points refl
   where
     says : AllPointsSay r (Some ps) v.points
@@ -68,7 +73,8 @@ not_memory (reasons.Answer place) e = absurd (cc)
 not_memory (reasons.Outside place) e = absurd (cc)
 not_memory (reasons.Falling place) e = absurd (cc)
 
-pub refused_order : (r : Contents) (v : Verdicts) (reason : Reason) → IsReport r → Judges r v → v.serial ≡ No reason → IsRefused r (Order reason)
+pub refused_order : (r : Contents) (v : Verdicts) (reason : Reason) → IsReport r → Judges r v → v.serial ≡ No reason
+    → IsRefused r (Order reason)
 refused_order r v reason good judged is = record {
   good = good;
   verdicts = v;
@@ -77,7 +83,8 @@ refused_order r v reason good judged is = record {
   never = λ p. fault_not_serial r.shape.processes r.shape.registers r.entries good.history r.order (fault_of reason) (not_memory reason) (subst (SerialSays r) is judged.0) (serial_of r p.verdicts p.judged p.yes);
 }
 
-pub refused_points : (r : Contents) (v : Verdicts) (reason : Reason) → IsReport r → Judges r v → v.serial ≡ Yes → v.points ≡ Some (No reason) → IsRefused r (Points reason)
+pub refused_points : (r : Contents) (v : Verdicts) (reason : Reason) → IsReport r → Judges r v → v.serial ≡ Yes
+    → v.points ≡ Some (No reason) → IsRefused r (Points reason)
 refused_points r v reason good judged serial is = record {
   good = good;
   verdicts = v;
@@ -92,7 +99,8 @@ refused_points r v reason good judged serial is = record {
         let says : PointsSay r ps (No reason) = subst (λ (o : Option (List Point)). AllPointsSay r o (Some (No reason))) e (subst (AllPointsSay r r.points) is judged.1) in
         fault_not_points r.shape.processes r.shape.registers r.entries good.history ps (fault_of reason) (not_memory reason) says (points_of r p.verdicts ps p.judged p.yes e)
 
-pub passes : (r : Contents) (v : Verdicts) → IsReport r → Judges r v → v.serial ≡ Yes → is_yes_or_none v.points ≡ true → Passes r
+pub passes : (r : Contents) (v : Verdicts) → IsReport r → Judges r v → v.serial ≡ Yes → is_yes_or_none v.points ≡ true
+    → Passes r
 passes r v good judged serial points =
     let both : all_yes v ≡ true = ap (λ (s : Verdict). is_yes s && is_yes_or_none v.points) serial ∙ points in
     record { good = good; verdicts = v; judged = judged; yes = both }
@@ -121,17 +129,22 @@ few_in_opening values = few_writes 0 values
 
 -- A report behind another one
 
-pub differs_behind : (last : Bool) (a b : Contents) (part : ChapterPart) → DiffersFirst a b part → IsBreachBehind last a b (Other part)
-differs_behind last a b part differs = record { says = inl (part, refl, differs); never = λ f. not part differs f.alike }
+pub differs_behind : (last : Bool) (a b : Contents) (part : ChapterPart) → DiffersFirst a b part
+    → IsBreachBehind last a b (Other part)
+differs_behind last a b part differs =
+    record { says = inl (part, refl, differs); never = λ f. not part differs f.alike }
   where
     not : (p : ChapterPart) → DiffersFirst a b p → AreAlike a b → ⊥
     not Front d alike = d alike.front
     not Processes d alike = d.1 alike.processes
     not Registers d alike = d.2 alike.names
 
-pub behind_so : (last : Bool) (a b : Contents) (values : List ℕ) (writes : List Op) (o : Option Breach) → IsReport a → AreAlike a b → EndsWith a values → writes ≡ opening_of values → MatchOption o (IsOpened last writes b) (λ breach. IsUnopened writes b breach × ¬ IsOpened last writes b)
+pub behind_so : (last : Bool) (a b : Contents) (values : List ℕ) (writes : List Op) (o : Option Breach) → IsReport a
+    → AreAlike a b → EndsWith a values → writes ≡ opening_of values
+    → MatchOption o (IsOpened last writes b) (λ breach. IsUnopened writes b breach × ¬ IsOpened last writes b)
     → MatchOption o (Follows last a b) (λ breach. IsBreachBehind last a b breach)
-behind_so last a b values writes None good alike ends is m = record { alike = alike; values = values; ends = ends; opened = subst (λ (w : List Op). IsOpened last w b) is m }
+behind_so last a b values writes None good alike ends is m =
+    record { alike = alike; values = values; ends = ends; opened = subst (λ (w : List Op). IsOpened last w b) is m }
 behind_so last a b values writes (Some breach) good alike ends is m = record {
   says = inr (record { alike = alike; values = values; ends = ends; first = subst (λ (w : List Op). IsUnopened w b breach) is m.0 });
   never = λ f. m.1 (subst (λ (w : List Op). IsOpened last w b) (sym is) (subst (λ (v : List ℕ). IsOpened last (opening_of v) b) (same_values a f.values values good f.ends ends) f.opened));
@@ -139,13 +152,17 @@ behind_so last a b values writes (Some breach) good alike ends is m = record {
 
 -- All reports
 
-pub refused_at : (reports : List Contents) (place : ℕ) (r : Contents) (breach : Breach) → IsAt reports place r → IsRefused r breach → IsBreach reports place breach
+pub refused_at : (reports : List Contents) (place : ℕ) (r : Contents) (breach : Breach) → IsAt reports place r
+    → IsRefused r breach → IsBreach reports place breach
 refused_at reports place r breach at refused = record { report = r; at = at; wrong = inl refused }
 
-pub goes_first : (reports : List Contents) (place : ℕ) (r : Contents) → IsAt reports place r → Passes r → place ≡ 0 → GoesOn reports place
-goes_first reports place r at passed first = record { report = r; at = at; accepted = passed; follows = λ k a e there. absurd (omega (arith, first, e)) }
+pub goes_first : (reports : List Contents) (place : ℕ) (r : Contents) → IsAt reports place r → Passes r → place ≡ 0
+    → GoesOn reports place
+goes_first reports place r at passed first =
+    record { report = r; at = at; accepted = passed; follows = λ k a e there. absurd (omega (arith, first, e)) }
 
-pub goes_so : (reports : List Contents) (place k : ℕ) (a r : Contents) (last : Bool) (o : Option Breach) → IsAt reports place r → Passes r → place ≡ k + 1 → IsAt reports k a → last ≡ is_last reports place
+pub goes_so : (reports : List Contents) (place k : ℕ) (a r : Contents) (last : Bool) (o : Option Breach)
+    → IsAt reports place r → Passes r → place ≡ k + 1 → IsAt reports k a → last ≡ is_last reports place
     → MatchOption o (Follows last a r) (λ breach. IsBreachBehind last a r breach) → MatchOption o (GoesOn reports place) (λ breach. IsBreach reports place breach)
 goes_so reports place k a r last None at passed e before is m = record {
   report = r;
@@ -162,7 +179,8 @@ goes_so reports place k a r last (Some breach) at passed e before is m = record 
   wrong = inr (passed, (k, a, e, before, subst (λ (l : Bool). IsBreachBehind l a r breach) is m));
 }
 
-pub never_story : (reports : List Contents) (place : ℕ) (breach : Breach) → IsBreach reports place breach → ¬ AreStory reports
+pub never_story : (reports : List Contents) (place : ℕ) (breach : Breach) → IsBreach reports place breach
+    → ¬ AreStory reports
 never_story reports place breach b s = by b.wrong
   where
     by : IsRefused b.report breach ⊎ (Passes b.report × ((k : ℕ) × (a : Contents) × (place ≡ k + 1) × IsAt reports k a × IsBreachBehind (is_last reports place) a b.report breach)) → ⊥
@@ -171,7 +189,8 @@ never_story reports place breach b s = by b.wrong
         let at = subst (λ (i : ℕ). IsAt reports i b.report) e b.at in
         behind.never (subst (λ (i : ℕ). Follows (is_last reports i) a b.report) (sym e) (s.follows k a b.report there at))
 
-pub all_go_on : (reports : List Contents) (n : ℕ) → 0 < length reports → length reports ≤ n → ((k : ℕ) → k < n → GoesOn reports k) → AreStory reports
+pub all_go_on : (reports : List Contents) (n : ℕ) → 0 < length reports → length reports ≤ n
+    → ((k : ℕ) → k < n → GoesOn reports k) → AreStory reports
 all_go_on reports n some all each = record {
   some = some;
   accepted = λ k r at.
@@ -184,5 +203,7 @@ all_go_on reports n some all each = record {
       subst (λ (x : Contents). Follows (is_last reports (k + 1)) a x) (same_at reports (k + 1) g.report b g.at at_b) (g.follows k a refl at_a);
 }
 
-pub passed_before : (reports : List Contents) (n : ℕ) → ((k : ℕ) → k < n → GoesOn reports k) → (k : ℕ) (r : Contents) → k < n → IsAt reports k r → Passes r
-passed_before reports n each k r lt at = let g = each k lt in subst Passes (same_at reports k g.report r g.at at) g.accepted
+pub passed_before : (reports : List Contents) (n : ℕ) → ((k : ℕ) → k < n → GoesOn reports k) → (k : ℕ) (r : Contents)
+    → k < n → IsAt reports k r → Passes r
+passed_before reports n each k r lt at =
+    let g = each k lt in subst Passes (same_at reports k g.report r g.at at) g.accepted

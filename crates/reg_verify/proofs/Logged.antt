@@ -1,5 +1,7 @@
 -- The logs of a record's steps.
-use Rattle.std.proofs.Common.{ℕ, zero, suc, ◌≡◌, ◌+◌, ◌<◌, ◌≤◌, ◌==◌, ◌⊎◌, inl, inr, Bool, true, false, cond, List, [], ◌∷◌, ◌++◌, length, map, take, get_or, set, Vec, Some, refl, sym, ap, ◌∙◌, subst, arith, append-nil}
+use Rattle.std.proofs.Common.{ℕ, zero, suc, ◌≡◌, ◌+◌, ◌<◌, ◌≤◌, ◌==◌, ◌⊎◌, inl, inr, Bool, true, false, cond, List, []}
+use Rattle.std.proofs.Common.{◌∷◌, ◌++◌, length, map, take, get_or, set, Vec, Some, refl, sym, ap, ◌∙◌, subst, arith}
+use Rattle.std.proofs.Common.{append-nil}
 use Rattle.std.specs.Prelude.{slice_get, option_and_then}
 use Rattle.std.specs.List.{filter}
 use Rattle.std.proofs.lemmas.Bool.{cases_eq, cases_order, ne_eqb}
@@ -24,7 +26,8 @@ use Rattle.reg_verify.specs.declared.faults.VerifyFault.TheVariants.{Command, Un
 use Rattle.reg_commands.specs.declared.faults.Fault.TheVariants.{OutOfMemory}
 
 -- as many of the processes are p as steps are its
-as_long : (p : ℕ) (steps : List Recorded) → length (filter (λ q. q == p) (order_of steps)) ≡ length (filter (λ (r : Recorded). r.process == p) steps)
+as_long : (p : ℕ) (steps : List Recorded)
+    → length (filter (λ q. q == p) (order_of steps)) ≡ length (filter (λ (r : Recorded). r.process == p) steps)
 as_long p [] = refl
 as_long p (s ∷ steps) =
     elim (s.process == p) as (λ t. length (cond t (s.process ∷ filter (λ q. q == p) (order_of steps)) (filter (λ q. q == p) (order_of steps))) ≡ length (cond t (s ∷ filter (λ (r : Recorded). r.process == p) steps) (filter (λ (r : Recorded). r.process == p) steps))) [
@@ -37,15 +40,20 @@ pub as_many : (p : ℕ) (steps : List Recorded) → length (log_of p steps) ≡ 
 as_many p steps = length-map (filter (λ (r : Recorded). r.process == p) steps) (λ r. r.entry) ∙ sym (as_long p steps) ∙ length-filter (λ q. q == p) (order_of steps)
 
 -- each entry is mentioned
-pub nothing_left : (n : ℕ) (steps : List Recorded) (logs : List (List LogEntry)) → AreLogs n steps logs → NothingLeft (order_of steps) logs
+pub nothing_left : (n : ℕ) (steps : List Recorded) (logs : List (List LogEntry)) → AreLogs n steps logs
+    → NothingLeft (order_of steps) logs
 nothing_left n steps logs split p within =
     let lt : p < n = let m = split.count in omega (arith, within, m) in
     let many = as_many p steps in
     ap (λ o. option_and_then (λ log. slice_get log (mentions p (order_of steps))) o) (split.each p lt) ∙ slice_get_past (log_of p steps) (mentions p (order_of steps)) (omega (arith, many))
 
 -- so the first place that can't be played is that of a step
-pub fails_first : (start : Op → ℕ → Start) (shape : Extent) (steps : List Recorded) (logs : List (List LogEntry)) (place : ℕ) → AreLogs shape.processes steps logs → FailsAt start shape (order_of steps) logs place → FailsFirst start shape steps place
-fails_first start shape steps logs place split fails = record { logs = logs; split = split; within = within (cases_order place (length steps)); fails = fails }
+pub fails_first : (start : Op → ℕ → Start) (shape : Extent) (steps : List Recorded) (logs : List (List LogEntry))
+    (place : ℕ)
+    → AreLogs shape.processes steps logs → FailsAt start shape (order_of steps) logs place
+    → FailsFirst start shape steps place
+fails_first start shape steps logs place split fails =
+    record { logs = logs; split = split; within = within (cases_order place (length steps)); fails = fails }
   where
     same : length (order_of steps) ≡ length steps
     same = length-map steps (λ r. r.process)
@@ -56,9 +64,12 @@ fails_first start shape steps logs place split fails = record { logs = logs; spl
     within (inr (inr gt)) = let le = fails.within in absurd (omega (arith, le, same, gt))
 
 -- what is blamed where these processes and logs are no run
-pub blames : (start : Op → ℕ → Start) (shape : Extent) (steps : List Recorded) (order : List ℕ) (logs : List (List LogEntry)) (f : VerifyFault) → AreLogs shape.processes steps logs → order ≡ order_of steps
+pub blames : (start : Op → ℕ → Start) (shape : Extent) (steps : List Recorded) (order : List ℕ)
+    (logs : List (List LogEntry)) (f : VerifyFault)
+    → AreLogs shape.processes steps logs → order ≡ order_of steps
     → (f ≡ Command OutOfMemory) ⊎ ((place : ℕ) × (f ≡ Unfaithful (line_at place)) × FailsAt start shape order logs place) → BlamesSteps start shape steps f
-blames start shape steps order logs f split same (inl e) = subst (λ (g : VerifyFault). BlamesSteps start shape steps g) (sym e) refl
+blames start shape steps order logs f split same (inl e) =
+    subst (λ (g : VerifyFault). BlamesSteps start shape steps g) (sym e) refl
 blames start shape steps order logs f split same (inr (place, e, fails)) =
     let first = fails_first start shape steps logs place split (subst (λ (o : List ℕ). FailsAt start shape o logs place) same fails) in
     subst (λ (g : VerifyFault). BlamesSteps start shape steps g) (sym e) (place, refl, first)
@@ -78,7 +89,8 @@ module _ {A : Type 0} where
   item_set (r ∷ rows) (suc k) v = ap (λ l. r.items ∷ l) (item_set rows k v)
 
   -- the log of one process grows
-  pub added : (rows : List (Vec LogEntry A)) (p : ℕ) (entry : LogEntry) (row new : Vec LogEntry A) → p < length rows → slice_get rows p ≡ Some row → new.items ≡ row.items ++ entry ∷ []
+  pub added : (rows : List (Vec LogEntry A)) (p : ℕ) (entry : LogEntry) (row new : Vec LogEntry A) → p < length rows
+      → slice_get rows p ≡ Some row → new.items ≡ row.items ++ entry ∷ []
       → IsAdded (map (λ l. l.items) rows) (map (λ l. l.items) (set rows p new)) p entry
   added rows p entry row new within here grown =
       let olds : List (List LogEntry) = map (λ (l : Vec LogEntry A). l.items) rows in
@@ -111,14 +123,17 @@ one_more_log n logs split = record {
       | inr (inr more) ↦ absurd (omega (arith, lt, more))
     ]
 
-pub one_more_step : (p : ℕ) (steps : List Recorded) (i : ℕ) (d : Recorded) (t : Bool) → i < length steps → ((get_or steps i d).process == p) ≡ t → log_of p (take (i + 1) steps) ≡ log_of p (take i steps) ++ map (λ r. r.entry) (cond t (get_or steps i d ∷ []) [])
+pub one_more_step : (p : ℕ) (steps : List Recorded) (i : ℕ) (d : Recorded) (t : Bool) → i < length steps
+    → ((get_or steps i d).process == p) ≡ t
+    → log_of p (take (i + 1) steps) ≡ log_of p (take i steps) ++ map (λ r. r.entry) (cond t (get_or steps i d ∷ []) [])
 one_more_step p steps i d t lt is =
     ap (map (λ r. r.entry)) (filter_more (λ (r : Recorded). r.process == p) steps i d lt) ∙ map-append (λ r. r.entry) (filter (λ r. r.process == p) (take i steps)) (cond ((get_or steps i d).process == p) (get_or steps i d ∷ []) [])
     ∙ ap (λ b. log_of p (take i steps) ++ map (λ r. r.entry) (cond b (get_or steps i d ∷ []) [])) is
 
 module _ (n : ℕ) (steps : List Recorded) (i : ℕ) (d : Recorded) (logs : List (List LogEntry)) (lt : i < length steps) (split : AreLogs n (take i steps) logs) where
   -- the step of a process that has a log
-  pub logs_more : (new : List (List LogEntry)) → length new ≡ length logs → IsAdded logs new (get_or steps i d).process (get_or steps i d).entry → AreLogs n (take (i + 1) steps) new
+  pub logs_more : (new : List (List LogEntry)) → length new ≡ length logs
+      → IsAdded logs new (get_or steps i d).process (get_or steps i d).entry → AreLogs n (take (i + 1) steps) new
   logs_more new same grown = record {
     count = same ∙ split.count;
     each = λ p less. elim (eqb_tells (get_or steps i d).process p) [

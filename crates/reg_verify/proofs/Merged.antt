@@ -1,5 +1,7 @@
 -- The steps of a record in an order that is a run.
-use Rattle.std.proofs.Common.{ℕ, zero, suc, ◌≡◌, ◌+◌, ◌<◌, ◌≤◌, ◌==◌, ◌⊎◌, inl, inr, Bool, true, false, cond, List, [], ◌∷◌, ◌++◌, length, map, take, drop, get_or, Option, Some, None, refl, sym, ap, ap₂, ◌∙◌, subst, arith, append-nil}
+use Rattle.std.proofs.Common.{ℕ, zero, suc, ◌≡◌, ◌+◌, ◌<◌, ◌≤◌, ◌==◌, ◌⊎◌, inl, inr, Bool, true, false, cond, List, []}
+use Rattle.std.proofs.Common.{◌∷◌, ◌++◌, length, map, take, drop, get_or, Option, Some, None, refl, sym, ap, ap₂, ◌∙◌}
+use Rattle.std.proofs.Common.{subst, arith, append-nil}
 use Rattle.std.specs.Prelude.{slice_get, option_and_then}
 use Rattle.std.specs.List.{filter}
 use Rattle.std.proofs.Math.Seq.{take-length}
@@ -36,15 +38,21 @@ take_all (x ∷ xs) zero none = absurd cc
 take_all (x ∷ xs) (suc k) none = ap (λ l. x ∷ l) (take_all xs k none)
 
 -- the log of p behind one more step, which is of p or of another process
-log_head : (p : ℕ) (s : Recorded) (steps : List Recorded) (b : Bool) → (s.process == p) ≡ b → log_of p (s ∷ steps) ≡ map (λ r. r.entry) (cond b (s ∷ filter (λ (r : Recorded). r.process == p) steps) (filter (λ (r : Recorded). r.process == p) steps))
+log_head : (p : ℕ) (s : Recorded) (steps : List Recorded) (b : Bool) → (s.process == p) ≡ b
+    → log_of p (s ∷ steps)
+    ≡ map (λ r. r.entry)
+    (cond b (s ∷ filter (λ (r : Recorded). r.process == p) steps) (filter (λ (r : Recorded). r.process == p) steps))
 log_head p s steps b is = ap (λ (t : Bool). map (λ (r : Recorded). r.entry) (cond t (s ∷ filter (λ (r : Recorded). r.process == p) steps) (filter (λ (r : Recorded). r.process == p) steps))) is
 
-none_of : (p : ℕ) (steps : List Recorded) → ((k : ℕ) (r : Recorded) → IsAt steps k r → r.process ≡ p → ⊥) → log_of p steps ≡ []
+none_of : (p : ℕ) (steps : List Recorded) → ((k : ℕ) (r : Recorded) → IsAt steps k r → r.process ≡ p → ⊥)
+    → log_of p steps ≡ []
 none_of p [] off = refl
-none_of p (s ∷ steps) off = log_head p s steps false (ne_eqb s.process p (off 0 s refl)) ∙ none_of p steps (λ k r at. off (suc k) r at)
+none_of p (s ∷ steps) off =
+    log_head p s steps false (ne_eqb s.process p (off 0 s refl)) ∙ none_of p steps (λ k r at. off (suc k) r at)
 
 -- a step of p has its entry in the log of p, and an entry there is that of a step of p
-in_log : (p : ℕ) (steps : List Recorded) (k : ℕ) (r : Recorded) → IsAt steps k r → r.process ≡ p → (j : ℕ) × (slice_get (log_of p steps) j ≡ Some r.entry)
+in_log : (p : ℕ) (steps : List Recorded) (k : ℕ) (r : Recorded) → IsAt steps k r → r.process ≡ p
+    → (j : ℕ) × (slice_get (log_of p steps) j ≡ Some r.entry)
 in_log p [] k r at is = absurd cc
 in_log p (s ∷ steps) zero r at is =
     let same : s ≡ r = same_Some s r at in
@@ -60,7 +68,8 @@ in_log p (s ∷ steps) (suc k) r at is = by (in_log p steps k r at is) (eqb_tell
     by (j, there) (inl a) = (suc j, ap (λ (l : List LogEntry). slice_get l (suc j)) (log_head p s steps true a.0) ∙ there)
     by (j, there) (inr b) = (j, ap (λ (l : List LogEntry). slice_get l j) (log_head p s steps false b.0) ∙ there)
 
-of_log : (p : ℕ) (steps : List Recorded) (j : ℕ) (entry : LogEntry) → slice_get (log_of p steps) j ≡ Some entry → (k : ℕ) × (r : Recorded) × IsAt steps k r × (r.process ≡ p) × (r.entry ≡ entry)
+of_log : (p : ℕ) (steps : List Recorded) (j : ℕ) (entry : LogEntry) → slice_get (log_of p steps) j ≡ Some entry
+    → (k : ℕ) × (r : Recorded) × IsAt steps k r × (r.process ≡ p) × (r.entry ≡ entry)
 of_log p [] j entry is = absurd cc
 of_log p (s ∷ steps) j entry is = by j (λ (i : ℕ) (h : slice_get (log_of p steps) i ≡ Some entry). of_log p steps i entry h) is (eqb_tells s.process p)
   where
@@ -74,7 +83,8 @@ of_log p (s ∷ steps) j entry is = by j (λ (i : ℕ) (h : slice_get (log_of p 
     by i rec h (inr b) = let f = rec i (sym (ap (λ (l : List LogEntry). slice_get l i) (log_head p s steps false b.0)) ∙ h) in (suc f.0, f.1, f.2, f.3, f.4)
 
 -- steps in another order fit where they did
-pub fits_ordered : (names : List (List ℕ)) (steps ordered : List Recorded) → IsOrdering steps ordered → AllFit (λ _ r. RecordedFits names r) steps → AllFit (λ _ r. RecordedFits names r) ordered
+pub fits_ordered : (names : List (List ℕ)) (steps ordered : List Recorded) → IsOrdering steps ordered
+    → AllFit (λ _ r. RecordedFits names r) steps → AllFit (λ _ r. RecordedFits names r) ordered
 fits_ordered names steps ordered same fits k r at =
     let i = in_log r.process ordered k r at refl in
     let f = of_log r.process steps i.0 r.entry (sym (ap (λ (l : List LogEntry). slice_get l i.0) (same r.process)) ∙ i.1) in
@@ -134,7 +144,10 @@ module _ (logs : List (List LogEntry)) (order : List ℕ) (steps : List Recorded
         ∙ (ap (λ (j : ℕ). take (mentions p (take j order)) log) same ∙ (ap (λ (o : List ℕ). take (mentions p o) log) (take-length order) ∙ take_all log (mentions p order) end)))
 
 -- what is laid out by an order of all entries that is a run is an order of the steps that is one
-pub orders : (start : Op → ℕ → Start) (shape : Extent) (steps ordered : List Recorded) (logs : List (List LogEntry)) (order : List ℕ) (w : Made) → AreLogs shape.processes steps logs → AllWithin shape.processes steps → AreLaidOut order logs ordered → IsFaithful start shape order logs w
+pub orders : (start : Op → ℕ → Start) (shape : Extent) (steps ordered : List Recorded) (logs : List (List LogEntry))
+    (order : List ℕ) (w : Made)
+    → AreLogs shape.processes steps logs → AllWithin shape.processes steps → AreLaidOut order logs ordered
+    → IsFaithful start shape order logs w
     → Orders start shape steps ordered
 orders start shape steps ordered logs order w split within laid faithful = record {
   same = λ p. by p (cases_lt p shape.processes);
@@ -155,22 +168,26 @@ orders start shape steps ordered logs order w split within laid faithful = recor
         none_of p ordered (λ k r at e. let lt = within_logs logs order ordered laid k r at in let c = split.count in absurd (omega (arith, lt, c, le, e)))
         ∙ sym (none_of p steps (λ k r at e. let lt = within k r at in absurd (omega (arith, lt, le, e))))
 
-turn_at : (start : Op → ℕ → Start) (shape : Extent) (order : List ℕ) (logs : List (List LogEntry)) (k : ℕ) (w : Made) → Plays start shape order logs k w → (j : ℕ) → j < k → (old : Made) × (new : Made) × Turn start order logs j old new
+turn_at : (start : Op → ℕ → Start) (shape : Extent) (order : List ℕ) (logs : List (List LogEntry)) (k : ℕ) (w : Made)
+    → Plays start shape order logs k w → (j : ℕ) → j < k → (old : Made) × (new : Made) × Turn start order logs j old new
 turn_at start shape order logs zero w plays j lt = absurd (omega arith)
-turn_at start shape order logs (suc k) w (before, plays, t) j lt = by (λ (h : j < k). turn_at start shape order logs k before plays j h) (cases_eq j k)
+turn_at start shape order logs (suc k) w (before, plays, t) j lt =
+    by (λ (h : j < k). turn_at start shape order logs k before plays j h) (cases_eq j k)
   where
     by : (j < k → (old : Made) × (new : Made) × Turn start order logs j old new) → (j ≡ k) ⊎ (j ≡ k → ⊥) → (old : Made) × (new : Made) × Turn start order logs j old new
     by rec (inl e) = (before, w, subst (λ (i : ℕ). Turn start order logs i before w) (sym e) t)
     by rec (inr off) = rec (omega arith)
 
 -- each mention of a run stands for an entry
-pub all_stand : (start : Op → ℕ → Start) (shape : Extent) (order : List ℕ) (logs : List (List LogEntry)) (w : Made) → IsFaithful start shape order logs w → AllStand order logs
+pub all_stand : (start : Op → ℕ → Start) (shape : Extent) (order : List ℕ) (logs : List (List LogEntry)) (w : Made)
+    → IsFaithful start shape order logs w → AllStand order logs
 all_stand start shape order logs w faithful k p at =
     let t = turn_at start shape order logs (length order) w faithful.plays k (slice_get_within order k p at) in
     let same : t.2.process ≡ p = same_Some t.2.process p (sym t.2.mention ∙ at) in
     (t.2.entry, subst (λ (q : ℕ). entry_of logs q (mentions q (take k order)) ≡ Some t.2.entry) same t.2.stands)
 
-pub same_lists : {X : Type 0} (xs ys : List X) → ((k : ℕ) → k < length xs → slice_get xs k ≡ slice_get ys k) → length xs ≡ length ys → xs ≡ ys
+pub same_lists : {X : Type 0} (xs ys : List X) → ((k : ℕ) → k < length xs → slice_get xs k ≡ slice_get ys k)
+    → length xs ≡ length ys → xs ≡ ys
 same_lists [] [] each e = refl
 same_lists [] (y ∷ ys) each e = absurd (omega arith)
 same_lists (x ∷ xs) [] each e = absurd (omega arith)
@@ -183,9 +200,12 @@ mentions_within : (p k : ℕ) (xs : List ℕ) → mentions p (take k xs) ≤ men
 mentions_within p k xs = let sum : mentions p (take k xs) + mentions p (drop k xs) ≡ mentions p xs = sum_by-take-drop (λ q. cond (q == p) 1 0) xs k in omega (arith, sum)
 
 -- where a step is in no run of first steps, no order of all steps is a run
-pub stuck : (start : Op → ℕ → Start) (shape : Extent) (steps : List Recorded) (logs : List (List LogEntry)) (place : ℕ) (step : Recorded) → AreLogs shape.processes steps logs → IsAt steps place step
+pub stuck : (start : Op → ℕ → Start) (shape : Extent) (steps : List Recorded) (logs : List (List LogEntry)) (place : ℕ)
+    (step : Recorded)
+    → AreLogs shape.processes steps logs → IsAt steps place step
     → NoneHasMore start shape logs step.process (mentions step.process (take place (order_of steps))) → IsStuckAt start shape steps place
-stuck start shape steps logs place step split at never = record { logs = logs; split = split; step = step; at = at; never = never; none = none }
+stuck start shape steps logs place step split at never =
+    record { logs = logs; split = split; step = step; at = at; never = never; none = none }
   where
     none : (ordered : List Recorded) → ¬ Orders start shape steps ordered
     none ordered o =
@@ -201,14 +221,20 @@ stuck start shape steps logs place step split at never = record { logs = logs; s
         omega (arith, many, most, more, whole)
 
 -- the entry of a process with this number stands in its log
-pub stuck_step : (start : Op → ℕ → Start) (shape : Extent) (steps : List Recorded) (logs : List (List LogEntry)) (p number place : ℕ) → AreLogs shape.processes steps logs → NoneHasMore start shape logs p number → IsStepOf steps p number place → IsStuckAt start shape steps place
+pub stuck_step : (start : Op → ℕ → Start) (shape : Extent) (steps : List Recorded) (logs : List (List LogEntry))
+    (p number place : ℕ)
+    → AreLogs shape.processes steps logs → NoneHasMore start shape logs p number → IsStepOf steps p number place
+    → IsStuckAt start shape steps place
 stuck_step start shape steps logs p number place split never of =
     let there : NoneHasMore start shape logs of.step.process number = subst (λ (q : ℕ). NoneHasMore start shape logs q number) (sym of.process) never in
     let count : mentions of.step.process (take place (order_of steps)) ≡ number = ap (λ (q : ℕ). mentions q (take place (order_of steps))) of.process ∙ of.before in
     stuck start shape steps logs place of.step split of.at (subst (λ (n : ℕ). NoneHasMore start shape logs of.step.process n) (sym count) there)
 
 -- a step of a process that isn't there is in no run
-pub stuck_beyond : (start : Op → ℕ → Start) (shape : Extent) (steps : List Recorded) (logs : List (List LogEntry)) (place : ℕ) (step : Recorded) → AreLogs shape.processes steps logs → IsAt steps place step → shape.processes ≤ step.process → IsStuckAt start shape steps place
+pub stuck_beyond : (start : Op → ℕ → Start) (shape : Extent) (steps : List Recorded) (logs : List (List LogEntry))
+    (place : ℕ) (step : Recorded)
+    → AreLogs shape.processes steps logs → IsAt steps place step → shape.processes ≤ step.process
+    → IsStuckAt start shape steps place
 stuck_beyond start shape steps logs place step split at beyond = stuck start shape steps logs place step split at never
   where
     never : NoneHasMore start shape logs step.process (mentions step.process (take place (order_of steps)))
@@ -224,7 +250,8 @@ stuck_beyond start shape steps logs place step split at beyond = stuck start sha
         by (inr le) = omega (arith, le)
 
 -- a step of p with a number below how many there are
-pub has_number : (n : ℕ) (steps : List Recorded) (logs : List (List LogEntry)) (p number : ℕ) (entry : LogEntry) → AreLogs n steps logs → entry_of logs p number ≡ Some entry → number < mentions p (order_of steps)
+pub has_number : (n : ℕ) (steps : List Recorded) (logs : List (List LogEntry)) (p number : ℕ) (entry : LogEntry)
+    → AreLogs n steps logs → entry_of logs p number ≡ Some entry → number < mentions p (order_of steps)
 has_number n steps logs p number entry split is =
     let lt : p < n = let c = split.count in let h = has_log logs p number entry is in omega (arith, c, h) in
     let there : slice_get (log_of p steps) number ≡ Some entry = sym (ap (λ (o : Option (List LogEntry)). option_and_then (λ (l : List LogEntry). slice_get l number) o) (split.each p lt)) ∙ is in
@@ -233,10 +260,13 @@ has_number n steps logs p number entry split is =
     omega (arith, many, less)
 
 any_default : (xs : List ℕ) (i d e : ℕ) → i < length xs → get_or xs i d ≡ get_or xs i e
-any_default xs i d e lt = same_Some (get_or xs i d) (get_or xs i e) (sym (slice_get-get_or xs i d lt) ∙ slice_get-get_or xs i e lt)
+any_default xs i d e lt =
+    same_Some (get_or xs i d) (get_or xs i e) (sym (slice_get-get_or xs i d lt) ∙ slice_get-get_or xs i e lt)
 
 -- the entry of a mention
-pub next_stands : (order counts : List ℕ) (logs : List (List LogEntry)) (place p i n : ℕ) → AllStand order logs → place < length order → IsAt order place p → i ≡ p → AreTallied counts order place → length counts ≡ length logs → n ≡ get_or counts i n
+pub next_stands : (order counts : List ℕ) (logs : List (List LogEntry)) (place p i n : ℕ) → AllStand order logs
+    → place < length order → IsAt order place p → i ≡ p → AreTallied counts order place → length counts ≡ length logs
+    → n ≡ get_or counts i n
     → (o : Option LogEntry) → o ≡ entry_of logs i n → (entry : LogEntry) × (o ≡ Some entry) × (entry_of logs p (mentions p (take place order)) ≡ Some entry)
 next_stands order counts logs place p i n all lt at is tallied len read o got =
     let e = all place p at in
@@ -247,7 +277,10 @@ next_stands order counts logs place p i n all lt at is tallied len read o got =
     (e.0, got ∙ (ap (λ (q : ℕ). entry_of logs q n) is ∙ (ap (λ (k : ℕ). entry_of logs p k) count ∙ e.1)), e.1)
 
 -- one mention more is laid out
-pub laid_more : (order : List ℕ) (logs : List (List LogEntry)) (steps new : List Recorded) (place : ℕ) (r : Recorded) → IsAt order place r.process → order_of steps ≡ take place order → ((k : ℕ) (x : Recorded) → IsAt steps k x → entry_of logs x.process (mentions x.process (take k order)) ≡ Some x.entry)
+pub laid_more : (order : List ℕ) (logs : List (List LogEntry)) (steps new : List Recorded) (place : ℕ) (r : Recorded)
+    → IsAt order place r.process → order_of steps ≡ take place order
+    → ((k : ℕ) (x : Recorded) → IsAt steps k x
+    → entry_of logs x.process (mentions x.process (take k order)) ≡ Some x.entry)
     → entry_of logs r.process (mentions r.process (take place order)) ≡ Some r.entry → new ≡ steps ++ r ∷ []
     → (order_of new ≡ take (place + 1) order) × ((k : ℕ) (x : Recorded) → IsAt new k x → entry_of logs x.process (mentions x.process (take k order)) ≡ Some x.entry)
 laid_more order logs steps new place r at so_far each stands is = (processes, entries)
@@ -274,31 +307,39 @@ laid_more order logs steps new place r at so_far each stands is = (processes, en
         by (inr off) there = each k x (sym (get_push_other steps k r off) ∙ there)
 
 -- what is left of a greatest order is in no run
-pub left_out : (start : Op → ℕ → Start) (shape : Extent) (logs : List (List LogEntry)) (order : List ℕ) (p place : ℕ) → IsGreatest start shape logs order → IsFirstLeft logs order p place → ((entry : LogEntry) × (entry_of logs p place ≡ Some entry)) × NoneHasMore start shape logs p place
-left_out start shape logs order p place g f = ((f.entry, f.left), subst (λ (k : ℕ). NoneHasMore start shape logs p k) (sym f.here) (g.most p))
+pub left_out : (start : Op → ℕ → Start) (shape : Extent) (logs : List (List LogEntry)) (order : List ℕ) (p place : ℕ)
+    → IsGreatest start shape logs order → IsFirstLeft logs order p place
+    → ((entry : LogEntry) × (entry_of logs p place ≡ Some entry)) × NoneHasMore start shape logs p place
+left_out start shape logs order p place g f =
+    ((f.entry, f.left), subst (λ (k : ℕ). NoneHasMore start shape logs p k) (sym f.here) (g.most p))
 
 -- so many steps leave room
-pub room_for : (start : Op → ℕ → Start) (shape : Extent) (steps : List Recorded) (logs : List (List LogEntry)) → AreLogs shape.processes steps logs → length steps ≤ MOST_EVENTS → ¬ IsFull start shape logs
+pub room_for : (start : Op → ℕ → Start) (shape : Extent) (steps : List Recorded) (logs : List (List LogEntry))
+    → AreLogs shape.processes steps logs → length steps ≤ MOST_EVENTS → ¬ IsFull start shape logs
 room_for start shape steps logs split few full =
     let many = length-map steps (λ (x : Recorded). x.process) in
     not_full start shape logs (order_of steps) (nothing_left shape.processes steps logs split) (omega (arith, many, few)) full
 
 -- how many steps of p there are before a place, and before the next one
-pub own_step : (steps : List Recorded) (place p : ℕ) (r : Recorded) → IsAt steps place r → r.process ≡ p → mentions p (take (place + 1) (order_of steps)) ≡ mentions p (take place (order_of steps)) + 1
+pub own_step : (steps : List Recorded) (place p : ℕ) (r : Recorded) → IsAt steps place r → r.process ≡ p
+    → mentions p (take (place + 1) (order_of steps)) ≡ mentions p (take place (order_of steps)) + 1
 own_step steps place p r at is =
     let one = mention_more (order_of steps) place p (subst (λ (q : ℕ). IsAt (order_of steps) place q) is (IsAt-map (λ (x : Recorded). x.process) steps place r at)) in
     let next : suc place ≡ place + 1 = omega arith in
     subst (λ (k : ℕ). mentions p (take k (order_of steps)) ≡ mentions p (take place (order_of steps)) + 1) next (let sum : suc (mentions p (take place (order_of steps))) ≡ mentions p (take place (order_of steps)) + 1 = omega arith in one ∙ sum)
 
-pub other_step : (steps : List Recorded) (place p : ℕ) (r : Recorded) → IsAt steps place r → (r.process ≡ p → ⊥) → mentions p (take (place + 1) (order_of steps)) ≡ mentions p (take place (order_of steps))
+pub other_step : (steps : List Recorded) (place p : ℕ) (r : Recorded) → IsAt steps place r → (r.process ≡ p → ⊥)
+    → mentions p (take (place + 1) (order_of steps)) ≡ mentions p (take place (order_of steps))
 other_step steps place p r at off =
     let same = mention_same (order_of steps) place p r.process (IsAt-map (λ (x : Recorded). x.process) steps place r at) off in
     let next : suc place ≡ place + 1 = omega arith in
     subst (λ (k : ℕ). mentions p (take k (order_of steps)) ≡ mentions p (take place (order_of steps))) next same
 
-pub step_of : (steps : List Recorded) (p number place : ℕ) (r : Recorded) → IsAt steps place r → r.process ≡ p → mentions p (take place (order_of steps)) ≡ number → IsStepOf steps p number place
+pub step_of : (steps : List Recorded) (p number place : ℕ) (r : Recorded) → IsAt steps place r → r.process ≡ p
+    → mentions p (take place (order_of steps)) ≡ number → IsStepOf steps p number place
 step_of steps p number place r at is before = record { step = r; at = at; process = is; before = before }
 
 -- the same text, written otherwise
-pub written_as : (Wrote : List ℕ → Type 0) (text bytes : List ℕ) → Merges (λ written. written ≡ bytes) text → Wrote bytes → Merges Wrote text
+pub written_as : (Wrote : List ℕ → Type 0) (text bytes : List ℕ) → Merges (λ written. written ≡ bytes) text
+    → Wrote bytes → Merges Wrote text
 written_as Wrote text bytes m wrote = record { account = m.account; good = m.good; read = m.read; merged = m.merged; shown = m.shown; written = subst Wrote (sym m.written) wrote }

@@ -1,5 +1,7 @@
 -- A story is one memory.
-use Rattle.std.proofs.Common.{ℕ, zero, suc, ◌≡◌, ◌+◌, ◌<◌, ◌==◌, ◌⊎◌, inl, inr, Bool, true, false, List, [], ◌∷◌, ◌++◌, length, map, take, drop, replicate, Option, Some, None, refl, sym, ap, ◌∙◌, subst, arith, add-one}
+use Rattle.std.proofs.Common.{ℕ, zero, suc, ◌≡◌, ◌+◌, ◌<◌, ◌==◌, ◌⊎◌, inl, inr, Bool, true, false, List, [], ◌∷◌, ◌++◌}
+use Rattle.std.proofs.Common.{length, map, take, drop, replicate, Option, Some, None, refl, sym, ap, ◌∙◌, subst, arith}
+use Rattle.std.proofs.Common.{add-one}
 use Rattle.std.specs.Prelude.{⊤, MatchOption}
 use Rattle.std.specs.List.{AllZip}
 use Rattle.std.proofs.lemmas.Bool.{cases_order, eqb-true}
@@ -33,17 +35,20 @@ ops_of acts = map (λ a. a.op) acts
 abbrev AreOver : List ℕ → List Act → Type 0
 AreOver m acts = (k : ℕ) (act : Act) (answer : Answer) → IsAt acts k act → act.answer ≡ Some answer → answer ≡ answer_of act.op (memory_after (ops_of (take k acts)) m)
 
-over_both : (m : List ℕ) (xs ys : List Act) → AreOver m xs → AreOver (memory_after (ops_of xs) m) ys → AreOver m (xs ++ ys)
+over_both : (m : List ℕ) (xs ys : List Act) → AreOver m xs → AreOver (memory_after (ops_of xs) m) ys
+    → AreOver m (xs ++ ys)
 over_both m [] ys first second k act answer at is = second k act answer at is
 over_both m (x ∷ xs) ys first second zero act answer at is = first zero act answer at is
-over_both m (x ∷ xs) ys first second (suc k) act answer at is = over_both (after x.op m) xs ys (λ j a b. first (suc j) a b) second k act answer at is
+over_both m (x ∷ xs) ys first second (suc k) act answer at is =
+    over_both (after x.op m) xs ys (λ j a b. first (suc j) a b) second k act answer at is
 
 -- the answers under these ids are those over this memory
 abbrev AreRight : List Entry → List ℕ → List OpId → List Op → Type 0
 AreRight h m ids ops = (k : ℕ) (id : OpId) (op : Op) (at : ℕ) (answer : Answer) → IsAt ids k id → IsAt ops k op → IsAnswered h id at answer → answer ≡ answer_of op (memory_after (take k ops) m)
 
 -- and those behind the first ones over what these leave
-right_behind : (h : List Entry) (m : List ℕ) (w : List Op) (ids : List OpId) (ops : List Op) → take (length w) ops ≡ w → AreRight h m ids ops → AreRight h (memory_after w m) (drop (length w) ids) (drop (length w) ops)
+right_behind : (h : List Entry) (m : List ℕ) (w : List Op) (ids : List OpId) (ops : List Op) → take (length w) ops ≡ w
+    → AreRight h m ids ops → AreRight h (memory_after w m) (drop (length w) ids) (drop (length w) ops)
 right_behind h m [] ids ops is right = right
 right_behind h m (o ∷ w) [] ops is right = λ k id op at answer here. let e : None ≡ Some id = here in absurd (cc)
 right_behind h m (o ∷ w) (i ∷ ids) [] is right = absurd (cc)
@@ -53,7 +58,8 @@ right_behind h m (o ∷ w) (i ∷ ids) (p ∷ ops) is right =
     subst (λ (q : Op). AreRight h (memory_after w (after q m)) (drop (length w) ids) (drop (length w) ops)) first
     (right_behind h (after p m) w ids ops rest (λ k id op at answer here there. right (suc k) id op at answer here there))
 
-over_own : (h : List Entry) (m : List ℕ) (ids : List OpId) (ops : List Op) (own : List Act) → AllZip (IsAct h) ids own → ops ≡ ops_of own → AreRight h m ids ops → AreOver m own
+over_own : (h : List Entry) (m : List ℕ) (ids : List OpId) (ops : List Op) (own : List Act) → AllZip (IsAct h) ids own
+    → ops ≡ ops_of own → AreRight h m ids ops → AreOver m own
 over_own h m ids ops own zip is right k act answer at said =
     let found = zip_left (IsAct h) ids own k act zip at in
     let answered : (t : ℕ) × IsAnswered h found.0 t answer = subst (λ (o : Option Answer). MatchOption o (¬ IsFinished h found.0) (λ b. (t : ℕ) × IsAnswered h found.0 t b)) said found.2.answered in
@@ -61,13 +67,15 @@ over_own h m ids ops own zip is right k act answer at said =
     let first : take k ops ≡ ops_of (take k own) = ap (take k) is ∙ take-map (λ (a : Act). a.op) k own in
     right k found.0 act.op answered.0 answer found.1 op_at answered.1 ∙ ap (λ (l : List Op). answer_of act.op (memory_after l m)) first
 
-acts_called : (h : List Entry) (ids : List OpId) (own : List Act) → AllZip (IsAct h) ids own → AreCalled h ids (ops_of own)
+acts_called : (h : List Entry) (ids : List OpId) (own : List Act) → AllZip (IsAct h) ids own
+    → AreCalled h ids (ops_of own)
 acts_called h [] [] zip = tt
 acts_called h [] (a ∷ own) zip = absurd zip
 acts_called h (i ∷ ids) [] zip = absurd zip
 acts_called h (i ∷ ids) (a ∷ own) zip = (zip.0.called, acts_called h ids own zip.1)
 
-called_behind : (h : List Entry) (n : ℕ) (ids : List OpId) (ops : List Op) → AreCalled h ids ops → AreCalled h (drop n ids) (drop n ops)
+called_behind : (h : List Entry) (n : ℕ) (ids : List OpId) (ops : List Op) → AreCalled h ids ops
+    → AreCalled h (drop n ids) (drop n ops)
 called_behind h zero ids ops zip = zip
 called_behind h (suc n) [] [] zip = tt
 called_behind h (suc n) [] (o ∷ ops) zip = absurd zip
@@ -119,13 +127,16 @@ memory_length : (ops : List Op) (m : List ℕ) → length (memory_after ops m) �
 memory_length [] m = refl
 memory_length (o ∷ ops) m = memory_length ops (after o m) ∙ length-after o m
 
-ends_restored : (r : Contents) (registers : ℕ) (ends : List ℕ) → r.shape.registers ≡ registers → EndsWith r ends → memory registers (opening_of ends) ≡ ends
+ends_restored : (r : Contents) (registers : ℕ) (ends : List ℕ) → r.shape.registers ≡ registers → EndsWith r ends
+    → memory registers (opening_of ends) ≡ ends
 ends_restored r registers ends is e =
     let size : length ends ≡ registers = ap length e.values_are ∙ (memory_length e.ops (replicate r.shape.registers 0) ∙ (length-replicate r.shape.registers 0 ∙ is)) in
     ap (λ (n : ℕ). memory n (opening_of ends)) (sym size) ∙ opening_restores ends
 
 -- the answers of one chapter, and what it leaves
-one_chapter : (registers : ℕ) (values m : List ℕ) (r : Contents) (own : List Act) (ends : List ℕ) → memory registers (opening_of values) ≡ m → Passes r → r.shape.registers ≡ registers → Opens (opening_of values) r → AllZip (IsAct r.entries) (drop (length (opening_of values)) r.order) own → EndsWith r ends
+one_chapter : (registers : ℕ) (values m : List ℕ) (r : Contents) (own : List Act) (ends : List ℕ)
+    → memory registers (opening_of values) ≡ m → Passes r → r.shape.registers ≡ registers → Opens (opening_of values) r
+    → AllZip (IsAct r.entries) (drop (length (opening_of values)) r.order) own → EndsWith r ends
     → AreOver m own × (memory_after (ops_of own) m ≡ ends)
 one_chapter registers values m r own ends start p size opens zip e =
     let w = opening_of values in
@@ -147,8 +158,10 @@ one_chapter registers values m r own ends start p size opens zip e =
       ap (memory_after (ops_of own)) (sym start_is) ∙ (sym (memory-append w (ops_of own) zeros) ∙ (ap (λ (l : List Op). memory_after l zeros) (all ∙ same_end) ∙ sym e.values_are)),
     )
 
-over_all : (registers : ℕ) (values m : List ℕ) (rs : List Contents) (acts : List Act) → memory registers (opening_of values) ≡ m → Chain registers values rs → AreActs values rs acts → AreOver m acts
-over_all registers values m [] acts start chain are = subst (AreOver m) (sym are) (λ k act answer at is. let e : None ≡ Some act = at in absurd (cc))
+over_all : (registers : ℕ) (values m : List ℕ) (rs : List Contents) (acts : List Act)
+    → memory registers (opening_of values) ≡ m → Chain registers values rs → AreActs values rs acts → AreOver m acts
+over_all registers values m [] acts start chain are =
+    subst (AreOver m) (sym are) (λ k act answer at is. let e : None ≡ Some act = at in absurd (cc))
 over_all registers values m (r ∷ rs) acts start chain (own, rest, ends, is, zip, e, more) =
     by (over_all registers ends ends rs rest (ends_restored r registers ends chain.1 e) (chain.3 ends e) more) chain.2
   where
@@ -166,7 +179,8 @@ over_all registers values m (r ∷ rs) acts start chain (own, rest, ends, is, zi
 abbrev IsBehind : ℕ → ℕ → Contents → Contents → Type 0
 IsBehind count place a b = AreAlike a b × (values : List ℕ) × EndsWith a values × (Opens (opening_of values) b ⊎ (BeginsToOpen (opening_of values) b × (place + 1 ≡ count)))
 
-opened_so : (count place : ℕ) (w : List Op) (b : Contents) → IsOpened (place + 1 == count) w b → Opens w b ⊎ (BeginsToOpen w b × (place + 1 ≡ count))
+opened_so : (count place : ℕ) (w : List Op) (b : Contents) → IsOpened (place + 1 == count) w b
+    → Opens w b ⊎ (BeginsToOpen w b × (place + 1 ≡ count))
 opened_so count place w b opened = by (place + 1 == count) refl opened
   where
     by : (last : Bool) → (place + 1 == count) ≡ last → IsOpened last w b → Opens w b ⊎ (BeginsToOpen w b × (place + 1 ≡ count))
@@ -177,7 +191,8 @@ opened_so count place w b opened = by (place + 1 == count) refl opened
 same_registers : (a b : Contents) → Passes a → Passes b → AreAlike a b → b.shape.registers ≡ a.shape.registers
 same_registers a b p q alike = q.good.registers ∙ (ap length alike.names ∙ sym p.good.registers)
 
-chain_of : (registers : ℕ) (values : List ℕ) (rs : List Contents) → ((k : ℕ) (r : Contents) → IsAt rs k r → Passes r) → ((k : ℕ) (a b : Contents) → IsAt rs k a → IsAt rs (suc k) b → IsBehind (length rs) (suc k) a b)
+chain_of : (registers : ℕ) (values : List ℕ) (rs : List Contents) → ((k : ℕ) (r : Contents) → IsAt rs k r → Passes r)
+    → ((k : ℕ) (a b : Contents) → IsAt rs k a → IsAt rs (suc k) b → IsBehind (length rs) (suc k) a b)
     → ((r : Contents) → IsAt rs 0 r → (r.shape.registers ≡ registers) × (Opens (opening_of values) r ⊎ (BeginsToOpen (opening_of values) r × (1 ≡ length rs)))) → Chain registers values rs
 chain_of registers values [] passed follows head = tt
 chain_of registers values (r ∷ rs) passed follows head = (
@@ -205,8 +220,10 @@ chain_of registers values (r ∷ rs) passed follows head = (
         let behind = fewer 0 r b (follows 0 r b refl at) in
         (same_registers r b (passed 0 r refl) (passed 1 b at) behind.0 ∙ (head r refl).0, to_ends ends e b behind)
 
-pub one_memory : (reports : List Contents) (first : Contents) (acts : List Act) → AreStory reports → IsAt reports 0 first → AreActs [] reports acts → IsOneMemory first.shape.registers acts
-one_memory reports first acts s at are = over_all first.shape.registers [] (replicate first.shape.registers 0) reports acts refl chain are
+pub one_memory : (reports : List Contents) (first : Contents) (acts : List Act) → AreStory reports
+    → IsAt reports 0 first → AreActs [] reports acts → IsOneMemory first.shape.registers acts
+one_memory reports first acts s at are =
+    over_all first.shape.registers [] (replicate first.shape.registers 0) reports acts refl chain are
   where
     follows : (k : ℕ) (a b : Contents) → IsAt reports k a → IsAt reports (suc k) b → IsBehind (length reports) (suc k) a b
     follows k a b at_a at_b =

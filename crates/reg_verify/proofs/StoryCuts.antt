@@ -1,10 +1,13 @@
 -- The parts of a text of reports in a row.
-use Rattle.std.proofs.Common.{ℕ, zero, suc, ◌≡◌, ◌+◌, ◌-◌, ◌<◌, ◌≤◌, ◌==◌, ◌&&◌, ◌⊎◌, inl, inr, Bool, true, false, Option, None, Some, List, [], ◌∷◌, ◌++◌, length, take, drop, get_or, refl, sym, ap, ap₂, ◌∙◌, subst, arith, append_assoc, add-one}
+use Rattle.std.proofs.Common.{ℕ, zero, suc, ◌≡◌, ◌+◌, ◌-◌, ◌<◌, ◌≤◌, ◌==◌, ◌&&◌, ◌⊎◌, inl, inr, Bool, true, false}
+use Rattle.std.proofs.Common.{Option, None, Some, List, [], ◌∷◌, ◌++◌, length, take, drop, get_or, refl, sym, ap, ap₂}
+use Rattle.std.proofs.Common.{◌∙◌, subst, arith, append_assoc, add-one}
 use Rattle.std.specs.Prelude.{flat_map, nat_eq}
 use Rattle.std.specs.List.{AllZip, starts_with}
 use Rattle.std.specs.Str.{IsCharBoundary, IsUtf8}
 use Rattle.std.proofs.lemmas.Bool.{cases_order, cond-true, cond-false, eqb-true}
-use Rattle.std.proofs.lemmas.List.{drop-drop, flat_map_more, get_or-drop, length-append, length-drop, length-take-le, take-append-drop, take_all, take_at, take_rest}
+use Rattle.std.proofs.lemmas.List.{drop-drop, flat_map_more, get_or-drop, length-append, length-drop, length-take-le}
+use Rattle.std.proofs.lemmas.List.{take-append-drop, take_all, take_at, take_rest}
 use Rattle.std.proofs.lemmas.Str.{IsCharBoundary-after_ascii, IsCharBoundary-end, IsCharBoundary-start}
 use Rattle.reg_checkers.specs.History.{IsAt}
 use Rattle.reg_checkers.proofs.Bridges.{zip_right}
@@ -28,10 +31,12 @@ whole (b ∷ s) none =
     ∙ ap (begins_with b) (whole s (λ i lt. none (suc i) (omega (arith, lt))))
 
 -- the first part ends where a further report begins
-pub parted : (s : List ℕ) (j : ℕ) → j < length s → ((i : ℕ) → i < j → begins_behind s i ≡ false) → begins_behind s j ≡ true → parts_of s ≡ take (suc j) s ∷ parts_of (drop (suc j) s)
+pub parted : (s : List ℕ) (j : ℕ) → j < length s → ((i : ℕ) → i < j → begins_behind s i ≡ false)
+    → begins_behind s j ≡ true → parts_of s ≡ take (suc j) s ∷ parts_of (drop (suc j) s)
 unfolding parts_of
 parted [] j within none is = absurd (omega (arith, within))
-parted (b ∷ s) zero within none is = cond-true ((b == 10) && starts_with nat_eq s report_mark) ((b ∷ []) ∷ parts_of s) (begins_with b (parts_of s)) is
+parted (b ∷ s) zero within none is =
+    cond-true ((b == 10) && starts_with nat_eq s report_mark) ((b ∷ []) ∷ parts_of s) (begins_with b (parts_of s)) is
 parted (b ∷ s) (suc j) within none is =
     cond-false ((b == 10) && starts_with nat_eq s report_mark) ((b ∷ []) ∷ parts_of s) (begins_with b (parts_of s)) (none 0 (omega arith))
     ∙ ap (begins_with b) (parted s j (omega (arith, within)) (λ i lt. none (suc i) (omega (arith, lt))) is)
@@ -53,7 +58,8 @@ further s j is = by (drop (suc j) s) refl
         let less = length-drop (suc j) s in
         omega (arith, size, less)
 
-pub parted_at : (s : List ℕ) (j : ℕ) → j < length s → ((i : ℕ) → i < j → begins_behind s i ≡ false) → begins_behind s j ≡ true → parts_of s ≡ take (j + 1) s ∷ parts_of (drop (j + 1) s)
+pub parted_at : (s : List ℕ) (j : ℕ) → j < length s → ((i : ℕ) → i < j → begins_behind s i ≡ false)
+    → begins_behind s j ≡ true → parts_of s ≡ take (j + 1) s ∷ parts_of (drop (j + 1) s)
 parted_at s j within none is = rw add-one (parted s j within none is)
 
 pub newline_at : (s : List ℕ) (j : ℕ) → begins_behind s j ≡ true → get_or s (j + 1 - 1) 0 ≡ 10
@@ -61,13 +67,15 @@ newline_at s j is =
     let here : j + 1 - 1 ≡ j = omega arith in
     ap (λ (i : ℕ). get_or s i 0) here ∙ eqb-true (get_or s j 0) 10 (both_true (get_or s j 0 == 10) (starts_with nat_eq (drop (suc j) s) report_mark) is).0
 
-pub seam_is : (s : List ℕ) (j : ℕ) (r : Bool) → (get_or s j 0 == 10) ≡ true → r ≡ starts_with nat_eq (take (length s - (j + 1)) (drop (j + 1) s)) report_mark → r ≡ begins_behind s j
+pub seam_is : (s : List ℕ) (j : ℕ) (r : Bool) → (get_or s j 0 == 10) ≡ true
+    → r ≡ starts_with nat_eq (take (length s - (j + 1)) (drop (j + 1) s)) report_mark → r ≡ begins_behind s j
 seam_is s j r feed is =
     let rest : take (length s - (j + 1)) (drop (j + 1) s) ≡ drop (suc j) s = take_rest s (j + 1) ∙ ap (λ (i : ℕ). drop i s) (add-one j) in
     is ∙ (ap (λ (t : List ℕ). starts_with nat_eq t report_mark) rest ∙ ap (λ (b : Bool). b && starts_with nat_eq (drop (suc j) s) report_mark) (sym feed))
 
 -- a line's number in a text
-pub line_within : (text : List ℕ) (number : ℕ) (before : List (List ℕ)) (next : Option (List ℕ)) → IsNumbered false (lines_of text) number before next → number ≤ length text + 1
+pub line_within : (text : List ℕ) (number : ℕ) (before : List (List ℕ)) (next : Option (List ℕ))
+    → IsNumbered false (lines_of text) number before next → number ≤ length text + 1
 line_within text number before None numbered =
     let few = few_lines text in
     let is = numbered.1 in
@@ -100,7 +108,10 @@ left_of (y ∷ xs) ys zero x lt at = at
 left_of (y ∷ xs) ys (suc k) x lt at = left_of xs ys k x (omega (arith, lt)) at
 
 -- a part that is no report's
-pub unread : (text : List ℕ) (from : ℕ) (reports : List Contents) (part : List ℕ) (rest : List (List ℕ)) (fault : ReadFault) → IsReadTo text from reports → parts_of (drop from text) ≡ part ∷ rest → IsUnreadPart (take from text) part fault → IsUnreadText text fault
+pub unread : (text : List ℕ) (from : ℕ) (reports : List Contents) (part : List ℕ) (rest : List (List ℕ))
+    (fault : ReadFault)
+    → IsReadTo text from reports → parts_of (drop from text) ≡ part ∷ rest → IsUnreadPart (take from text) part fault
+    → IsUnreadText text fault
 unread text from reports part rest OutOfMemory so_far is why = tt
 unread text from reports part rest (Line line told) so_far is why =
     let all : parts_of text ≡ so_far.done ++ part ∷ rest = so_far.parts ∙ ap (λ l. so_far.done ++ l) is in
@@ -123,7 +134,10 @@ unread text from reports part rest (Line line told) so_far is why =
     }
 
 -- one more report is read
-pub read_more : (text : List ℕ) (from n : ℕ) (reports more : List Contents) (r : Contents) → IsReadTo text from reports → n ≤ length (drop from text) → parts_of (drop from text) ≡ take n (drop from text) ∷ parts_of (drop n (drop from text)) → IsReadAs (take n (drop from text)) r
+pub read_more : (text : List ℕ) (from n : ℕ) (reports more : List Contents) (r : Contents) → IsReadTo text from reports
+    → n ≤ length (drop from text)
+    → parts_of (drop from text) ≡ take n (drop from text) ∷ parts_of (drop n (drop from text))
+    → IsReadAs (take n (drop from text)) r
     → more ≡ reports ++ r ∷ [] → IsCharBoundary text (from + n) → IsReadTo text (from + n) more
 read_more text from n reports more r so_far within is spelled more_is boundary =
     let rest = drop from text in
@@ -144,35 +158,43 @@ read_more text from n reports more r so_far within is spelled more_is boundary =
     }
 
 -- the last report is read
-all_read : (text : List ℕ) (from : ℕ) (reports more : List Contents) (r : Contents) → IsReadTo text from reports → parts_of (drop from text) ≡ drop from text ∷ [] → IsReadAs (drop from text) r → more ≡ reports ++ r ∷ [] → AllZip IsReadAs (parts_of text) more
+all_read : (text : List ℕ) (from : ℕ) (reports more : List Contents) (r : Contents) → IsReadTo text from reports
+    → parts_of (drop from text) ≡ drop from text ∷ [] → IsReadAs (drop from text) r → more ≡ reports ++ r ∷ []
+    → AllZip IsReadAs (parts_of text) more
 all_read text from reports more r so_far is spelled more_is =
     let all : parts_of text ≡ so_far.done ++ drop from text ∷ [] = so_far.parts ∙ ap (λ l. so_far.done ++ l) is in
     subst (λ (l : List (List ℕ)). AllZip IsReadAs l more) (sym all)
     (subst (λ (l : List Contents). AllZip IsReadAs (so_far.done ++ drop from text ∷ []) l) (sym more_is) (zip_push IsReadAs so_far.done reports (drop from text) r so_far.read spelled))
 
-they_are : (parts : List (List ℕ)) (rs : List Contents) → AllZip IsReadAs parts rs → AllZip (λ part r. IsReport r × SpellsReport part r) parts rs
+they_are : (parts : List (List ℕ)) (rs : List Contents) → AllZip IsReadAs parts rs
+    → AllZip (λ part r. IsReport r × SpellsReport part r) parts rs
 they_are [] [] zip = tt
 they_are [] (r ∷ rs) zip = absurd zip
 they_are (p ∷ parts) [] zip = absurd zip
 they_are (p ∷ parts) (r ∷ rs) zip = ((zip.0.0, zip.0.1), they_are parts rs zip.1)
 
-only_they : (parts : List (List ℕ)) (rs ss : List Contents) → AllZip IsReadAs parts rs → AllZip (λ part r. IsReport r × SpellsReport part r) parts ss → ss ≡ rs
+only_they : (parts : List (List ℕ)) (rs ss : List Contents) → AllZip IsReadAs parts rs
+    → AllZip (λ part r. IsReport r × SpellsReport part r) parts ss → ss ≡ rs
 only_they [] [] [] zip other = refl
 only_they [] [] (s ∷ ss) zip other = absurd other
 only_they [] (r ∷ rs) ss zip other = absurd zip
 only_they (p ∷ parts) [] ss zip other = absurd zip
 only_they (p ∷ parts) (r ∷ rs) [] zip other = absurd other
-only_they (p ∷ parts) (r ∷ rs) (s ∷ ss) zip other = ap₂ (λ (x : Contents) (xs : List Contents). x ∷ xs) (zip.0.2 s other.0.1) (only_they parts rs ss zip.1 other.1)
+only_they (p ∷ parts) (r ∷ rs) (s ∷ ss) zip other =
+    ap₂ (λ (x : Contents) (xs : List Contents). x ∷ xs) (zip.0.2 s other.0.1) (only_they parts rs ss zip.1 other.1)
 
 -- nothing is read yet
 pub read_none : (text : List ℕ) → IsUtf8 text → IsReadTo text 0 []
 read_none text utf8 = record { done = []; parts = refl; text_is = refl; size = refl; read = tt; within = omega arith; boundary = IsCharBoundary-start text utf8 }
 
 -- what is told of the rest of a text, told of the text
-pub rest_is : (bytes text : List ℕ) (from : ℕ) → bytes ≡ text → take (length bytes - from) (drop from bytes) ≡ drop from text
+pub rest_is : (bytes text : List ℕ) (from : ℕ) → bytes ≡ text
+    → take (length bytes - from) (drop from bytes) ≡ drop from text
 rest_is bytes text from is = take_rest bytes from ∙ ap (drop from) is
 
-pub boundary_at : (text s : List ℕ) (from n : ℕ) → IsUtf8 text → s ≡ drop from text → from ≤ length text → n ≤ length s → (n < length s → (0 < n) × (get_or s (n - 1) 0 ≡ 10) × (parts_of s ≡ take n s ∷ parts_of (drop n s))) → IsCharBoundary text (from + n)
+pub boundary_at : (text s : List ℕ) (from n : ℕ) → IsUtf8 text → s ≡ drop from text → from ≤ length text → n ≤ length s
+    → (n < length s → (0 < n) × (get_or s (n - 1) 0 ≡ 10) × (parts_of s ≡ take n s ∷ parts_of (drop n s)))
+    → IsCharBoundary text (from + n)
 boundary_at text s from n utf8 is after within more = by (cases_order n (length s))
   where
     size : length s ≡ length text - from
@@ -189,18 +211,23 @@ boundary_at text s from n utf8 is after within more = by (cases_order n (length 
         subst (IsCharBoundary text) place (IsCharBoundary-after_ascii text (from + (n - 1)) utf8 (omega (arith, z, lt, some, after)) (omega (arith, feed)))
     by (inr (inr lt)) = absurd (omega (arith, lt, within))
 
-pub first_behind : (text s : List ℕ) (from n : ℕ) → s ≡ drop from text → (rest : List (List ℕ)) × (parts_of s ≡ take n s ∷ rest) → (rest : List (List ℕ)) × (parts_of (drop from text) ≡ take (from + n - from) (drop from text) ∷ rest)
+pub first_behind : (text s : List ℕ) (from n : ℕ) → s ≡ drop from text
+    → (rest : List (List ℕ)) × (parts_of s ≡ take n s ∷ rest)
+    → (rest : List (List ℕ)) × (parts_of (drop from text) ≡ take (from + n - from) (drop from text) ∷ rest)
 first_behind text s from n is first =
     let count : n ≡ from + n - from = omega arith in
     (first.0, subst (λ (i : ℕ). parts_of (drop from text) ≡ take i (drop from text) ∷ first.0) count (subst (λ (t : List ℕ). parts_of t ≡ take n t ∷ first.0) is first.1))
 
-pub last_behind : (text s : List ℕ) (from n : ℕ) → s ≡ drop from text → from ≤ length text → (n ≡ length s → parts_of s ≡ s ∷ []) → from + n ≡ length text → parts_of (drop from text) ≡ drop from text ∷ []
+pub last_behind : (text s : List ℕ) (from n : ℕ) → s ≡ drop from text → from ≤ length text
+    → (n ≡ length s → parts_of s ≡ s ∷ []) → from + n ≡ length text → parts_of (drop from text) ≡ drop from text ∷ []
 last_behind text s from n is after last end =
     let size = ap length is in
     let less = length-drop from text in
     subst (λ (t : List ℕ). parts_of t ≡ t ∷ []) is (last (omega (arith, size, less, end, after)))
 
-pub more_behind : (text s : List ℕ) (from n : ℕ) → s ≡ drop from text → from ≤ length text → (n < length s → (0 < n) × (get_or s (n - 1) 0 ≡ 10) × (parts_of s ≡ take n s ∷ parts_of (drop n s))) → from + n < length text
+pub more_behind : (text s : List ℕ) (from n : ℕ) → s ≡ drop from text → from ≤ length text
+    → (n < length s → (0 < n) × (get_or s (n - 1) 0 ≡ 10) × (parts_of s ≡ take n s ∷ parts_of (drop n s)))
+    → from + n < length text
     → (from < from + n) × (parts_of (drop from text) ≡ take (from + n - from) (drop from text) ∷ parts_of (drop (from + n) text))
 more_behind text s from n is after more end =
     let size = ap length is in
@@ -214,7 +241,9 @@ more_behind text s from n is after more end =
     )
 
 -- a report is read, up to this place
-pub read_to : (text : List ℕ) (from end : ℕ) (reports more : List Contents) (r : Contents) → IsReadTo text from reports → from ≤ end → end ≤ length text → parts_of (drop from text) ≡ take (end - from) (drop from text) ∷ parts_of (drop end text)
+pub read_to : (text : List ℕ) (from end : ℕ) (reports more : List Contents) (r : Contents) → IsReadTo text from reports
+    → from ≤ end → end ≤ length text
+    → parts_of (drop from text) ≡ take (end - from) (drop from text) ∷ parts_of (drop end text)
     → IsReadAs (take (end - from) (drop from text)) r → more ≡ reports ++ r ∷ [] → IsCharBoundary text end → IsReadTo text end more
 read_to text from end reports more r so_far after within is spelled more_is boundary =
     let place : from + (end - from) ≡ end = omega (arith, after) in
@@ -224,7 +253,9 @@ read_to text from end reports more r so_far after within is spelled more_is boun
     (read_more text from (end - from) reports more r so_far (omega (arith, long, within)) (is ∙ ap (λ (t : List ℕ). take (end - from) (drop from text) ∷ parts_of t) behind) spelled more_is (subst (IsCharBoundary text) (sym place) boundary))
 
 -- the last report is read
-pub read_last : (text : List ℕ) (from end : ℕ) (reports more : List Contents) (r : Contents) → IsReadTo text from reports → end ≡ length text → parts_of (drop from text) ≡ drop from text ∷ [] → IsReadAs (take (end - from) (drop from text)) r → more ≡ reports ++ r ∷ []
+pub read_last : (text : List ℕ) (from end : ℕ) (reports more : List Contents) (r : Contents)
+    → IsReadTo text from reports → end ≡ length text → parts_of (drop from text) ≡ drop from text ∷ []
+    → IsReadAs (take (end - from) (drop from text)) r → more ≡ reports ++ r ∷ []
     → SpellsReports text more × ((others : List Contents) → SpellsReports text others → others ≡ more)
 read_last text from end reports more r so_far whole is spelled more_is =
     let long = length-drop from text in
@@ -232,7 +263,10 @@ read_last text from end reports more r so_far whole is spelled more_is =
     let zip = all_read text from reports more r so_far is (subst (λ (t : List ℕ). IsReadAs t r) all spelled) more_is in
     (they_are (parts_of text) more zip, λ others spells. only_they (parts_of text) more others zip spells)
 
-pub unread_behind : (text bytes part : List ℕ) (from end : ℕ) (reports : List Contents) (fault : ReadFault) → bytes ≡ text → part ≡ take (end - from) (drop from text) → IsReadTo text from reports → (rest : List (List ℕ)) × (parts_of (drop from text) ≡ take (end - from) (drop from text) ∷ rest) → IsUnreadPart (take from bytes) part fault → IsUnreadText text fault
+pub unread_behind : (text bytes part : List ℕ) (from end : ℕ) (reports : List Contents) (fault : ReadFault)
+    → bytes ≡ text → part ≡ take (end - from) (drop from text) → IsReadTo text from reports
+    → (rest : List (List ℕ)) × (parts_of (drop from text) ≡ take (end - from) (drop from text) ∷ rest)
+    → IsUnreadPart (take from bytes) part fault → IsUnreadText text fault
 unread_behind text bytes part from end reports fault same is so_far first why =
     unread text from reports (take (end - from) (drop from text)) first.0 fault so_far first.1
     (subst (λ (b : List ℕ). IsUnreadPart (take from b) (take (end - from) (drop from text)) fault) same (subst (λ (p : List ℕ). IsUnreadPart (take from bytes) p fault) is why))

@@ -13,7 +13,8 @@ use Rattle.reg_node.specs.RecordLines.{Account}
 use Rattle.reg_verify.specs.declared.gathering.HeadPart.{HeadPart}
 use Rattle.reg_verify.specs.declared.gathering.HeadPart.TheVariants.{Cluster, Chapter, Front, Processes, Registers}
 use Rattle.reg_verify.specs.declared.gathering.LogsFault.{LogsFault}
-use Rattle.reg_verify.specs.declared.gathering.LogsFault.TheVariants.{NoLog, Unread, Other, Twice, Missing, TooMany, Unfaithful, OutOfMemory}
+use Rattle.reg_verify.specs.declared.gathering.LogsFault.TheVariants.{NoLog, Unread, Other, Twice, Missing, TooMany}
+use Rattle.reg_verify.specs.declared.gathering.LogsFault.TheVariants.{Unfaithful, OutOfMemory}
 use Rattle.reg_verify.specs.Merges.{IsStuckAt, ShowsMerged}
 
 -- Logs as they are read
@@ -71,15 +72,18 @@ DifferFirst Cluster a b = ¬ Share Cluster a b
 DifferFirst Chapter a b = Share Cluster a b × ¬ Share Chapter a b
 DifferFirst Front a b = Share Cluster a b × Share Chapter a b × ¬ Share Front a b
 DifferFirst Processes a b = Share Cluster a b × Share Chapter a b × Share Front a b × ¬ Share Processes a b
-DifferFirst Registers a b = Share Cluster a b × Share Chapter a b × Share Front a b × Share Processes a b × ¬ Share Registers a b
+DifferFirst Registers a b =
+    Share Cluster a b × Share Chapter a b × Share Front a b × Share Processes a b × ¬ Share Registers a b
 
 -- each log agrees with the first
 abbrev pub AllAgree : List Journal → Type 0
-AllAgree journals = (first : Journal) → IsAt journals 0 first → (k : ℕ) (j : Journal) → IsAt journals k j → Agree first j
+AllAgree journals =
+    (first : Journal) → IsAt journals 0 first → (k : ℕ) (j : Journal) → IsAt journals k j → Agree first j
 
 -- no two logs are of one process
 abbrev pub AreApart : List Journal → Type 0
-AreApart journals = (i k : ℕ) (a b : Journal) → i < k → IsAt journals i a → IsAt journals k b → a.id.process ≢ b.id.process
+AreApart journals =
+    (i k : ℕ) (a b : Journal) → i < k → IsAt journals i a → IsAt journals k b → a.id.process ≢ b.id.process
 
 -- a log is of this process
 abbrev pub HasLogOf : ℕ → List Journal → Type 0
@@ -105,7 +109,8 @@ joined (j ∷ js) = steps_of j ++ joined js
 
 -- the record of all logs: the first one's front end, shape and names, and the steps of all
 abbrev pub account_of_all : Journal → List Journal → Account
-account_of_all first journals = record { front = first.front; shape = first.shape; names = first.names; steps = joined journals }
+account_of_all first journals =
+    record { front = first.front; shape = first.shape; names = first.names; steps = joined journals }
 
 -- the entry of this number, from 0, of the log at a place has its step at this place of the joined ones
 pub record IsEntryAt (journals : List Journal) (log entry place : ℕ) : Type 0 where

@@ -12,4 +12,5 @@ use Rattle.reg_verify.specs.Verifies.{FailsFirst, line_at}
 -- there was no memory, or the line is that of the first step with which the steps are no run
 abbrev pub BlamesSteps : (Op → ℕ → Start) → Extent → List Recorded → VerifyFault → Type 0
 BlamesSteps start shape steps (Command fault) = fault ≡ OutOfMemory
-BlamesSteps start shape steps (Unfaithful line) = (place : ℕ) × (line ≡ line_at place) × FailsFirst start shape steps place
+BlamesSteps start shape steps (Unfaithful line) =
+    (place : ℕ) × (line ≡ line_at place) × FailsFirst start shape steps place

@@ -19,12 +19,14 @@ use Rattle.reg_verify.specs.Verifies.{line_at}
 
 -- each mention stands for an entry of a log
 abbrev pub AllStand : List ℕ → List (List LogEntry) → Type 0
-AllStand order logs = (k p : ℕ) → IsAt order k p → (entry : LogEntry) × (entry_of logs p (mentions p (take k order)) ≡ Some entry)
+AllStand order logs =
+    (k p : ℕ) → IsAt order k p → (entry : LogEntry) × (entry_of logs p (mentions p (take k order)) ≡ Some entry)
 
 -- the steps are the entries that these mentions stand for
 pub record AreLaidOut (order : List ℕ) (logs : List (List LogEntry)) (steps : List Recorded) : Type 0 where
   pub processes : order_of steps ≡ order
-  pub each : (k : ℕ) (r : Recorded) → IsAt steps k r → entry_of logs r.process (mentions r.process (take k order)) ≡ Some r.entry
+  pub each : (k : ℕ) (r : Recorded) → IsAt steps k r
+      → entry_of logs r.process (mentions r.process (take k order)) ≡ Some r.entry
 
 -- each step is of one of so many processes
 abbrev pub AllWithin : ℕ → List Recorded → Type 0
@@ -40,9 +42,11 @@ pub record IsStepOf (steps : List Recorded) (p number place : ℕ) : Type 0 wher
 -- there was no memory, or the line is that of a step that is in no run
 abbrev pub BlamesOrder : (Op → ℕ → Start) → Extent → List Recorded → VerifyFault → Type 0
 BlamesOrder start shape steps (Command fault) = fault ≡ OutOfMemory
-BlamesOrder start shape steps (Unfaithful line) = (place : ℕ) × (line ≡ line_at place) × IsStuckAt start shape steps place
+BlamesOrder start shape steps (Unfaithful line) =
+    (place : ℕ) × (line ≡ line_at place) × IsStuckAt start shape steps place
 
 -- why logs have no order, `OutOfMemory` aside: this entry is in no run of first entries of them
 abbrev pub IsUnordered : (Op → ℕ → Start) → Extent → List (List LogEntry) → Unordered → Type 0
-IsUnordered start shape logs (Stuck p number) = ((entry : LogEntry) × (entry_of logs p number ≡ Some entry)) × NoneHasMore start shape logs p number
+IsUnordered start shape logs (Stuck p number) =
+    ((entry : LogEntry) × (entry_of logs p number ≡ Some entry)) × NoneHasMore start shape logs p number
 IsUnordered start shape logs NoMemory = ⊤

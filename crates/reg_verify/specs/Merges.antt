@@ -10,7 +10,8 @@ use Rattle.reg_records.specs.Records.{mentions}
 use Rattle.reg_records.specs.Merges.{NoneHasMore}
 use Rattle.reg_commands.specs.Replays.{start_of}
 use Rattle.reg_commands.specs.declared.faults.Fault.{Fault}
-use Rattle.reg_commands.specs.declared.faults.Fault.TheVariants.{Unread, TooLong, NotText, Output, Line, Event, Workload, OutOfMemory}
+use Rattle.reg_commands.specs.declared.faults.Fault.TheVariants.{Unread, TooLong, NotText, Output, Line, Event}
+use Rattle.reg_commands.specs.declared.faults.Fault.TheVariants.{Workload, OutOfMemory}
 use Rattle.reg_node.specs.declared.transcripts.recorded.Recorded.{Recorded}
 use Rattle.reg_node.specs.RecordLines.{Account, IsAccount, SpellsAccount, account_text}
 use Rattle.reg_verify.specs.declared.faults.VerifyFault.{VerifyFault}
@@ -56,7 +57,9 @@ pub record Merges (Wrote : List ℕ → Type 0) (text : List ℕ) : Type 0 where
 
 -- the text is that of a record whose steps have an order that is a run
 abbrev pub HasOrder : List ℕ → Type 0
-HasOrder text = (a : Account) × IsAccount a × SpellsAccount text a × ((ordered : List Recorded) × Orders (start_of a.front) a.shape a.steps ordered)
+HasOrder text =
+    (a : Account) × IsAccount a × SpellsAccount text a
+    × ((ordered : List Recorded) × Orders (start_of a.front) a.shape a.steps ordered)
 
 -- The text is that of a record, and the step on this line is in no run of first steps of the processes.
 pub record IsStuck (line : ℕ) (text : List ℕ) : Type 0 where

@@ -44,7 +44,9 @@ IsWrittenBy r id op = (at : ℕ) × IsCalled r.entries id at op
 
 -- these writes are the first operations of process 0, and the first ones of the order
 abbrev pub Opens : List Op → Contents → Type 0
-Opens writes r = (number : ℕ) (op : Op) → IsAt writes number op → IsWrittenBy r (opener number) op × IsAt r.order number (opener number)
+Opens writes r =
+    (number : ℕ) (op : Op) → IsAt writes number op
+    → IsWrittenBy r (opener number) op × IsAt r.order number (opener number)
 
 -- The chapter ended while it was opened: each operation that was called is the write of process 0 with its number, and
 -- the order is that of the first operations of process 0.
@@ -81,7 +83,8 @@ is_last reports place = place + 1 == length reports
 pub record AreStory (reports : List Contents) : Type 0 where
   pub some : 0 < length reports
   pub accepted : (k : ℕ) (r : Contents) → IsAt reports k r → Passes r
-  pub follows : (k : ℕ) (a b : Contents) → IsAt reports k a → IsAt reports (k + 1) b → Follows (is_last reports (k + 1)) a b
+  pub follows : (k : ℕ) (a b : Contents) → IsAt reports k a → IsAt reports (k + 1) b
+      → Follows (is_last reports (k + 1)) a b
 
 -- What is wrong where they are none
 
@@ -90,7 +93,8 @@ pub record IsRefused (r : Contents) (breach : Breach) : Type 0 where
   pub good : IsReport r
   pub verdicts : Verdicts
   pub judged : Judges r verdicts
-  pub says : ((reason : Reason) × (breach ≡ Order reason) × (verdicts.serial ≡ No reason)) ⊎ ((reason : Reason) × (breach ≡ Points reason) × (verdicts.serial ≡ Yes) × (verdicts.points ≡ Some (No reason)))
+  pub says : ((reason : Reason) × (breach ≡ Order reason) × (verdicts.serial ≡ No reason))
+      ⊎ ((reason : Reason) × (breach ≡ Points reason) × (verdicts.serial ≡ Yes) × (verdicts.points ≡ Some (No reason)))
   pub never : ¬ Passes r
 
 -- they differ in this part, and in none before it
@@ -101,7 +105,9 @@ DiffersFirst a b Registers = (b.front ≡ a.front) × (b.shape.processes ≡ a.s
 
 -- the first writes, as many as this number, are the first operations of process 0, and the first ones of the order
 abbrev pub OpensUpTo : ℕ → List Op → Contents → Type 0
-OpensUpTo count writes r = (number : ℕ) (op : Op) → number < count → IsAt writes number op → IsWrittenBy r (opener number) op × IsAt r.order number (opener number)
+OpensUpTo count writes r =
+    (number : ℕ) (op : Op) → number < count → IsAt writes number op
+    → IsWrittenBy r (opener number) op × IsAt r.order number (opener number)
 
 -- The write with this number is the first one that process 0 didn't make as its operation of that number, or that isn't
 -- at its place of the order.
@@ -109,8 +115,11 @@ abbrev pub IsUnopened : List Op → Contents → Breach → Type 0
 IsUnopened writes r (Order reason) = ⊥
 IsUnopened writes r (Points reason) = ⊥
 IsUnopened writes r (Other part) = ⊥
-IsUnopened writes r (Write number op) = OpensUpTo number writes r × IsAt writes number op × (¬ IsWrittenBy r (opener number) op)
-IsUnopened writes r (Place number) = OpensUpTo number writes r × ((op : Op) × IsAt writes number op × IsWrittenBy r (opener number) op) × (¬ IsAt r.order number (opener number))
+IsUnopened writes r (Write number op) =
+    OpensUpTo number writes r × IsAt writes number op × (¬ IsWrittenBy r (opener number) op)
+IsUnopened writes r (Place number) =
+    OpensUpTo number writes r × ((op : Op) × IsAt writes number op × IsWrittenBy r (opener number) op)
+    × (¬ IsAt r.order number (opener number))
 
 -- they are alike, and the second one isn't opened with what the first one ended with
 pub record IsUnopenedBehind (a b : Contents) (breach : Breach) : Type 0 where
@@ -135,7 +144,10 @@ pub record GoesOn (reports : List Contents) (place : ℕ) : Type 0 where
 pub record IsBreach (reports : List Contents) (place : ℕ) (breach : Breach) : Type 0 where
   pub report : Contents
   pub at : IsAt reports place report
-  pub wrong : IsRefused report breach ⊎ (Passes report × ((k : ℕ) × (a : Contents) × (place ≡ k + 1) × IsAt reports k a × IsBreachBehind (is_last reports place) a report breach))
+  pub wrong : IsRefused report breach
+      ⊎ (Passes report
+      × ((k : ℕ) × (a : Contents) × (place ≡ k + 1) × IsAt reports k a
+      × IsBreachBehind (is_last reports place) a report breach))
 
 -- The reports before this one go on, and this one has the breach. So they are no story.
 pub record AreBroken (reports : List Contents) (chapter : ℕ) (breach : Breach) : Type 0 where

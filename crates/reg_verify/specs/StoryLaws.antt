@@ -26,8 +26,11 @@ pub record IsAct (h : List Entry) (id : OpId) (act : Act) : Type 0 where
 abbrev pub AreActs : List ℕ → List Contents → List Act → Type 0
 AreActs values [] acts = acts ≡ []
 AreActs values (r ∷ rs) acts =
-    (own : List Act) × (rest : List Act) × (ends : List ℕ) × (acts ≡ own ++ rest) × AllZip (IsAct r.entries) (drop (length (opening_of values)) r.order) own × EndsWith r ends × AreActs ends rs rest
+    (own : List Act) × (rest : List Act) × (ends : List ℕ) × (acts ≡ own ++ rest)
+    × AllZip (IsAct r.entries) (drop (length (opening_of values)) r.order) own × EndsWith r ends × AreActs ends rs rest
 
 -- each answer is that of one memory, all zeros at first, after the operations before it
 abbrev pub IsOneMemory : ℕ → List Act → Type 0
-IsOneMemory registers acts = (k : ℕ) (act : Act) (answer : Answer) → IsAt acts k act → act.answer ≡ Some answer → answer ≡ answer_of act.op (memory registers (map (λ a. a.op) (take k acts)))
+IsOneMemory registers acts =
+    (k : ℕ) (act : Act) (answer : Answer) → IsAt acts k act → act.answer ≡ Some answer
+    → answer ≡ answer_of act.op (memory registers (map (λ a. a.op) (take k acts)))

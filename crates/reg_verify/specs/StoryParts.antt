@@ -17,5 +17,7 @@ IsReadAs part r = IsReport r × SpellsReport part r × ((s : Contents) → Spell
 
 -- why a part of a text, behind these bytes, is no report's
 abbrev pub IsUnreadPart : List ℕ → List ℕ → ReadFault → Type 0
-IsUnreadPart before part (Line line why) = (number : ℕ) × (line ≡ line_feeds before + number) × RefusesReportLine number why part × ((r : Contents) → ¬ SpellsReport part r)
+IsUnreadPart before part (Line line why) =
+    (number : ℕ) × (line ≡ line_feeds before + number) × RefusesReportLine number why part
+    × ((r : Contents) → ¬ SpellsReport part r)
 IsUnreadPart before part OutOfMemory = ⊤

@@ -1,5 +1,6 @@
 -- Reports in a row, as one text, and what is told of them. Promises cite it.
-use Rattle.std.specs.Prelude.{ℕ, ⊤, ◌≡◌, ◌+◌, ◌<◌, ◌==◌, ◌&&◌, nat_eq, Bool, true, false, if◌then◌else◌, List, [], ◌∷◌, ◌++◌, flat_map, length, take, codes}
+use Rattle.std.specs.Prelude.{ℕ, ⊤, ◌≡◌, ◌+◌, ◌<◌, ◌==◌, ◌&&◌, nat_eq, Bool, true, false, if◌then◌else◌, List, [], ◌∷◌}
+use Rattle.std.specs.Prelude.{◌++◌, flat_map, length, take, codes}
 use Rattle.std.specs.Fmt.{decimal}
 use Rattle.std.specs.List.{AllZip, filter, starts_with}
 use Rattle.std.specs.Str.{IsUtf8}
@@ -14,7 +15,8 @@ use Rattle.reg_history.specs.declared.report_faults.ReadFault.TheVariants as rea
 use Rattle.reg_history.specs.declared.report_faults.ReadWhy.{ReadWhy}
 use Rattle.reg_commands.specs.Verdicts.{verdict_line}
 use Rattle.reg_commands.specs.declared.faults.Fault.{Fault}
-use Rattle.reg_commands.specs.declared.faults.Fault.TheVariants.{Unread, TooLong, NotText, Output, Line, Event, Workload, OutOfMemory}
+use Rattle.reg_commands.specs.declared.faults.Fault.TheVariants.{Unread, TooLong, NotText, Output, Line, Event}
+use Rattle.reg_commands.specs.declared.faults.Fault.TheVariants.{Workload, OutOfMemory}
 use Rattle.reg_commands.specs.declared.verdicts.Verdict.TheVariants.{No}
 use Rattle.reg_verify.specs.declared.stories.breaches.Breach.{Breach}
 use Rattle.reg_verify.specs.declared.stories.breaches.Breach.TheVariants.{Order, Points, Other, Write, Place}
@@ -33,7 +35,9 @@ report_mark = codes "awreg report "
 -- the parts of a text, which is cut before each line that begins so: one at least
 unfoldable pub parts_of : List ℕ → List (List ℕ)
 parts_of [] = [] ∷ []
-parts_of (b ∷ bytes) = if (b == 10) && starts_with nat_eq bytes report_mark then (b ∷ []) ∷ parts_of bytes else begins_with b (parts_of bytes)
+parts_of (b ∷ bytes) =
+    if (b == 10) && starts_with nat_eq bytes report_mark then (b ∷ [])
+    ∷ parts_of bytes else begins_with b (parts_of bytes)
 
 -- the parts of the text are those of these reports, in order
 abbrev pub SpellsReports : List ℕ → List Contents → Type 0
@@ -49,7 +53,8 @@ pub record IsUnread (line : ℕ) (why : ReadWhy) (text : List ℕ) : Type 0 wher
   pub place : ℕ
   pub part : List ℕ
   pub at : IsAt (parts_of text) place part
-  pub before : (k : ℕ) (earlier : List ℕ) → k < place → IsAt (parts_of text) k earlier → (r : Contents) × SpellsReport earlier r
+  pub before : (k : ℕ) (earlier : List ℕ) → k < place → IsAt (parts_of text) k earlier
+      → (r : Contents) × SpellsReport earlier r
   pub number : ℕ
   pub line_is : line ≡ line_feeds (flat_map (λ p. p) (take place (parts_of text))) + number
   pub refused : RefusesReportLine number why part
@@ -88,13 +93,17 @@ abbrev pub breach_text : List (List ℕ) → Breach → List ℕ
 breach_text names (Order reason) = verdict_line (codes "serial") (No reason)
 breach_text names (Points reason) = verdict_line (codes "points") (No reason)
 breach_text names (Other part) = part_text part
-breach_text names (Write number op) = opener_text number ++ (codes " should be " ++ (op_text names op ++ (codes ", with which the chapter before ended" ++ 10 ∷ [])))
-breach_text names (Place number) = opener_text number ++ ((codes " should be number " ++ decimal number) ++ (codes " of the order" ++ 10 ∷ []))
+breach_text names (Write number op) =
+    opener_text number
+    ++ (codes " should be " ++ (op_text names op ++ (codes ", with which the chapter before ended" ++ 10 ∷ [])))
+breach_text names (Place number) =
+    opener_text number ++ ((codes " should be number " ++ decimal number) ++ (codes " of the order" ++ 10 ∷ []))
 
 -- the line that is told of reports of registers with these names
 abbrev pub ruling_text : List (List ℕ) → Ruling → List ℕ
 ruling_text names (Story chapters) = (codes "one story of " ++ decimal chapters) ++ (codes " chapters" ++ 10 ∷ [])
-ruling_text names (Broken chapter breach) = (codes "report " ++ decimal chapter) ++ (codes ": " ++ breach_text names breach)
+ruling_text names (Broken chapter breach) =
+    (codes "report " ++ decimal chapter) ++ (codes ": " ++ breach_text names breach)
 
 abbrev pub is_story : Ruling → Bool
 is_story (Story chapters) = true

@@ -18,7 +18,8 @@ use Rattle.reg_records.specs.Records.{FailsAt, IsFaithful}
 use Rattle.reg_commands.specs.FaultLines.{fault_line}
 use Rattle.reg_commands.specs.Replays.{start_of, plan_in, PointsOf, Shows}
 use Rattle.reg_commands.specs.declared.faults.Fault.{Fault}
-use Rattle.reg_commands.specs.declared.faults.Fault.TheVariants.{Unread, TooLong, NotText, Output, Line, Event, Workload, OutOfMemory}
+use Rattle.reg_commands.specs.declared.faults.Fault.TheVariants.{Unread, TooLong, NotText, Output, Line, Event}
+use Rattle.reg_commands.specs.declared.faults.Fault.TheVariants.{Workload, OutOfMemory}
 use Rattle.reg_verify.specs.declared.faults.VerifyFault.{VerifyFault}
 use Rattle.reg_verify.specs.declared.faults.VerifyFault.TheVariants.{Command, Unfaithful}
 use Rattle.reg_node.specs.declared.transcripts.recorded.Recorded.{Recorded}
@@ -47,7 +48,8 @@ line_at place = place + 5
 
 -- The steps of a record are a run, and this is its report, under the record's front end and names: its history and its
 -- witness, and points as `AreSo` says.
-pub record ShowsAccount (start : Op → ℕ → Start) (a : Account) (AreSo : Plan → Option (List Point) → Type 0) (r : Contents) : Type 0 where
+pub record ShowsAccount (start : Op → ℕ → Start) (a : Account) (AreSo : Plan → Option (List Point) → Type 0)
+    (r : Contents) : Type 0 where
   pub world : Made
   pub runs : Runs start a.shape a.steps world
   pub shows : Shows start (plan_in a.front a.names world) r
@@ -68,11 +70,14 @@ pub record Verifies (Wrote : List ℕ → Type 0) (text : List ℕ) : Type 0 whe
 
 -- the text is that of a record whose steps are a run
 abbrev pub IsAccepted : List ℕ → Type 0
-IsAccepted text = (a : Account) × IsAccount a × SpellsAccount text a × ((w : Made) × Runs (start_of a.front) a.shape a.steps w)
+IsAccepted text =
+    (a : Account) × IsAccount a × SpellsAccount text a × ((w : Made) × Runs (start_of a.front) a.shape a.steps w)
 
 -- the text is no record's, and the line is the first with which none goes on
 abbrev pub IsRefused : ℕ → ReadWhy → List ℕ → Type 0
-IsRefused line why text = ((a : Account) → IsAccount a → ¬ SpellsAccount text a) × (length text ≤ LONGEST_INPUT → (told : Why) × (why ≡ why_of told) × RefusesAccount line told text)
+IsRefused line why text =
+    ((a : Account) → IsAccount a → ¬ SpellsAccount text a)
+    × (length text ≤ LONGEST_INPUT → (told : Why) × (why ≡ why_of told) × RefusesAccount line told text)
 
 -- The text is that of a record, and the step on this line is the first with which its steps are no run.
 pub record IsUnfaithful (line : ℕ) (text : List ℕ) : Type 0 where

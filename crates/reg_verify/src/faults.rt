@@ -57,7 +57,8 @@ fn put_unfaithful<W: Write>(sink: &mut Sink<'_, W>, line: u64)
 
 /// Writes the line of an unfaithful step, all of it or, where the writer fails, a first part.
 fn write_unfaithful<W: Write>(errors: &mut W, line: u64) -> Result<(), Unwritten>
-    ensures { IsWritten result (W.contents errors.old) (W.contents errors.new) (verify_line (VerifyFault.Unfaithful line)) }
+    ensures { IsWritten result (W.contents errors.old) (W.contents errors.new)
+        (verify_line (VerifyFault.Unfaithful line)) }
 {
     let mut sink = Sink::new(errors);
     put_unfaithful(&mut sink, line);

@@ -1,9 +1,11 @@
 //! The logs of all processes of one chapter: read, and compared.
-ghost use Rattle.std.specs.Prelude.{◌≡◌, ◌<◌, ◌≤◌, ◌↔◌, ℕ, true, None, IfErr, IfOk, MatchOption, MatchResult, length, map, option_copied, slice_get};
+ghost use Rattle.std.specs.Prelude.{◌≡◌, ◌<◌, ◌≤◌, ◌↔◌, ℕ, true, None, IfErr, IfOk, MatchOption, MatchResult, length};
+ghost use Rattle.std.specs.Prelude.{map, option_copied, slice_get};
 ghost use Rattle.reg_base.specs.declared.limits.TheConstants.{MOST_PROCESSES};
 ghost use Rattle.reg_checkers.specs.History.{IsAt};
 ghost use Rattle.reg_node.specs.LogTexts.{Journal};
-ghost use Rattle.reg_verify.specs.Gathers.{Agree, AllAgree, AreApart, AreGathered, AreSpelled, DifferFirst, HasLogOf, IsGatherFault, IsLogsFault, IsTextOf, IsUnread};
+ghost use Rattle.reg_verify.specs.Gathers.{Agree, AllAgree, AreApart, AreGathered, AreSpelled, DifferFirst, HasLogOf};
+ghost use Rattle.reg_verify.specs.Gathers.{IsGatherFault, IsLogsFault, IsTextOf, IsUnread};
 ghost use Rattle.reg_verify.specs.Gathering.{NoneBefore, told_unread};
 
 use reg_base::Names;
@@ -186,7 +188,8 @@ fn process_of<A: Allocator + Copy>(log: &Log<A>) -> u8
 /// The place of a log of this process, of the first logs of this number.
 fn find_log<A: Allocator + Copy>(logs: &[Log<A>], count: usize, process: u8) -> Option<usize>
     requires { count ≤ length logs.now }
-    ensures { MatchOption result (NoneBefore logs.now count process) (λ k. (k < count) × ((j : Journal) × IsAt logs.now k j × (j.id.process ≡ process))) }
+    ensures { MatchOption result (NoneBefore logs.now count process)
+        (λ k. (k < count) × ((j : Journal) × IsAt logs.now k j × (j.id.process ≡ process))) }
 {
     for place in 0..count {
         if process_of(&logs[place]) == process {

@@ -8,5 +8,6 @@ ghost use Rattle.reg_verify.specs.StoryLaws.{Act, AreActs, IsOneMemory};
 /// A story is one memory: the operations of all its orders, chapter by chapter and each chapter without its opening,
 /// have the answers that one memory gives, all zeros at first.
 pub fn a_story_is_one_memory()
-    ensures { (reports : List Contents) (first : Contents) (acts : List Act) → AreStory reports → IsAt reports 0 first → AreActs [] reports acts → IsOneMemory first.shape.registers acts }
+    ensures { (reports : List Contents) (first : Contents) (acts : List Act) → AreStory reports → IsAt reports 0 first
+        → AreActs [] reports acts → IsOneMemory first.shape.registers acts }
 {}

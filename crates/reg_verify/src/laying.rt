@@ -40,7 +40,8 @@ pub(crate) fn laid_out<A: Allocator + Copy>(
 
 /// The first step whose process is none of so many.
 pub(crate) fn first_beyond(processes: u32, steps: &[Recorded]) -> Option<usize>
-    ensures { MatchOption result (AllWithin processes steps.now) (λ place. (step : AnyRecorded) × IsAt steps.now place step × (processes ≤ step.process)) }
+    ensures { MatchOption result (AllWithin processes steps.now)
+        (λ place. (step : AnyRecorded) × IsAt steps.now place step × (processes ≤ step.process)) }
 {
     for place in 0..steps.len() {
         let step = steps[place];
@@ -54,7 +55,8 @@ pub(crate) fn first_beyond(processes: u32, steps: &[Recorded]) -> Option<usize>
 /// The place of the step of a process with this number, from 0.
 pub(crate) fn place_of(steps: &[Recorded], process: u8, number: u64) -> Option<usize>
     requires { length steps.now ≤ MOST_EVENTS }
-    ensures { MatchOption result (mentions process (order_of steps.now) ≤ number) (λ place. IsStepOf steps.now process number place) }
+    ensures { MatchOption result (mentions process (order_of steps.now) ≤ number)
+        (λ place. IsStepOf steps.now process number place) }
 {
     let mut before = 0;
     for place in 0..steps.len() {

@@ -5,7 +5,8 @@ ghost use Rattle.reg_checkers.specs.History.{IsAt};
 ghost use Rattle.reg_commands.specs.Replays.{start_of};
 ghost use Rattle.reg_node.specs.LogTexts.{Journal};
 ghost use Rattle.reg_node.specs.RecordLines.{Account, account_text};
-ghost use Rattle.reg_verify.specs.Gathers.{AreGathered, IsEntryAt, IsGatherFault, IsLogsFault, MergesLogs, joined as all_joined, steps_of};
+ghost use Rattle.reg_verify.specs.Gathers.{AreGathered, IsEntryAt, IsGatherFault, IsLogsFault, MergesLogs};
+ghost use Rattle.reg_verify.specs.Gathers.{joined as all_joined, steps_of};
 ghost use Rattle.reg_verify.specs.Merges.{Orders};
 
 use crate::faults::VerifyFault;
@@ -92,7 +93,8 @@ fn ordered<A: Allocator + Copy>(
     logs: &[Log<A>],
 ) -> Result<Vec<Recorded, A>, LogsFault>
     requires { AreGathered first.now logs.now }
-    ensures orders { IfOk result (λ v. Orders (start_of first.now.front) first.now.shape (all_joined logs.now) v.items) }
+    ensures orders { IfOk result
+        (λ v. Orders (start_of first.now.front) first.now.shape (all_joined logs.now) v.items) }
     ensures fault { IfErr result (IsGatherFault logs.now) }
 {
     let steps = joined(alloc, logs)?;
@@ -109,7 +111,9 @@ fn gathered_order<A: Allocator + Copy>(
     alloc: A,
     logs: &[Log<A>],
 ) -> Result<Vec<Recorded, A>, LogsFault>
-    ensures orders { IfOk result (λ v. (first : Journal) × AreGathered first logs.now × Orders (start_of first.front) first.shape (all_joined logs.now) v.items) }
+    ensures orders { IfOk result
+        (λ v. (first : Journal) × AreGathered first logs.now
+        × Orders (start_of first.front) first.shape (all_joined logs.now) v.items) }
     ensures fault { IfErr result (IsGatherFault logs.now) }
 {
     let first = gathered(logs)?;
@@ -122,7 +126,8 @@ fn record_like_first<A: Allocator + Copy>(
     steps: Vec<Recorded, A>,
 ) -> Record<A>
     requires { 0 < vec_len logs }
-    ensures { (first : Journal) × IsAt logs.items 0 first × (result ≡ record { front = first.front; shape = first.shape; names = first.names; steps = steps.items }) }
+    ensures { (first : Journal) × IsAt logs.items 0 first
+        × (result ≡ record { front = first.front; shape = first.shape; names = first.names; steps = steps.items }) }
 {
     let first = logs.remove(0);
     let Log {
@@ -163,7 +168,8 @@ pub fn merge_logs_text<A: Allocator + Copy>(
     alloc: A,
     texts: &[&[u8]],
 ) -> Result<Vec<u8, A>, LogsFault>
-    ensures merged { IfOk result (λ v. (r : Account) × MergesLogs (map (λ t. t.now) texts.now) r × (v.items ≡ account_text r)) }
+    ensures merged { IfOk result
+        (λ v. (r : Account) × MergesLogs (map (λ t. t.now) texts.now) r × (v.items ≡ account_text r)) }
     ensures fault { IfErr result (IsLogsFault (map (λ t. t.now) texts.now)) }
 {
     let record = merge_logs(alloc, texts)?;

@@ -78,7 +78,8 @@ fn stuck_at(place: usize) -> VerifyFault
 fn stuck_step(steps: &[Recorded], process: u8, number: u64) -> VerifyFault
     requires few { length steps.now ≤ MOST_EVENTS }
     requires one { number < mentions process (order_of steps.now) }
-    ensures { (place : ℕ) × (result ≡ VerifyFault.Unfaithful (line_at place)) × IsStepOf steps.now process number place }
+    ensures { (place : ℕ) × (result ≡ VerifyFault.Unfaithful (line_at place))
+        × IsStepOf steps.now process number place }
 {
     match place_of(steps, process, number) {
         Some(place) => stuck_at(place),
@@ -191,10 +192,12 @@ fn write_merged<A: Allocator + Copy, W: Write>(
     text: String<A>,
     writer: &mut W,
 ) -> Result<(), VerifyFault>
-    ensures ok { IfOk result (λ _. Merges (Appends (W.contents writer.old) (W.contents writer.new)) (string_bytes text)) }
+    ensures ok { IfOk result
+        (λ _. Merges (Appends (W.contents writer.old) (W.contents writer.new)) (string_bytes text)) }
     ensures why { IfErr result (λ f. BlamesMerge f (string_bytes text)) }
     ensures silent { IfErr result (λ f. f ≢ VerifyFault.Command Fault.Output → writer.new ≡ writer.old) }
-    ensures part { IsErrOf result (VerifyFault.Command Fault.Output) → Merges (AppendsPart (W.contents writer.old) (W.contents writer.new)) (string_bytes text) }
+    ensures part { IsErrOf result (VerifyFault.Command Fault.Output)
+        → Merges (AppendsPart (W.contents writer.old) (W.contents writer.new)) (string_bytes text) }
 {
     let bytes = merged_text(alloc, text)?;
     write_answer(writer, &bytes)?;
@@ -209,7 +212,8 @@ pub struct Merge;
 impl TextCommand for Merge {
     ghost use Rattle.std.specs.Prelude.{false, refl};
     ghost use Rattle.reg_commands.specs.declared.command.Command.TheVariants.{Check, Play};
-    ghost use Rattle.reg_commands.specs.declared.faults.Fault.TheVariants.{Unread, TooLong, NotText, Output, Line, Event, Workload, OutOfMemory};
+    ghost use Rattle.reg_commands.specs.declared.faults.Fault.TheVariants.{Unread, TooLong, NotText, Output, Line};
+    ghost use Rattle.reg_commands.specs.declared.faults.Fault.TheVariants.{Event, Workload, OutOfMemory};
 
     type Fault = VerifyFault;
 

@@ -12,7 +12,8 @@ ghost use Rattle.reg_text.specs.Writing.{AppendsPart};
 ghost use Rattle.reg_history.specs.Reports.{Contents};
 ghost use Rattle.reg_commands.specs.Statuses.{IsEither};
 ghost use Rattle.reg_verify.specs.Stories.{IsRuling};
-ghost use Rattle.reg_verify.specs.StoryTexts.{BlamesStory, SpellsReports, TellsReports, TellsStory, is_story as is_story_of};
+ghost use Rattle.reg_verify.specs.StoryTexts.{BlamesStory, SpellsReports, TellsReports, TellsStory};
+ghost use Rattle.reg_verify.specs.StoryTexts.{is_story as is_story_of};
 
 mod breaches;
 mod judging;
@@ -42,7 +43,8 @@ fn is_story(ruling: Ruling) -> bool
 /// The reports that a text is. The text is let go.
 fn reports_in<A: Allocator + Copy>(alloc: A, text: String<A>) -> Result<Vec<Report<A>, A>, Fault>
     ensures read { IfOk result (λ v. SpellsReports (string_bytes text) v.items) }
-    ensures whole { IfOk result (λ v. (others : List Contents) → SpellsReports (string_bytes text) others → others ≡ v.items) }
+    ensures whole { IfOk result
+        (λ v. (others : List Contents) → SpellsReports (string_bytes text) others → others ≡ v.items) }
     ensures some { IfOk result (λ v. 0 < length v.items) }
     ensures why { IfErr result (λ f. BlamesStory f (string_bytes text)) }
     ensures kind { IfErr result (λ f. (f ≢ Fault.Output) × (f ≢ Fault.Unread)) }
@@ -73,10 +75,13 @@ fn tell_of<A: Allocator + Copy, W: Write>(
     writer: &mut W,
 ) -> Result<bool, Fault>
     requires { 0 < length reports.now }
-    ensures ok { IfOk result (λ agrees. TellsReports agrees (Appends (W.contents writer.old) (W.contents writer.new)) reports.now) }
+    ensures ok { IfOk result
+        (λ agrees. TellsReports agrees (Appends (W.contents writer.old) (W.contents writer.new)) reports.now) }
     ensures why { IfErr result (λ f. (f ≡ Fault.Output) ⊎ (f ≡ Fault.OutOfMemory)) }
     ensures silent { IfErr result (λ f. f ≢ Fault.Output → writer.new ≡ writer.old) }
-    ensures part { IsErrOf result Fault.Output → (agrees : Bool) × TellsReports agrees (AppendsPart (W.contents writer.old) (W.contents writer.new)) reports.now }
+    ensures part { IsErrOf result Fault.Output
+        → (agrees : Bool)
+        × TellsReports agrees (AppendsPart (W.contents writer.old) (W.contents writer.new)) reports.now }
 {
     let ruling = ruled(alloc, reports)?;
     match write_ruling(writer, reports[0].names(), ruling) {
@@ -91,10 +96,12 @@ fn tell_story<A: Allocator + Copy, W: Write>(
     text: String<A>,
     writer: &mut W,
 ) -> Result<bool, Fault>
-    ensures ok { IfOk result (λ agrees. TellsStory agrees (Appends (W.contents writer.old) (W.contents writer.new)) (string_bytes text)) }
+    ensures ok { IfOk result
+        (λ agrees. TellsStory agrees (Appends (W.contents writer.old) (W.contents writer.new)) (string_bytes text)) }
     ensures why { IfErr result (λ f. BlamesStory f (string_bytes text)) }
     ensures silent { IfErr result (λ f. f ≢ Fault.Output → writer.new ≡ writer.old) }
-    ensures part { IsErrOf result Fault.Output → IsEither TellsStory (AppendsPart (W.contents writer.old) (W.contents writer.new)) (string_bytes text) }
+    ensures part { IsErrOf result Fault.Output
+        → IsEither TellsStory (AppendsPart (W.contents writer.old) (W.contents writer.new)) (string_bytes text) }
 {
     let reports = reports_in(alloc, text)?;
     tell_of(alloc, &reports, writer)
@@ -108,7 +115,8 @@ pub struct Story;
 impl TextCommand for Story {
     ghost use Rattle.std.specs.Prelude.{⊤, false, refl};
     ghost use Rattle.reg_commands.specs.declared.command.Command.TheVariants.{Check, Play};
-    ghost use Rattle.reg_commands.specs.declared.faults.Fault.TheVariants.{Unread, TooLong, NotText, Output, Line, Event, Workload, OutOfMemory};
+    ghost use Rattle.reg_commands.specs.declared.faults.Fault.TheVariants.{Unread, TooLong, NotText, Output, Line};
+    ghost use Rattle.reg_commands.specs.declared.faults.Fault.TheVariants.{Event, Workload, OutOfMemory};
     ghost use Rattle.reg_verify.specs.StoryTexts.{BlamesStory, TellsStory};
 
     type Fault = Fault;

@@ -8,7 +8,8 @@ ghost use Rattle.reg_commands.specs.Replays.{PointsOf, start_of};
 ghost use Rattle.reg_records.specs.Records.{FailsAt, IsFaithful};
 ghost use Rattle.reg_verify.specs.Judging.{BlamesSteps};
 ghost use Rattle.reg_node.specs.RecordLines.{Account, IsAccount, SpellsAccount};
-ghost use Rattle.reg_verify.specs.Verifies.{BlamesAccount, BlamesText, IsReportOfAccount, Runs, ShowsAccount, Verifies, line_at};
+ghost use Rattle.reg_verify.specs.Verifies.{BlamesAccount, BlamesText, IsReportOfAccount, Runs, ShowsAccount, Verifies};
+ghost use Rattle.reg_verify.specs.Verifies.{line_at};
 
 use crate::faults::VerifyFault;
 use crate::logs::part;
@@ -55,7 +56,10 @@ fn run_logs<F: FrontEnd, A: Allocator + Copy>(
     requires logs { length logs.now ≡ shape.processes }
     requires few { length order.now ≤ MOST_EVENTS }
     ensures ran { IfOk result (λ w. IsFaithful F.start shape order.now (lists logs.now) w) }
-    ensures why { IfErr result (λ f. (f ≡ VerifyFault.Command Fault.OutOfMemory) ⊎ ((place : ℕ) × (f ≡ VerifyFault.Unfaithful (line_at place)) × FailsAt F.start shape order.now (lists logs.now) place)) }
+    ensures why { IfErr result
+        (λ f. (f ≡ VerifyFault.Command Fault.OutOfMemory)
+        ⊎ ((place : ℕ) × (f ≡ VerifyFault.Unfaithful (line_at place))
+        × FailsAt F.start shape order.now (lists logs.now) place)) }
 {
     match play(alloc, shape, order, logs) {
         Ok(world) => Ok(world),
@@ -123,7 +127,8 @@ pub fn report_by_front<A: Allocator + Copy>(
 
 /// The report of the record that a text spells. The text is let go before the run.
 fn verified<A: Allocator + Copy>(alloc: A, text: String<A>) -> Result<Report<A>, VerifyFault>
-    ensures ok { IfOk result (λ r. (a : Account) × IsAccount a × SpellsAccount (string_bytes text) a × IsReportOfAccount a r) }
+    ensures ok { IfOk result
+        (λ r. (a : Account) × IsAccount a × SpellsAccount (string_bytes text) a × IsReportOfAccount a r) }
     ensures why { IfErr result (λ f. BlamesAccount f (string_bytes text)) }
     ensures kind { IfErr result (λ f. f ≢ VerifyFault.Command Fault.Output) }
 {
@@ -139,10 +144,12 @@ fn judge_record<A: Allocator + Copy, W: Write>(
     text: String<A>,
     writer: &mut W,
 ) -> Result<(), VerifyFault>
-    ensures ok { IfOk result (λ _. Verifies (Appends (W.contents writer.old) (W.contents writer.new)) (string_bytes text)) }
+    ensures ok { IfOk result
+        (λ _. Verifies (Appends (W.contents writer.old) (W.contents writer.new)) (string_bytes text)) }
     ensures why { IfErr result (λ f. BlamesAccount f (string_bytes text)) }
     ensures silent { IfErr result (λ f. f ≢ VerifyFault.Command Fault.Output → writer.new ≡ writer.old) }
-    ensures part { IsErrOf result (VerifyFault.Command Fault.Output) → Verifies (AppendsPart (W.contents writer.old) (W.contents writer.new)) (string_bytes text) }
+    ensures part { IsErrOf result (VerifyFault.Command Fault.Output)
+        → Verifies (AppendsPart (W.contents writer.old) (W.contents writer.new)) (string_bytes text) }
 {
     let report = verified(alloc, text)?;
     write_out(writer, &report)?;
@@ -156,7 +163,8 @@ pub struct Verify;
 impl TextCommand for Verify {
     ghost use Rattle.std.specs.Prelude.{false, refl};
     ghost use Rattle.reg_commands.specs.declared.command.Command.TheVariants.{Check, Play};
-    ghost use Rattle.reg_commands.specs.declared.faults.Fault.TheVariants.{Unread, TooLong, NotText, Output, Line, Event, Workload, OutOfMemory};
+    ghost use Rattle.reg_commands.specs.declared.faults.Fault.TheVariants.{Unread, TooLong, NotText, Output, Line};
+    ghost use Rattle.reg_commands.specs.declared.faults.Fault.TheVariants.{Event, Workload, OutOfMemory};
 
     type Fault = VerifyFault;
 

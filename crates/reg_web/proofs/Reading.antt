@@ -3,11 +3,13 @@ use Rattle.std.proofs.Common.{ℕ, ◌≡◌, ◌≢◌, List, refl}
 use Rattle.reg_commands.specs.Answers.{Blames}
 use Rattle.reg_commands.specs.declared.command.Command.TheVariants.{Replay}
 use Rattle.reg_commands.specs.declared.faults.Fault.{Fault}
-use Rattle.reg_commands.specs.declared.faults.Fault.TheVariants.{Unread, TooLong, NotText, Output, Line, Event, Workload, OutOfMemory}
+use Rattle.reg_commands.specs.declared.faults.Fault.TheVariants.{Unread, TooLong, NotText, Output, Line, Event}
+use Rattle.reg_commands.specs.declared.faults.Fault.TheVariants.{Workload, OutOfMemory}
 use Rattle.reg_web.specs.Under.{BlamesUnread, fault_of_reading}
 
 -- what the replay of a schedule says by a fault that is none of its output
-pub read_blames : (fault : Fault) (text : List ℕ) → fault ≢ Output → Blames Replay fault text → BlamesUnread (fault_of_reading fault) text
+pub read_blames : (fault : Fault) (text : List ℕ) → fault ≢ Output → Blames Replay fault text
+    → BlamesUnread (fault_of_reading fault) text
 read_blames Unread text other blamed = blamed
 read_blames TooLong text other blamed = blamed
 read_blames NotText text other blamed = blamed

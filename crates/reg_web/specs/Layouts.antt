@@ -19,7 +19,8 @@ IsLayoutFault _ = ⊥
 -- said; or it says a workload, of which nothing is shown for this reason.
 abbrev pub BlamesLayout : {F : Type 0} → (Fault → F) → (F → Load → Type 0) → F → List ℕ → Type 0
 BlamesLayout of_fault IsStopped f text =
-    ((fault : Fault) × (f ≡ of_fault fault) × (Blames (Play false) fault text ⊎ IsLayoutFault fault)) ⊎ ((work : Load) × Holds text work × IsStopped f work)
+    ((fault : Fault) × (f ≡ of_fault fault) × (Blames (Play false) fault text ⊎ IsLayoutFault fault))
+    ⊎ ((work : Load) × Holds text work × IsStopped f work)
 
 -- The report of the player's play of the workload was written: `Wrote` says how a text was.
 pub record ShowsReport (fair : Bool) (Wrote : List ℕ → Type 0) (work : Load) : Type 0 where

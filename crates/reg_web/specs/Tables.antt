@@ -7,7 +7,8 @@ use Rattle.reg_base.specs.declared.memory.Op.{Op}
 use Rattle.reg_base.specs.declared.memory.Op.TheVariants.{Read, Write, Swap, CompareAndSwap}
 use Rattle.reg_front.specs.Fronts.{MayStart, KeepsLaws}
 use Rattle.reg_front.specs.declared.starts.Start.{Start}
-use Rattle.reg_front.specs.declared.starts.Start.TheVariants.{Cast as Casts, CastAndAnswer as CastsAndAnswers, Look as Looks, Hold as Holds}
+use Rattle.reg_front.specs.declared.starts.Start.TheVariants.{Cast as Casts, CastAndAnswer as CastsAndAnswers}
+use Rattle.reg_front.specs.declared.starts.Start.TheVariants.{Look as Looks, Hold as Holds}
 use Rattle.reg_web.specs.declared.tables.Table.{Table}
 
 -- the table of a number, by its last four binary digits
@@ -22,8 +23,10 @@ table_of number = record {
 -- How an operation starts, by the number of own casts on their way, where these four rows are chosen: a read looks at
 -- the copy, a read is held, a first write is answered at once, and a later one.
 abbrev pub start_by : (looks holds first later : Bool) → Op → ℕ → Start
-start_by looks holds first later (Read r) unsettled = cond (unsettled == 0) (cond looks Looks Casts) (cond holds Holds Casts)
-start_by looks holds first later (Write r v) unsettled = cond (unsettled == 0) (cond first CastsAndAnswers Casts) (cond later CastsAndAnswers Casts)
+start_by looks holds first later (Read r) unsettled =
+    cond (unsettled == 0) (cond looks Looks Casts) (cond holds Holds Casts)
+start_by looks holds first later (Write r v) unsettled =
+    cond (unsettled == 0) (cond first CastsAndAnswers Casts) (cond later CastsAndAnswers Casts)
 start_by looks holds first later (Swap r v) unsettled = Casts
 start_by looks holds first later (CompareAndSwap r e v) unsettled = Casts
 
@@ -31,7 +34,8 @@ start_by looks holds first later (CompareAndSwap r e v) unsettled = Casts
 abbrev pub start_in : Table → Op → ℕ → Start
 start_in t = start_by t.looks t.holds t.answers_first t.answers_later
 
-reads : (r u : ℕ) (looks holds none : Bool) → (u == 0) ≡ none → MayStart (Read r) u (cond none (cond looks Looks Casts) (cond holds Holds Casts))
+reads : (r u : ℕ) (looks holds none : Bool) → (u == 0) ≡ none
+    → MayStart (Read r) u (cond none (cond looks Looks Casts) (cond holds Holds Casts))
 reads r u true holds true is = (refl, eqb-true u 0 is)
 reads r u false holds true is = tt
 reads r u looks true false is = (refl, (let some : 0 < u = grind (arith, nat_tests) in some))
@@ -41,7 +45,8 @@ may_answer : (r v u : ℕ) (answers : Bool) → MayStart (Write r v) u (cond ans
 may_answer r v u true = λ m. refl
 may_answer r v u false = tt
 
-writes : (r v u : ℕ) (first later none : Bool) → MayStart (Write r v) u (cond none (cond first CastsAndAnswers Casts) (cond later CastsAndAnswers Casts))
+writes : (r v u : ℕ) (first later none : Bool)
+    → MayStart (Write r v) u (cond none (cond first CastsAndAnswers Casts) (cond later CastsAndAnswers Casts))
 writes r v u first later true = may_answer r v u first
 writes r v u first later false = may_answer r v u later
 

@@ -7,7 +7,8 @@ use Rattle.reg_commands.specs.Replays.{BlamesRun, Shows}
 use Rattle.reg_commands.specs.declared.command.Command.{Command}
 use Rattle.reg_commands.specs.declared.command.Command.TheVariants.{Check, Replay}
 use Rattle.reg_commands.specs.declared.faults.Fault.{Fault}
-use Rattle.reg_commands.specs.declared.faults.Fault.TheVariants.{Unread, TooLong, NotText, Output, Line, Event, Workload, OutOfMemory}
+use Rattle.reg_commands.specs.declared.faults.Fault.TheVariants.{Unread, TooLong, NotText, Output, Line, Event}
+use Rattle.reg_commands.specs.declared.faults.Fault.TheVariants.{Workload, OutOfMemory}
 use Rattle.reg_trace.specs.Data.{Data, IsDataOf, data_text}
 use Rattle.reg_trace.specs.Notes.{Notes, notes_of}
 use Rattle.reg_front.specs.declared.starts.Start.{Start}
@@ -44,11 +45,14 @@ pub record ReplaysUnder (start : Op → ℕ → Start) (Wrote : List ℕ → Typ
 -- what is told of the run of a plan, where its operations start so: its data with these notes and no points, or why
 -- there is none
 abbrev pub IsDataUnder : (Op → ℕ → Start) → Plan → Notes → Result Data ShowFault → Type 0
-IsDataUnder start p notes told = OnOk told (length p.events ≤ MOST_TOLD) × IfOk told (λ d. IsDataOf start p notes None d) × IfErr told (λ f. StopsTold start p f) × IfErr told (λ f. f ≢ ShowCommand Output)
+IsDataUnder start p notes told =
+    OnOk told (length p.events ≤ MOST_TOLD) × IfOk told (λ d. IsDataOf start p notes None d)
+    × IfErr told (λ f. StopsTold start p f) × IfErr told (λ f. f ≢ ShowCommand Output)
 
 -- the report of the run of a plan, where its operations start so, without points, or why there is none
 abbrev pub IsReportUnder : (Op → ℕ → Start) → Plan → Result Contents Fault → Type 0
-IsReportUnder start p made = IfOk made (λ r. Shows start p r × (r.points ≡ None)) × IfErr made (λ f. BlamesRun start p f)
+IsReportUnder start p made =
+    IfOk made (λ r. Shows start p r × (r.points ≡ None)) × IfErr made (λ f. BlamesRun start p f)
 
 -- what a fault says of a text of which no run is made: what the replay of a schedule says by it
 abbrev pub BlamesUnread : Fault → List ℕ → Type 0
@@ -60,7 +64,8 @@ BlamesUnread fault text = Blames Replay fault text
 -- reason
 abbrev pub BlamesUnder : {F : Type 0} → (Fault → F) → (Plan → F → Type 0) → F → List ℕ → Type 0
 BlamesUnder of_fault Stops f text =
-    ((fault : Fault) × (f ≡ of_fault fault) × BlamesUnread fault text) ⊎ ((p : Plan) × IsPlan p × Spells text p × Stops p f)
+    ((fault : Fault) × (f ≡ of_fault fault) × BlamesUnread fault text)
+    ⊎ ((p : Plan) × IsPlan p × Spells text p × Stops p f)
 
 -- a fault of the reader of schedules, which tells of no event
 abbrev pub fault_of_reading : Fault → Fault
@@ -68,7 +73,8 @@ fault_of_reading (Event at fault) = OutOfMemory
 fault_of_reading fault = fault
 
 -- a fault that all commands tell of their input
-pub unread : (fault : Fault) (text : List ℕ) → fault ≢ Output → ((command : Command) → Blames command fault text) → BlamesUnread fault text
+pub unread : (fault : Fault) (text : List ℕ) → fault ≢ Output → ((command : Command) → Blames command fault text)
+    → BlamesUnread fault text
 unread Unread text other blamed = blamed Replay
 unread TooLong text other blamed = blamed Replay
 unread NotText text other blamed = blamed Replay

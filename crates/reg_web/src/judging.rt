@@ -11,7 +11,8 @@ pub(crate) struct Replay;
 impl TextCommand for Replay {
     ghost use Rattle.std.specs.Prelude.{◌≡◌};
     ghost use Rattle.reg_commands.specs.Answers.{Answers, Blames};
-    ghost use Rattle.reg_commands.specs.declared.command.Command.TheVariants.{Check as CheckCommand, Replay as ReplayCommand};
+    ghost use Rattle.reg_commands.specs.declared.command.Command.TheVariants.{Check as CheckCommand};
+    ghost use Rattle.reg_commands.specs.declared.command.Command.TheVariants.{Replay as ReplayCommand};
 
     type Fault = Fault;
 

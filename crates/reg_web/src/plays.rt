@@ -80,7 +80,9 @@ pub extern "C" fn tellwydar_schedule(
     errors: &mut [u8],
     lengths: &mut Lengths,
 ) -> u8
-    ensures { Fills (IsShownOf (λ fault _. StopsSchedule fault) (λ Wrote work. ShowsSchedule false (start_of work.front) Wrote (reseeded None work)) text.now) result output.old output.new errors.old errors.new lengths.new }
+    ensures { Fills (IsShownOf (λ fault _. StopsSchedule fault)
+        (λ Wrote work. ShowsSchedule false (start_of work.front) Wrote (reseeded None work)) text.now) result output.old
+        output.new errors.old errors.new lengths.new }
 {
     let player = Player::Seeded { seed: None };
     let command = FullSchedule { player };
@@ -98,7 +100,10 @@ pub extern "C" fn tellwydar_short(
     errors: &mut [u8],
     lengths: &mut Lengths,
 ) -> u8
-    ensures { Fills (IsShownOf (λ fault work. StopsShort false (start_of work.front) (reseeded None work) fault) (λ Wrote work. ShowsShort false (start_of work.front) Wrote (reseeded None work)) text.now) result output.old output.new errors.old errors.new lengths.new }
+    ensures { Fills
+        (IsShownOf (λ fault work. StopsShort false (start_of work.front) (reseeded None work) fault)
+        (λ Wrote work. ShowsShort false (start_of work.front) Wrote (reseeded None work)) text.now)
+        result output.old output.new errors.old errors.new lengths.new }
 {
     let player = Player::Seeded { seed: None };
     let command = ShortSchedule { player };
@@ -116,7 +121,9 @@ pub extern "C" fn tellwydar_schedule_fair(
     errors: &mut [u8],
     lengths: &mut Lengths,
 ) -> u8
-    ensures { Fills (IsShownOf (λ fault _. StopsSchedule fault) (λ Wrote work. ShowsSchedule true (start_of work.front) Wrote (reseeded None work)) text.now) result output.old output.new errors.old errors.new lengths.new }
+    ensures { Fills (IsShownOf (λ fault _. StopsSchedule fault)
+        (λ Wrote work. ShowsSchedule true (start_of work.front) Wrote (reseeded None work)) text.now) result output.old
+        output.new errors.old errors.new lengths.new }
 {
     let player = Player::Fair;
     let command = FullSchedule { player };
@@ -134,7 +141,10 @@ pub extern "C" fn tellwydar_short_fair(
     errors: &mut [u8],
     lengths: &mut Lengths,
 ) -> u8
-    ensures { Fills (IsShownOf (λ fault work. StopsShort true (start_of work.front) (reseeded None work) fault) (λ Wrote work. ShowsShort true (start_of work.front) Wrote (reseeded None work)) text.now) result output.old output.new errors.old errors.new lengths.new }
+    ensures { Fills
+        (IsShownOf (λ fault work. StopsShort true (start_of work.front) (reseeded None work) fault)
+        (λ Wrote work. ShowsShort true (start_of work.front) Wrote (reseeded None work)) text.now)
+        result output.old output.new errors.old errors.new lengths.new }
 {
     let player = Player::Fair;
     let command = ShortSchedule { player };
@@ -153,7 +163,10 @@ pub extern "C" fn tellwydar_outcomes(
     errors: &mut [u8],
     lengths: &mut Lengths,
 ) -> u8
-    ensures { Fills (IsShownOf (λ fault work. StopsPlays (min plays MOST_PLAYS) (start_of work.front) (reseeded None work) fault) (λ Wrote work. ShowsOutcomes (min plays MOST_PLAYS) (start_of work.front) Wrote (reseeded None work)) text.now) result output.old output.new errors.old errors.new lengths.new }
+    ensures { Fills
+        (IsShownOf (λ fault work. StopsPlays (min plays MOST_PLAYS) (start_of work.front) (reseeded None work) fault)
+        (λ Wrote work. ShowsOutcomes (min plays MOST_PLAYS) (start_of work.front) Wrote (reseeded None work)) text.now)
+        result output.old output.new errors.old errors.new lengths.new }
 {
     let plays = plays.min(MOST_PLAYS);
     let command = ManyPlays { plays, seed: None };
@@ -171,7 +184,9 @@ pub extern "C" fn tellwydar_outcomes_all(
     errors: &mut [u8],
     lengths: &mut Lengths,
 ) -> u8
-    ensures { Fills (IsShownOf (λ fault work. StopsAll work fault) (λ Wrote work. ShowsAll work.scripts work.shape.registers Wrote) text.now) result output.old output.new errors.old errors.new lengths.new }
+    ensures { Fills (IsShownOf (λ fault work. StopsAll work fault)
+        (λ Wrote work. ShowsAll work.scripts work.shape.registers Wrote) text.now) result output.old output.new
+        errors.old errors.new lengths.new }
 {
     let command = EveryOutcome;
     let command = InLayout { command };
@@ -189,7 +204,10 @@ pub extern "C" fn tellwydar_outcome(
     errors: &mut [u8],
     lengths: &mut Lengths,
 ) -> u8
-    ensures { Fills (IsShownOf (λ fault work. StopsOutcome (max number 1) work fault) (λ Wrote work. ShowsOutcome (max number 1) (start_of work.front) Wrote work) text.now) result output.old output.new errors.old errors.new lengths.new }
+    ensures { Fills
+        (IsShownOf (λ fault work. StopsOutcome (max number 1) work fault)
+        (λ Wrote work. ShowsOutcome (max number 1) (start_of work.front) Wrote work) text.now)
+        result output.old output.new errors.old errors.new lengths.new }
 {
     let number = number.max(1);
     let command = OneOutcome { number };

@@ -15,7 +15,9 @@ fn tell_over<C: TextCommand, A: Allocator + Copy>(
     lengths: &mut Lengths,
 ) -> u8
     requires { C.IsReady command }
-    ensures { Fills (IsTold (C.MayDeny command) C.Fault.of_fault C.Fault.line (C.IsBlamed command) (C.IsAnswer command) text.now) result output.old output.new errors.old errors.new lengths.new }
+    ensures { Fills
+        (IsTold (C.MayDeny command) C.Fault.of_fault C.Fault.line (C.IsBlamed command) (C.IsAnswer command) text.now)
+        result output.old output.new errors.old errors.new lengths.new }
 {
     tell(command, alloc, text).put(output, errors, lengths)
 }
@@ -30,7 +32,9 @@ pub(crate) fn tell_in<C: TextCommand>(
     lengths: &mut Lengths,
 ) -> u8
     requires { C.IsReady command }
-    ensures { Fills (IsTold (C.MayDeny command) C.Fault.of_fault C.Fault.line (C.IsBlamed command) (C.IsAnswer command) text.now) result output.old output.new errors.old errors.new lengths.new }
+    ensures { Fills
+        (IsTold (C.MayDeny command) C.Fault.of_fault C.Fault.line (C.IsBlamed command) (C.IsAnswer command) text.now)
+        result output.old output.new errors.old errors.new lengths.new }
 {
     let heap = LentHeap::new(room.take());
     let status = tell_over(command, &heap, text, output, errors, lengths);

@@ -7,7 +7,8 @@ ghost use Rattle.reg_commands.specs.declared.command.Command.{Command};
 ghost use Rattle.reg_outcomes.specs.declared.orders.kinds.OrderKind.{OrderKind as AnyOrder};
 ghost use Rattle.reg_show.specs.declared.showing.Showing.{Showing as AnyShowing};
 ghost use Rattle.reg_web.specs.Tables.{start_in, table_of};
-ghost use Rattle.reg_web.specs.Texts.{IsAnswer, IsExplained, IsFound, IsMerged, IsReplayedUnder, IsRuled, IsShown, IsToldUnder, IsVerified, kind_number};
+ghost use Rattle.reg_web.specs.Texts.{IsAnswer, IsExplained, IsFound, IsMerged, IsReplayedUnder, IsRuled, IsShown};
+ghost use Rattle.reg_web.specs.Texts.{IsToldUnder, IsVerified, kind_number};
 
 use crate::judging::{Check, Replay, ShowSchedule};
 use crate::tables::Table;
@@ -234,7 +235,8 @@ pub extern "C" fn tellwydar_draw_large(
     errors: &mut [u8],
     lengths: &mut Lengths,
 ) -> u8
-    ensures { Fills (IsShown AnyShowing.DrawLarge text.now) result output.old output.new errors.old errors.new lengths.new }
+    ensures { Fills (IsShown AnyShowing.DrawLarge text.now) result output.old output.new errors.old errors.new
+        lengths.new }
 {
     let showing = Showing::DrawLarge;
     tell_in(
@@ -284,7 +286,8 @@ pub extern "C" fn tellwydar_data_under(
     errors: &mut [u8],
     lengths: &mut Lengths,
 ) -> u8
-    ensures { Fills (IsToldUnder (start_in (table_of table)) text.now) result output.old output.new errors.old errors.new lengths.new }
+    ensures { Fills (IsToldUnder (start_in (table_of table)) text.now) result output.old output.new errors.old
+        errors.new lengths.new }
 {
     let table = Table::numbered(table);
     let command = DataUnder { table };
@@ -303,7 +306,8 @@ pub extern "C" fn tellwydar_replay_under(
     errors: &mut [u8],
     lengths: &mut Lengths,
 ) -> u8
-    ensures { Fills (IsReplayedUnder (start_in (table_of table)) text.now) result output.old output.new errors.old errors.new lengths.new }
+    ensures { Fills (IsReplayedUnder (start_in (table_of table)) text.now) result output.old output.new errors.old
+        errors.new lengths.new }
 {
     let table = Table::numbered(table);
     let command = ReplayUnder { table };

@@ -1,5 +1,6 @@
 -- That no fault applies to what a player makes.
-use Rattle.std.proofs.Common.{◌≡◌, ℕ, ◌+◌, ◌<◌, ◌≤◌, Bool, true, false, not, List, [], ◌∷◌, length, Option, Some, None, refl, sym, ap, ◌∙◌, arith, length-append}
+use Rattle.std.proofs.Common.{◌≡◌, ℕ, ◌+◌, ◌<◌, ◌≤◌, Bool, true, false, not, List, [], ◌∷◌, length, Option, Some, None}
+use Rattle.std.proofs.Common.{refl, sym, ap, ◌∙◌, arith, length-append}
 use Rattle.std.specs.Prelude.{cond, ◌==◌, ◌&&◌, nat_lt, slice_get, slice_index_or}
 use Rattle.std.specs.Option.{is_some}
 use Rattle.std.proofs.lemmas.Bool.{cond-true, eq-eqb, cond_both, ltb-true, lt-ltb}
@@ -16,7 +17,8 @@ use Rattle.reg_process.specs.declared.steps.Step.TheVariants.{Call as CallStep, 
 use Rattle.reg_process.specs.declared.events.Event.{Event}
 use Rattle.reg_process.specs.declared.events.Event.TheVariants.{Call, Take, Tick}
 use Rattle.reg_world.specs.declared.faults.WorldFault.{WorldFault}
-use Rattle.reg_world.specs.declared.faults.WorldFault.TheVariants.{Failed, TooManyEvents, NoProcess, Busy, NoRegister, TooManyOperations, NoFrame}
+use Rattle.reg_world.specs.declared.faults.WorldFault.TheVariants.{Failed, TooManyEvents, NoProcess, Busy, NoRegister}
+use Rattle.reg_world.specs.declared.faults.WorldFault.TheVariants.{TooManyOperations, NoFrame}
 use Rattle.reg_world.specs.Nodes.{Node, after_step, take_step}
 use Rattle.reg_world.specs.Pages.{calls_after}
 use Rattle.reg_world.specs.World.{World, empty_world, move_of, moved, happens, run, frame_fault}
@@ -27,7 +29,8 @@ use Rattle.reg_workload.specs.Plays.{call_at, calls_of, script_of, Playing, next
 use Rattle.reg_workload.specs.PlayParts.{IsPlaying, IsReadyToCall}
 
 -- a run accepts no more events than it is given
-few_in : (start : Op → ℕ → Start) (n registers : ℕ) (es : List Event) (w : World) → length (run start n registers es w).accepted ≤ length w.accepted + length es
+few_in : (start : Op → ℕ → Start) (n registers : ℕ) (es : List Event) (w : World)
+    → length (run start n registers es w).accepted ≤ length w.accepted + length es
 few_in start n registers [] w = omega arith
 few_in start n registers (e ∷ es) w =
     let r = few_in start n registers es (happens start n registers w e) in
@@ -39,7 +42,8 @@ few_in start n registers (e ∷ es) w =
     one w e (Some m) = let l = length-append w.accepted (e ∷ []) in omega (arith, l)
 
 pub few_accepted : (start : Op → ℕ → Start) (m : Made) → length (run_in start m).accepted ≤ length m.accepted
-few_accepted start m = let l = few_in start m.processes m.registers m.accepted (empty_world m.processes m.registers) in omega (arith, l)
+few_accepted start m =
+    let l = few_in start m.processes m.registers m.accepted (empty_world m.processes m.registers) in omega (arith, l)
 
 -- a process has called no more operations than there are calls of it
 abbrev CallsFew : (Op → ℕ → Start) → World → Event → ℕ → Option (ℕ × Step) → Type 0
@@ -48,7 +52,9 @@ CallsFew start w e p m = ((moved start w e m).nodes p).state.calls ≤ (w.nodes 
 none_calls : (start : Op → ℕ → Start) (w : World) (e : Event) (p : ℕ) → CallsFew start w e p None
 none_calls start w e p = omega arith
 
-some_calls : (start : Op → ℕ → Start) (w : World) (e : Event) (p q : ℕ) (st : Step) → (p ≡ q → calls_after st (w.nodes q).state.calls ≤ (w.nodes q).state.calls + length (call_at p e)) → CallsFew start w e p (Some (q, st))
+some_calls : (start : Op → ℕ → Start) (w : World) (e : Event) (p q : ℕ) (st : Step)
+    → (p ≡ q → calls_after st (w.nodes q).state.calls ≤ (w.nodes q).state.calls + length (call_at p e))
+    → CallsFew start w e p (Some (q, st))
 some_calls start w e p q st h = put_cases (λ (z : Node). z.state.calls ≤ (w.nodes p).state.calls + length (call_at p e)) w.nodes q (after_step start (w.nodes q) st) p
     (λ s.
     let a = calls_are start (w.nodes q).state st in
@@ -57,7 +63,8 @@ some_calls start w e p q st h = put_cases (λ (z : Node). z.state.calls ≤ (w.n
     omega (arith, a, b, c))
     (λ _. omega arith)
 
-event_calls : (start : Op → ℕ → Start) (n registers : ℕ) (w : World) (e : Event) (p : ℕ) → CallsFew start w e p (move_of n registers w e)
+event_calls : (start : Op → ℕ → Start) (n registers : ℕ) (w : World) (e : Event) (p : ℕ)
+    → CallsFew start w e p (move_of n registers w e)
 event_calls start n registers w (Call q op) p =
     let few = nat_lt (length w.accepted) MOST_EVENTS in
     let may = nat_lt q n && (not (is_some (w.nodes q).state.running) && (nat_lt (register_of op) registers && nat_lt (w.nodes q).state.calls MOST_OPERATIONS)) in
@@ -89,7 +96,8 @@ event_calls start n registers w (Tick q) p =
     (λ _. none))
     (λ _. none)
 
-few_calls_in : (start : Op → ℕ → Start) (n registers : ℕ) (es : List Event) (w : World) (p : ℕ) → ((run start n registers es w).nodes p).state.calls ≤ (w.nodes p).state.calls + length (calls_of p es)
+few_calls_in : (start : Op → ℕ → Start) (n registers : ℕ) (es : List Event) (w : World) (p : ℕ)
+    → ((run start n registers es w).nodes p).state.calls ≤ (w.nodes p).state.calls + length (calls_of p es)
 few_calls_in start n registers [] w p = omega arith
 few_calls_in start n registers (e ∷ es) w p =
     let r = few_calls_in start n registers es (happens start n registers w e) p in
@@ -97,25 +105,33 @@ few_calls_in start n registers (e ∷ es) w p =
     let l = length-append (call_at p e) (calls_of p es) in
     omega (arith, r, o, l)
 
-few_calls : (start : Op → ℕ → Start) (m : Made) (p : ℕ) → ((run_in start m).nodes p).state.calls ≤ length (calls_of p m.accepted)
+few_calls : (start : Op → ℕ → Start) (m : Made) (p : ℕ)
+    → ((run_in start m).nodes p).state.calls ≤ length (calls_of p m.accepted)
 few_calls start m p = let l = few_calls_in start m.processes m.registers m.accepted (empty_world m.processes m.registers) p in omega (arith, l)
 
 -- the tests that an event passes
-passed : (failed few : Bool) (o : Option WorldFault) → failed ≡ false → few ≡ true → o ≡ None → cond failed (Some Failed) (cond few o (Some TooManyEvents)) ≡ None
+passed : (failed few : Bool) (o : Option WorldFault) → failed ≡ false → few ≡ true → o ≡ None
+    → cond failed (Some Failed) (cond few o (Some TooManyEvents)) ≡ None
 passed false true o f g h = h
 passed true few o f g h = absurd (cc)
 passed false false o f g h = absurd (cc)
 
-call_passed : (a b c d : Bool) → a ≡ true → b ≡ false → c ≡ true → d ≡ true → cond a (cond b (Some Busy) (cond c (cond d None (Some TooManyOperations)) (Some NoRegister))) (Some NoProcess) ≡ None
+call_passed : (a b c d : Bool) → a ≡ true → b ≡ false → c ≡ true → d ≡ true
+    → cond a (cond b (Some Busy) (cond c (cond d None (Some TooManyOperations)) (Some NoRegister))) (Some NoProcess)
+    ≡ None
 call_passed a b c d e f g h = rw (e, f, g, h) refl
 
-take_passed : (a b c : Bool) (o : Option Frame) (f : Frame) → a ≡ true → b ≡ true → c ≡ false → o ≡ Some f → cond a (cond b (cond c (Some NoFrame) (frame_fault o)) (Some NoProcess)) (Some NoProcess) ≡ None
+take_passed : (a b c : Bool) (o : Option Frame) (f : Frame) → a ≡ true → b ≡ true → c ≡ false → o ≡ Some f
+    → cond a (cond b (cond c (Some NoFrame) (frame_fault o)) (Some NoProcess)) (Some NoProcess) ≡ None
 take_passed a b c o f e g h i = rw (e, g, h, i) refl
 
-room : (start : Op → ℕ → Start) (m : Made) → length m.accepted < MOST_EVENTS → nat_lt (length (run_in start m).accepted) MOST_EVENTS ≡ true
-room start m l = let f = few_accepted start m in lt-ltb (length (run_in start m).accepted) MOST_EVENTS (omega (arith, f, l))
+room : (start : Op → ℕ → Start) (m : Made) → length m.accepted < MOST_EVENTS
+    → nat_lt (length (run_in start m).accepted) MOST_EVENTS ≡ true
+room start m l =
+    let f = few_accepted start m in lt-ltb (length (run_in start m).accepted) MOST_EVENTS (omega (arith, f, l))
 
-pub tick_allowed : (start : Op → ℕ → Start) (m : Made) (p : ℕ) → m.failed ≡ false → length m.accepted < MOST_EVENTS → p < m.processes → refusal start m (Tick p) ≡ None
+pub tick_allowed : (start : Op → ℕ → Start) (m : Made) (p : ℕ) → m.failed ≡ false → length m.accepted < MOST_EVENTS
+    → p < m.processes → refusal start m (Tick p) ≡ None
 tick_allowed start m p going few l = passed m.failed (nat_lt (length (run_in start m).accepted) MOST_EVENTS) (cond (nat_lt p m.processes) None (Some NoProcess)) going (room start m few) (cond-true (nat_lt p m.processes) None (Some NoProcess) (lt-ltb p m.processes l))
 
 -- where the wire has a frame that is not behind
@@ -124,7 +140,8 @@ pub record HasFrame (start : Op → ℕ → Start) (s : Playing) (from to number
   pub at : number ≡ cursor_at s from to
   pub there : number < length (((run_in start s.made).nodes from).wire to)
 
-pub has_frame : (start : Op → ℕ → Start) (s : Playing) (from to number : ℕ) → next_frame start s from to ≡ Some number → HasFrame start s from to number
+pub has_frame : (start : Op → ℕ → Start) (s : Playing) (from to number : ℕ) → next_frame start s from to ≡ Some number
+    → HasFrame start s from to number
 has_frame start s from to number h =
     let k = length (((run_in start s.made).nodes from).wire to) in
     let r = go (not (from == to)) (nat_lt (cursor_at s from to) k) h in
@@ -143,7 +160,9 @@ has_frame start s from to number h =
     flip true e = absurd (cc)
     flip false e = refl
 
-pub take_allowed : (start : Op → ℕ → Start) (s : Playing) (from to number : ℕ) → s.made.failed ≡ false → length s.made.accepted < MOST_EVENTS → from < s.made.processes → to < s.made.processes → next_frame start s from to ≡ Some number → refusal start s.made (Take from to number) ≡ None
+pub take_allowed : (start : Op → ℕ → Start) (s : Playing) (from to number : ℕ) → s.made.failed ≡ false
+    → length s.made.accepted < MOST_EVENTS → from < s.made.processes → to < s.made.processes
+    → next_frame start s from to ≡ Some number → refusal start s.made (Take from to number) ≡ None
 take_allowed start s from to number going few lf lt next =
     let m = s.made in
     let H = has_frame start s from to number next in
@@ -156,7 +175,9 @@ take_allowed start s from to number going few lf lt next =
     at_place [] k l = absurd (omega (arith, l))
     at_place (x ∷ xs) k l = (slice_index_or (x ∷ xs) k x, slice_get-get_or (x ∷ xs) k x l)
 
-pub call_allowed : (start : Op → ℕ → Start) (s : Playing) (p : ℕ) (op : Op) → IsPlaying s → s.made.failed ≡ false → length s.made.accepted < MOST_EVENTS → p < s.made.processes → IsReadyToCall start s p → op ≡ next_op s p → refusal start s.made (Call p op) ≡ None
+pub call_allowed : (start : Op → ℕ → Start) (s : Playing) (p : ℕ) (op : Op) → IsPlaying s → s.made.failed ≡ false
+    → length s.made.accepted < MOST_EVENTS → p < s.made.processes → IsReadyToCall start s p → op ≡ next_op s p
+    → refusal start s.made (Call p op) ≡ None
 call_allowed start s p op good going few l may o =
     let m = s.made in
     let script = script_of s.scripts p in

@@ -1,5 +1,7 @@
 -- Bits that tell of each number whether a test holds, beside the lists of those for which it does.
-use Rattle.std.proofs.Common.{◌≡◌, ℕ, zero, suc, ◌+◌, ◌-◌, ◌*◌, ◌%◌, ◌^◌, ◌<◌, ◌≤◌, ◌≢◌, Bool, true, false, List, length, count_ones, Some, refl, sym, ap, ◌∙◌, subst, inl, inr, arith, add-one, mod-lt, mod-eq_of_lt, length-append}
+use Rattle.std.proofs.Common.{◌≡◌, ℕ, zero, suc, ◌+◌, ◌-◌, ◌*◌, ◌%◌, ◌^◌, ◌<◌, ◌≤◌, ◌≢◌, Bool, true, false, List}
+use Rattle.std.proofs.Common.{length, count_ones, Some, refl, sym, ap, ◌∙◌, subst, inl, inr, arith, add-one, mod-lt}
+use Rattle.std.proofs.Common.{mod-eq_of_lt, length-append}
 use lib.Count.{ones, ones_in}
 use Rattle.std.specs.Prelude.{slice_get}
 use Rattle.std.specs.Int.{bit_at}
@@ -48,7 +50,9 @@ pub record IsFilled (n to : ℕ) (holds : ℕ → Bool) (known bits : ℕ) : Typ
 pub filled_none : (n : ℕ) (holds : ℕ → Bool) (known : ℕ) → known < 2 ^ n → IsFilled n 0 holds known known
 filled_none n holds known few = record { few = few; right = λ i l. absurd (omega (arith, l)); rest = λ i _ _. refl }
 
-pub filled_more : (n to : ℕ) (holds : ℕ → Bool) (known old new : ℕ) → to < n → IsFilled n to holds known old → new < 2 ^ n → bit_at new to ≡ bit_of (holds to) → ((i : ℕ) → i < n → i ≢ to → bit_at new i ≡ bit_at old i) → IsFilled n (to + 1) holds known new
+pub filled_more : (n to : ℕ) (holds : ℕ → Bool) (known old new : ℕ) → to < n → IsFilled n to holds known old
+    → new < 2 ^ n → bit_at new to ≡ bit_of (holds to) → ((i : ℕ) → i < n → i ≢ to → bit_at new i ≡ bit_at old i)
+    → IsFilled n (to + 1) holds known new
 filled_more n to holds known old new lt F few here same = record {
   few = few;
   right = λ i l. elim (cases_lt i to) [
@@ -58,14 +62,17 @@ filled_more n to holds known old new lt F few here same = record {
   rest = λ i l m. same i m (λ e. omega (arith, e, l)) ∙ F.rest i (omega (arith, l)) m;
 }
 
-pub filled_all : (n to : ℕ) (holds : ℕ → Bool) (known bits : ℕ) → to ≡ n → IsFilled n to holds known bits → AreBits n holds bits
+pub filled_all : (n to : ℕ) (holds : ℕ → Bool) (known bits : ℕ) → to ≡ n → IsFilled n to holds known bits
+    → AreBits n holds bits
 filled_all n to holds known bits e F = record { few = F.few; each = λ i l. F.right i (omega (arith, e, l)) }
 
 -- so many places are left, and whether this bit is the one
-pub counted_down : (count below above left here bit : ℕ) → count ≡ below + left → above ≡ bit + below → here ≡ bit → here ≤ left → count ≡ above + (left - here)
+pub counted_down : (count below above left here bit : ℕ) → count ≡ below + left → above ≡ bit + below → here ≡ bit
+    → here ≤ left → count ≡ above + (left - here)
 counted_down count below above left here bit p q r l = omega (arith, p, q, r, l)
 
-pub is_here : (count below left here bit : ℕ) → count ≡ below + left → here ≡ bit → bit < 2 → left < here → (bit ≡ 1) × (count ≡ below)
+pub is_here : (count below left here bit : ℕ) → count ≡ below + left → here ≡ bit → bit < 2 → left < here
+    → (bit ≡ 1) × (count ≡ below)
 is_here count below left here bit p r b l = (omega (arith, p, r, b, l), omega (arith, p, r, b, l))
 
 sum_up : (a b c d e f h : ℕ) → a ≡ b + c → b ≡ d → c ≡ e → f ≡ e → h ≡ f + d → a ≡ h
@@ -88,7 +95,8 @@ module _ {X : Type 0} (n m : ℕ) (holds : ℕ → Bool) (list : ℕ → List X)
   all_are = below n (omega arith) ∙ all_below m n B.few
 
   -- the member of a number stands after as many as there are ones below its bit
-  pub stands_at : (i place : ℕ) (x : X) → bit_at m i ≡ 1 → place ≡ count_ones (m % 2 ^ i) → (holds i ≡ true → slice_get (list i) 0 ≡ Some x) → slice_get (flat_map list (range_with_len 0 n)) place ≡ Some x
+  pub stands_at : (i place : ℕ) (x : X) → bit_at m i ≡ 1 → place ≡ count_ones (m % 2 ^ i)
+      → (holds i ≡ true → slice_get (list i) 0 ≡ Some x) → slice_get (flat_map list (range_with_len 0 n)) place ≡ Some x
   stands_at i place x set is at =
       let l = place_below n m i B.few set in
       let b = below i (omega (arith, l)) in

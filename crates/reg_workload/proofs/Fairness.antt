@@ -1,10 +1,13 @@
 -- What a fair play keeps, and what it has come to where it rests.
-use Rattle.std.proofs.Common.{◌≡◌, ℕ, zero, suc, ◌+◌, ◌-◌, ◌*◌, ◌<◌, ◌≤◌, ◌≢◌, Bool, true, false, not, List, [], ◌∷◌, ◌++◌, length, drop, Option, Some, None, refl, sym, ap, ◌∙◌, subst, inl, inr, arith, length-append}
+use Rattle.std.proofs.Common.{◌≡◌, ℕ, zero, suc, ◌+◌, ◌-◌, ◌*◌, ◌<◌, ◌≤◌, ◌≢◌, Bool, true, false, not, List, [], ◌∷◌}
+use Rattle.std.proofs.Common.{◌++◌, length, drop, Option, Some, None, refl, sym, ap, ◌∙◌, subst, inl, inr, arith}
+use Rattle.std.proofs.Common.{length-append}
 use Rattle.std.specs.Prelude.{cond, ◌==◌, ◌&&◌, nat_lt, slice_get, slice_index_or, replicate}
 use Rattle.std.specs.Option.{is_some}
 use Rattle.std.specs.List.{range_with_len}
 use Rattle.std.proofs.lemmas.List.{append-nil}
-use Rattle.std.proofs.lemmas.Bool.{cond-true, cond-false, cond_both, eq-eqb, ne_eqb, cases_eq, eqb-false, ltb-true, and_parts, not-true, false≢true}
+use Rattle.std.proofs.lemmas.Bool.{cond-true, cond-false, cond_both, eq-eqb, ne_eqb, cases_eq, eqb-false, ltb-true}
+use Rattle.std.proofs.lemmas.Bool.{and_parts, not-true, false≢true}
 use Rattle.std.proofs.lemmas.Option.{slice_get_within}
 use Rattle.reg_base.specs.declared.limits.TheConstants.{MOST_EVENTS, MOST_OPERATIONS}
 use Rattle.reg_base.specs.declared.memory.Op.{Op}
@@ -27,17 +30,20 @@ use Rattle.reg_world.proofs.one_order.NodeLaws.{inv_of}
 use Rattle.reg_world.proofs.one_memory.Refusals.{refused_by_fault}
 use Rattle.reg_workload.specs.Plays.{Playing, cursor_at}
 use Rattle.reg_workload.specs.Fair.{takes_of, most_for_call}
-use Rattle.reg_workload.specs.FairParts.{expected_after, counted_after, takes_for_all, left_on, left_in, InStep, IsFair, IsBehind, Leaves}
+use Rattle.reg_workload.specs.FairParts.{expected_after, counted_after, takes_for_all, left_on, left_in, InStep, IsFair}
+use Rattle.reg_workload.specs.FairParts.{IsBehind, Leaves}
 use Rattle.reg_workload.proofs.InOrder.{takes_more, ticks_same, taken_here, taken_other, range_more}
 use Rattle.reg_workload.proofs.Wires.{Takes, moves_on, all_behind, first_left}
 use Rattle.reg_workload.proofs.Moving.{none_got, one_got, called_moves, taken_moves}
 use Rattle.reg_base.specs.Sums.{total}
 use Rattle.reg_base.proofs.Totals.{total_same, total_zero}
-use Rattle.reg_workload.proofs.Load.{calls_in, left_after, for_none, for_one, called_left, taken_left, calls_of_call, calls_of_take, more_calls}
+use Rattle.reg_workload.proofs.Load.{calls_in, left_after, for_none, for_one, called_left, taken_left, calls_of_call}
+use Rattle.reg_workload.proofs.Load.{calls_of_take, more_calls}
 use Rattle.reg_world.proofs.run.Along.{one_more}
 
 -- an event that was accepted made a step
-accepted_moves : (start : Op → ℕ → Start) (m m1 : Made) (e : Event) → Accepts start m e m1 → is_some (move_of m.processes m.registers (run_in start m) e) ≡ true
+accepted_moves : (start : Op → ℕ → Start) (m m1 : Made) (e : Event) → Accepts start m e m1
+    → is_some (move_of m.processes m.registers (run_in start m) e) ≡ true
 accepted_moves start m m1 e A =
     let w = run_in start m in
     refused_by_fault m.processes m.registers w e ∙ ap (λ f. not (is_some f)) (no_fault _ m.failed (world_fault m.processes m.registers w e) A.no_fault)
@@ -60,7 +66,8 @@ pub record TakeMade (n registers : ℕ) (w : World) (a p number : ℕ) : Type 0 
   pub is : slice_get ((w.nodes a).wire p) number ≡ Some frame
   pub step : move_of n registers w (Take a p number) ≡ Some (p, TakeStep a frame)
 
-call_made : (n registers : ℕ) (w : World) (p : ℕ) (op : Op) → is_some (move_of n registers w (Call p op)) ≡ true → CallMade n registers w p op
+call_made : (n registers : ℕ) (w : World) (p : ℕ) (op : Op) → is_some (move_of n registers w (Call p op)) ≡ true
+    → CallMade n registers w p op
 call_made n registers w p op h =
     let few = nat_lt (length w.accepted) MOST_EVENTS in
     let may = nat_lt p n && (not (is_some (w.nodes p).state.running) && (nat_lt (register_of op) registers && nat_lt (w.nodes p).state.calls MOST_OPERATIONS)) in
@@ -72,7 +79,8 @@ call_made n registers w p op h =
     go true false step l h = absurd (false≢true h)
     go false may step l h = absurd (false≢true h)
 
-take_made : (n registers : ℕ) (w : World) (a p number : ℕ) → is_some (move_of n registers w (Take a p number)) ≡ true → TakeMade n registers w a p number
+take_made : (n registers : ℕ) (w : World) (a p number : ℕ) → is_some (move_of n registers w (Take a p number)) ≡ true
+    → TakeMade n registers w a p number
 take_made n registers w a p number h =
     let few = nat_lt (length w.accepted) MOST_EVENTS in
     let may = nat_lt a n && (nat_lt p n && not (a == p)) in
@@ -96,7 +104,10 @@ take_made n registers w a p number h =
     go false may o h = absurd (false≢true h)
 
 -- the world after the step
-after_step_fair : (start : Op → ℕ → Start) (m m1 : Made) (e : Event) (s : ℕ × Step) (behind : ℕ → ℕ → ℕ) → m1 ≡ with_event start m e → move_of m.processes m.registers (run_in start m) e ≡ Some s → InStep m.processes (put (run_in start m).nodes s.0 (after_step start ((run_in start m).nodes s.0) s.1)) behind → ((p q : ℕ) → behind p q ≤ length (run_in start m).accepted + 1)
+after_step_fair : (start : Op → ℕ → Start) (m m1 : Made) (e : Event) (s : ℕ × Step) (behind : ℕ → ℕ → ℕ)
+    → m1 ≡ with_event start m e → move_of m.processes m.registers (run_in start m) e ≡ Some s
+    → InStep m.processes (put (run_in start m).nodes s.0 (after_step start ((run_in start m).nodes s.0) s.1)) behind
+    → ((p q : ℕ) → behind p q ≤ length (run_in start m).accepted + 1)
     → InStep m1.processes (run_in start m1).nodes behind × ((p q : ℕ) → behind p q ≤ length (run_in start m1).accepted)
 after_step_fair start m m1 e s behind now is S few =
     let w = run_in start m in
@@ -105,7 +116,8 @@ after_step_fair start m m1 e s behind now is S few =
     (S, λ p q. let l = few p q in let a = length-append w.accepted (e ∷ []) in omega (arith, l, a)))
 
 -- what was spent and is left after the step
-spent_after : (start : Op → ℕ → Start) (m m1 : Made) (e : Event) (s : ℕ × Step) (behind : ℕ → ℕ → ℕ) → m1 ≡ with_event start m e → move_of m.processes m.registers (run_in start m) e ≡ Some s
+spent_after : (start : Op → ℕ → Start) (m m1 : Made) (e : Event) (s : ℕ × Step) (behind : ℕ → ℕ → ℕ)
+    → m1 ≡ with_event start m e → move_of m.processes m.registers (run_in start m) e ≡ Some s
     → length m.accepted + 1 + left_in m.processes (put (run_in start m).nodes s.0 (after_step start ((run_in start m).nodes s.0) s.1)) behind ≤ calls_in m.processes (m.accepted ++ e ∷ []) * most_for_call m.processes
     → length m1.accepted + left_in m1.processes (run_in start m1).nodes behind ≤ calls_in m1.processes m1.accepted * most_for_call m1.processes
 spent_after start m m1 e s behind now is spent =
@@ -117,7 +129,8 @@ spent_after start m m1 e s behind now is spent =
 cursors_of : List (List ℕ) → ℕ → ℕ → ℕ
 cursors_of cursors a b = slice_index_or (slice_index_or cursors a []) b 0
 
-pub call_fair : (start : Op → ℕ → Start) → KeepsLaws start → (s s1 : Playing) (p : ℕ) (op : Op) → IsFair start s → Accepts start s.made (Call p op) s1.made → s1.cursors ≡ s.cursors → IsFair start s1
+pub call_fair : (start : Op → ℕ → Start) → KeepsLaws start → (s s1 : Playing) (p : ℕ) (op : Op) → IsFair start s
+    → Accepts start s.made (Call p op) s1.made → s1.cursors ≡ s.cursors → IsFair start s1
 unfolding cursors_of
 call_fair start laws s s1 p op F A c =
     let m = s.made in
@@ -148,7 +161,9 @@ call_fair start laws s s1 p op F A c =
       ticks = ticks_same m.accepted s1.made.accepted (Call p op) (ap Made.accepted A.after) refl ∙ F.ticks;
     }
 
-pub take_fair : (start : Op → ℕ → Start) → KeepsLaws start → (s s1 s2 : Playing) (a p number : ℕ) → IsFair start s → number ≡ cursor_at s a p → Accepts start s.made (Take a p number) s1.made → s1.cursors ≡ s.cursors → Leaves s1 a p s2 → IsFair start s2
+pub take_fair : (start : Op → ℕ → Start) → KeepsLaws start → (s s1 s2 : Playing) (a p number : ℕ) → IsFair start s
+    → number ≡ cursor_at s a p → Accepts start s.made (Take a p number) s1.made → s1.cursors ≡ s.cursors
+    → Leaves s1 a p s2 → IsFair start s2
 unfolding cursors_of
 take_fair start laws s s1 s2 a p number F at A c L =
     let m = s.made in
@@ -210,14 +225,17 @@ take_fair start laws s s1 s2 a p number F at A c L =
     subst (λ (z : Made). IsFair start (record s2 { made = z })) (sym L.made) (record { spent = spent; in_step = r.0; few = r.1; takes = takes; ticks = ticks_same m.accepted s1.made.accepted (Take a p number) now refl ∙ F.ticks })
 
 -- where each frame is behind, nothing is pending
-pub rests : (start : Op → ℕ → Start) → KeepsLaws start → (s : Playing) → IsFair start s → ((p q : ℕ) → p < s.made.processes → q < s.made.processes → IsBehind start s p q) → NothingPending s.made.processes (run_in start s.made).nodes
+pub rests : (start : Op → ℕ → Start) → KeepsLaws start → (s : Playing) → IsFair start s
+    → ((p q : ℕ) → p < s.made.processes → q < s.made.processes → IsBehind start s p q)
+    → NothingPending s.made.processes (run_in start s.made).nodes
 rests start laws s F all =
     let m = s.made in
     let w = run_in start m in
     all_behind m.processes m.registers (length w.accepted) w.nodes (cursor_at s) (inv_of start m.processes m.registers m.accepted) F.in_step (λ p q lp lq ne. all p q lp lq ne)
 
 -- nothing happened yet
-pub begins_fair : (start : Op → ℕ → Start) (shape : Extent) (s : Playing) → s.made ≡ new_world shape → ((a b : ℕ) → cursor_at s a b ≡ 0) → IsFair start s
+pub begins_fair : (start : Op → ℕ → Start) (shape : Extent) (s : Playing) → s.made ≡ new_world shape
+    → ((a b : ℕ) → cursor_at s a b ≡ 0) → IsFair start s
 begins_fair start shape s new none = subst (λ (m : Made). IsFair start (record s { made = m })) (sym new) (record {
   spent = let z = nothing_left in omega (arith, z);
   in_step = record {
@@ -236,7 +254,8 @@ begins_fair start shape s new none = subst (λ (m : Made). IsFair start (record 
         cond_both (a == b) 0 (takes_for_all shape.processes (drop (cursor_at s a b) [])) (λ z. z ≡ 0) (λ _. refl) (λ _. ap (λ k. takes_for_all shape.processes (drop k [])) (none a b)))
         ∙ total_zero shape.processes) ∙ total_zero shape.processes
 
-pub none_behind : (n m a b : ℕ) → let z : ℕ = 0 in slice_index_or (slice_index_or (replicate n (replicate m z)) a []) b z ≡ z
+pub none_behind : (n m a b : ℕ)
+    → let z : ℕ = 0 in slice_index_or (slice_index_or (replicate n (replicate m z)) a []) b z ≡ z
 none_behind zero m a b = refl
 none_behind (suc n) m zero b = replicate_at m b 0
 none_behind (suc n) m (suc a) b = none_behind n m a b

@@ -14,14 +14,16 @@ use Rattle.reg_workload.specs.Plays.{Playing, cursor_at}
 use Rattle.reg_workload.specs.Fair.{take_at, takes_of, tick_in, ticks_of, TakesInOrder}
 use Rattle.reg_workload.specs.FairParts.{IsFair}
 
-pub takes_more : (x y : ℕ) (es es1 : List Event) (e : Event) → es1 ≡ es ++ e ∷ [] → takes_of x y es1 ≡ takes_of x y es ++ take_at x y e
+pub takes_more : (x y : ℕ) (es es1 : List Event) (e : Event) → es1 ≡ es ++ e ∷ []
+    → takes_of x y es1 ≡ takes_of x y es ++ take_at x y e
 takes_more x y es es1 e q = ap (takes_of x y) q ∙ (flat_map-append (take_at x y) es (e ∷ []) ∙ ap (λ l. takes_of x y es ++ l) (append-nil (take_at x y e)))
 
 pub ticks_same : (es es1 : List Event) (e : Event) → es1 ≡ es ++ e ∷ [] → tick_in e ≡ [] → ticks_of es1 ≡ ticks_of es
 ticks_same es es1 e q none = ap ticks_of q ∙ (flat_map-append tick_in es (e ∷ []) ∙ (ap (λ l. ticks_of es ++ l) (append-nil (tick_in e) ∙ none) ∙ append-nil (ticks_of es)))
 
 pub taken_here : (x y a p k : ℕ) → x ≡ a → y ≡ p → take_at x y (Take a p k) ≡ k ∷ []
-taken_here x y a p k e f = cond-true ((a == x) && (p == y)) (k ∷ []) [] (and_from _ _ (eq-eqb a x (sym e)) (eq-eqb p y (sym f)))
+taken_here x y a p k e f =
+    cond-true ((a == x) && (p == y)) (k ∷ []) [] (and_from _ _ (eq-eqb a x (sym e)) (eq-eqb p y (sym f)))
 
 pub taken_other : (x y a p k : ℕ) → (x ≡ a → y ≡ p → ⊥) → take_at x y (Take a p k) ≡ []
 taken_other x y a p k ne = cond_both ((a == x) && (p == y)) (k ∷ []) [] (λ l. l ≡ [])

@@ -1,5 +1,6 @@
 -- What a turn leaves as it was: what is listed for the processes and wires that its choice doesn't touch.
-use Rattle.std.proofs.Common.{◌≡◌, ℕ, suc, zero, ◌+◌, ◌^◌, ◌<◌, ◌≤◌, Bool, true, false, not, List, [], ◌∷◌, ◌++◌, Option, Some, None, refl, sym, ap, ◌∙◌, subst, inl, inr, arith, length-append}
+use Rattle.std.proofs.Common.{◌≡◌, ℕ, suc, zero, ◌+◌, ◌^◌, ◌<◌, ◌≤◌, Bool, true, false, not, List, [], ◌∷◌, ◌++◌}
+use Rattle.std.proofs.Common.{Option, Some, None, refl, sym, ap, ◌∙◌, subst, inl, inr, arith, length-append}
 use Rattle.std.specs.Prelude.{cond, ◌==◌, ◌&&◌, nat_lt, length, slice_get, slice_set, slice_index_or}
 use Rattle.std.specs.Option.{is_some}
 use Rattle.std.proofs.lemmas.Bool.{cond_both, cases_eq, and_parts, and_from, ltb-true, lt-ltb}
@@ -22,7 +23,8 @@ use Rattle.reg_world.proofs.run.Along.{one_more}
 use Rattle.reg_workload.specs.declared.choices.Chances.{Chances}
 use Rattle.reg_workload.specs.declared.choices.Choice.{Choice}
 use Rattle.reg_workload.specs.declared.choices.Choice.TheVariants.{Call as CallNext, Take as TakeNext, Tick as PutAgain}
-use Rattle.reg_workload.specs.Plays.{Playing, script_of, next_at, cursor_at, may_call, next_frame, next_op, makes, calls_next, passes}
+use Rattle.reg_workload.specs.Plays.{Playing, script_of, next_at, cursor_at, may_call, next_frame, next_op, makes}
+use Rattle.reg_workload.specs.Plays.{calls_next, passes}
 use Rattle.reg_workload.specs.Seeded.{takes_next, chooses}
 use Rattle.reg_base.specs.Words.{says}
 use Rattle.reg_workload.specs.Listed.{bit_of, may_take, may_tick, takes_at, AreListed, AreOthersListed, Acts, Passes}
@@ -37,10 +39,12 @@ actor (Tick p) = p
 abbrev Leaves : (Op → ℕ → Start) → World → Event → ℕ → Option (ℕ × Step) → Type 0
 Leaves start w e p m = (moved start w e m).nodes p ≡ w.nodes p
 
-step_leaves : (start : Op → ℕ → Start) (w : World) (e : Event) (p q : ℕ) (st : Step) → (q ≡ p → ⊥) → Leaves start w e p (Some (q, st))
+step_leaves : (start : Op → ℕ → Start) (w : World) (e : Event) (p q : ℕ) (st : Step) → (q ≡ p → ⊥)
+    → Leaves start w e p (Some (q, st))
 step_leaves start w e p q st ne = put_cases (λ (z : Node). z ≡ w.nodes p) w.nodes q (after_step start (w.nodes q) st) p (λ s. absurd (ne (sym s))) (λ _. refl)
 
-event_leaves : (start : Op → ℕ → Start) (n registers : ℕ) (w : World) (e : Event) (p : ℕ) → (actor e ≡ p → ⊥) → Leaves start w e p (move_of n registers w e)
+event_leaves : (start : Op → ℕ → Start) (n registers : ℕ) (w : World) (e : Event) (p : ℕ) → (actor e ≡ p → ⊥)
+    → Leaves start w e p (move_of n registers w e)
 event_leaves start n registers w (Call q op) p ne =
     cond_both (nat_lt (length w.accepted) MOST_EVENTS) (cond (nat_lt q n && (not (is_some (w.nodes q).state.running) && (nat_lt (register_of op) registers && nat_lt (w.nodes q).state.calls MOST_OPERATIONS))) (Some (q, CallStep op)) None) None (Leaves start w (Call q op) p)
     (λ _. cond_both (nat_lt q n && (not (is_some (w.nodes q).state.running) && (nat_lt (register_of op) registers && nat_lt (w.nodes q).state.calls MOST_OPERATIONS))) (Some (q, CallStep op)) None (Leaves start w (Call q op) p)
@@ -64,14 +68,16 @@ event_leaves start n registers w (Tick q) p ne =
     (λ _. refl))
     (λ _. refl)
 
-node_same : (start : Op → ℕ → Start) (m : Made) (e : Event) (p : ℕ) → (actor e ≡ p → ⊥) → (run_in start (with_event start m e)).nodes p ≡ (run_in start m).nodes p
+node_same : (start : Op → ℕ → Start) (m : Made) (e : Event) (p : ℕ) → (actor e ≡ p → ⊥)
+    → (run_in start (with_event start m e)).nodes p ≡ (run_in start m).nodes p
 node_same start m e p ne = ap (λ (w : World). w.nodes p) (one_more start m.processes m.registers m.accepted e) ∙ event_leaves start m.processes m.registers (run_in start m) e p ne
 
 -- and a wire only grows
 grown : {X : Type 0} (xs ys : List X) → length xs ≤ length (xs ++ ys)
 grown xs ys = let e = length-append xs ys in omega (arith, e)
 
-moves_grow : (start : Op → ℕ → Start) (w : World) (e : Event) (m : Option (ℕ × Step)) (p b : ℕ) → length ((w.nodes p).wire b) ≤ length (((moved start w e m).nodes p).wire b)
+moves_grow : (start : Op → ℕ → Start) (w : World) (e : Event) (m : Option (ℕ × Step)) (p b : ℕ)
+    → length ((w.nodes p).wire b) ≤ length (((moved start w e m).nodes p).wire b)
 moves_grow start w e None p b = omega arith
 moves_grow start w e (Some m) p b = put_cases (λ (z : Node). length ((w.nodes p).wire b) ≤ length (z.wire b)) w.nodes m.0 (after_step start (w.nodes m.0) m.1) p
     (λ at. subst (λ (k : ℕ). length ((w.nodes k).wire b) ≤ length ((after_step start (w.nodes m.0) m.1).wire b)) (sym at) (grown ((w.nodes m.0).wire b) _))
@@ -86,7 +92,8 @@ record Same (start : Op → ℕ → Start) (old new : Playing) (p : ℕ) : Type 
 frame_in : Node → ℕ → ℕ → ℕ → Option ℕ
 frame_in x cursor from to = cond (not (from == to) && nat_lt cursor (length (x.wire to))) (Some cursor) None
 
-frame_is : (start : Op → ℕ → Start) (s : Playing) (p q : ℕ) → next_frame start s p q ≡ frame_in ((run_in start s.made).nodes p) (cursor_at s p q) p q
+frame_is : (start : Op → ℕ → Start) (s : Playing) (p q : ℕ)
+    → next_frame start s p q ≡ frame_in ((run_in start s.made).nodes p) (cursor_at s p q) p q
 unfolding frame_in
 frame_is start s p q = refl
 
@@ -95,7 +102,8 @@ abbrev SameCursor : Playing → Playing → ℕ → ℕ → Type 0
 SameCursor old new a b = cursor_at new a b ≡ cursor_at old a b
 
 abbrev Longer : (Op → ℕ → Start) → Playing → Playing → ℕ → ℕ → Type 0
-Longer start old new a b = length (((run_in start old.made).nodes a).wire b) ≤ length (((run_in start new.made).nodes a).wire b)
+Longer start old new a b =
+    length (((run_in start old.made).nodes a).wire b) ≤ length (((run_in start new.made).nodes a).wire b)
 
 module _ (start : Op → ℕ → Start) where
   call_same : (s t : Playing) (p : ℕ) → Same start s t p → may_call start s p ≡ may_call start t p

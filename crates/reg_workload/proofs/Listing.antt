@@ -1,5 +1,6 @@
 -- The choices, process by process.
-use Rattle.std.proofs.Common.{◌≡◌, ℕ, zero, suc, ◌+◌, ◌<◌, ◌≤◌, Bool, true, false, List, [], ◌∷◌, ◌++◌, Option, Some, None, refl, sym, ap, ◌∙◌, subst, inl, inr, arith, length, not, length-append, add-one}
+use Rattle.std.proofs.Common.{◌≡◌, ℕ, zero, suc, ◌+◌, ◌<◌, ◌≤◌, Bool, true, false, List, [], ◌∷◌, ◌++◌, Option, Some}
+use Rattle.std.proofs.Common.{None, refl, sym, ap, ◌∙◌, subst, inl, inr, arith, length, not, length-append, add-one}
 use Rattle.std.specs.Prelude.{cond, nat_lt, slice_get, ◌%◌}
 use Rattle.std.specs.List.{flat_map, range_with_len}
 use Rattle.std.specs.Option.{is_some}
@@ -9,7 +10,8 @@ use Rattle.std.proofs.lemmas.Option.{get_or_from_slice_get}
 use Rattle.std.proofs.lemmas.Grind.{flat_map-append}
 use Rattle.reg_workload.proofs.InOrder.{range_more}
 use Rattle.reg_workload.specs.declared.choices.Choice.TheVariants.{Call as CallNext, Take as TakeNext, Tick as PutAgain}
-use Rattle.reg_workload.specs.Seeded.{take_of, call_choice, take_choice, tick_choice, call_choices, take_choices_from, take_choices, tick_choices, choices_of, picked}
+use Rattle.reg_workload.specs.Seeded.{take_of, call_choice, take_choice, tick_choice, call_choices, take_choices_from}
+use Rattle.reg_workload.specs.Seeded.{take_choices, tick_choices, choices_of, picked}
 use Rattle.reg_base.specs.declared.memory.Op.{Op}
 use Rattle.reg_front.specs.declared.starts.Start.{Start}
 use Rattle.reg_workload.specs.declared.choices.Choice.{Choice}
@@ -22,26 +24,34 @@ behind_at [] ys k = let z : 0 + k ≡ k = omega arith in ap (slice_get ys) z
 behind_at (x ∷ xs) ys k = let e : length (x ∷ xs) + k ≡ suc (length xs + k) = omega arith in ap (slice_get (x ∷ (xs ++ ys))) e ∙ behind_at xs ys k
 
 -- the choices of one process more
-flat_more : {X : Type 0} (f : ℕ → List X) (n : ℕ) → flat_map f (range_with_len 0 (n + 1)) ≡ flat_map f (range_with_len 0 n) ++ f n
+flat_more : {X : Type 0} (f : ℕ → List X) (n : ℕ)
+    → flat_map f (range_with_len 0 (n + 1)) ≡ flat_map f (range_with_len 0 n) ++ f n
 flat_more f n = ap (flat_map f) (range_more 0 n n (omega arith)) ∙ (flat_map-append f (range_with_len 0 n) (n ∷ []) ∙ ap (λ l. flat_map f (range_with_len 0 n) ++ l) (append-nil (f n)))
 
-pub flat_suc : {X : Type 0} (f : ℕ → List X) (n : ℕ) → flat_map f (range_with_len 0 (suc n)) ≡ flat_map f (range_with_len 0 n) ++ f n
+pub flat_suc : {X : Type 0} (f : ℕ → List X) (n : ℕ)
+    → flat_map f (range_with_len 0 (suc n)) ≡ flat_map f (range_with_len 0 n) ++ f n
 flat_suc f n = ap (λ k. flat_map f (range_with_len 0 k)) (sym (add-one n)) ∙ flat_more f n
 
-first_at : {X : Type 0} (f : ℕ → List X) (m n k : ℕ) (c : X) → m ≤ n → slice_get (flat_map f (range_with_len 0 m)) k ≡ Some c → slice_get (flat_map f (range_with_len 0 n)) k ≡ Some c
-first_at f m zero k c l e = let z : zero ≡ m = omega (arith, l) in ap (λ j. slice_get (flat_map f (range_with_len 0 j)) k) z ∙ e
+first_at : {X : Type 0} (f : ℕ → List X) (m n k : ℕ) (c : X) → m ≤ n
+    → slice_get (flat_map f (range_with_len 0 m)) k ≡ Some c → slice_get (flat_map f (range_with_len 0 n)) k ≡ Some c
+first_at f m zero k c l e =
+    let z : zero ≡ m = omega (arith, l) in ap (λ j. slice_get (flat_map f (range_with_len 0 j)) k) z ∙ e
 first_at f m (suc n) k c l e = elim (cases_lt n m) [
   | inl less ↦ let z : suc n ≡ m = omega (arith, l, less) in ap (λ j. slice_get (flat_map f (range_with_len 0 j)) k) z ∙ e
   | inr other ↦ ap (λ xs. slice_get xs k) (flat_suc f n) ∙ place_first (flat_map f (range_with_len 0 n)) (f n) k c (first_at f m n k c (omega (arith, other)) e)
 ]
 
 -- a choice of one process stands after those of the processes before it
-pub found_at : {X : Type 0} (f : ℕ → List X) (p n j k : ℕ) (c : X) → p < n → k ≡ length (flat_map f (range_with_len 0 p)) + j → slice_get (f p) j ≡ Some c → slice_get (flat_map f (range_with_len 0 n)) k ≡ Some c
+pub found_at : {X : Type 0} (f : ℕ → List X) (p n j k : ℕ) (c : X) → p < n
+    → k ≡ length (flat_map f (range_with_len 0 p)) + j → slice_get (f p) j ≡ Some c
+    → slice_get (flat_map f (range_with_len 0 n)) k ≡ Some c
 found_at f p n j k c l e at = first_at f (p + 1) n k c (omega (arith, l))
     (ap (λ xs. slice_get xs k) (flat_more f p) ∙ (ap (slice_get (flat_map f (range_with_len 0 p) ++ f p)) e ∙ (behind_at (flat_map f (range_with_len 0 p)) (f p) j ∙ at)))
 
 module _ (start : Op → ℕ → Start) (s : Playing) where
-  pub takes_more : (n : ℕ) → length (take_choices start s (n + 1)) ≡ length (take_choices start s n) + length (take_choices_from start s n s.made.processes)
+  pub takes_more : (n : ℕ)
+      → length (take_choices start s (n + 1))
+      ≡ length (take_choices start s n) + length (take_choices_from start s n s.made.processes)
   unfolding take_choices
   takes_more n = ap length (flat_more (λ from. take_choices_from start s from s.made.processes) n) ∙ length-append (take_choices start s n) (take_choices_from start s n s.made.processes)
 
@@ -49,23 +59,29 @@ module _ (start : Op → ℕ → Start) (s : Playing) where
   unfolding take_choices
   none_yet = refl
 
-  pub take_found : (p n j k : ℕ) (c : Choice) → p < n → k ≡ length (take_choices start s p) + j → slice_get (take_choices_from start s p s.made.processes) j ≡ Some c → slice_get (take_choices start s n) k ≡ Some c
+  pub take_found : (p n j k : ℕ) (c : Choice) → p < n → k ≡ length (take_choices start s p) + j
+      → slice_get (take_choices_from start s p s.made.processes) j ≡ Some c
+      → slice_get (take_choices start s n) k ≡ Some c
   unfolding take_choices
   take_found p n j k c l e at = found_at (λ from. take_choices_from start s from s.made.processes) p n j k c l e at
 
   -- calls come first, then takes, then ticks
-  pub at_call : (k : ℕ) (c : Choice) → slice_get (call_choices start s s.made.processes) k ≡ Some c → slice_get (choices_of start s) k ≡ Some c
+  pub at_call : (k : ℕ) (c : Choice) → slice_get (call_choices start s s.made.processes) k ≡ Some c
+      → slice_get (choices_of start s) k ≡ Some c
   unfolding choices_of
   at_call k c e = place_first (call_choices start s s.made.processes ++ take_choices start s s.made.processes) (tick_choices start s s.made.processes) k c (place_first (call_choices start s s.made.processes) (take_choices start s s.made.processes) k c e)
 
-  pub at_take : (j k : ℕ) (c : Choice) → k ≡ length (call_choices start s s.made.processes) + j → slice_get (take_choices start s s.made.processes) j ≡ Some c → slice_get (choices_of start s) k ≡ Some c
+  pub at_take : (j k : ℕ) (c : Choice) → k ≡ length (call_choices start s s.made.processes) + j
+      → slice_get (take_choices start s s.made.processes) j ≡ Some c → slice_get (choices_of start s) k ≡ Some c
   unfolding choices_of
   at_take j k c e at =
       let calls = call_choices start s s.made.processes in
       let takes = take_choices start s s.made.processes in
       place_first (calls ++ takes) (tick_choices start s s.made.processes) k c (ap (slice_get (calls ++ takes)) e ∙ (behind_at calls takes j ∙ at))
 
-  pub at_tick : (i j k : ℕ) (o : Option Choice) → k ≡ length (call_choices start s s.made.processes) + j → j ≡ length (take_choices start s s.made.processes) + i → slice_get (tick_choices start s s.made.processes) i ≡ o → slice_get (choices_of start s) k ≡ o
+  pub at_tick : (i j k : ℕ) (o : Option Choice) → k ≡ length (call_choices start s s.made.processes) + j
+      → j ≡ length (take_choices start s s.made.processes) + i → slice_get (tick_choices start s s.made.processes) i ≡ o
+      → slice_get (choices_of start s) k ≡ o
   unfolding choices_of
   at_tick i j k o e f at =
       let calls = call_choices start s s.made.processes in
@@ -74,7 +90,9 @@ module _ (start : Op → ℕ → Start) (s : Playing) where
       let here : k ≡ length (calls ++ takes) + i = let a = length-append calls takes in omega (arith, a, e, f) in
       ap (slice_get ((calls ++ takes) ++ ticks)) here ∙ (behind_at (calls ++ takes) ticks i ∙ at)
 
-  pub all_count : length (choices_of start s) ≡ (length (call_choices start s s.made.processes) + length (take_choices start s s.made.processes)) + length (tick_choices start s s.made.processes)
+  pub all_count : length (choices_of start s)
+      ≡ (length (call_choices start s s.made.processes) + length (take_choices start s s.made.processes)) + length
+      (tick_choices start s s.made.processes)
   unfolding choices_of
   all_count =
       let calls = call_choices start s s.made.processes in
@@ -160,6 +178,7 @@ module _ (start : Op → ℕ → Start) (s : Playing) where
       zero_is (suc k) e = absurd (false≢true (sym e ∙ lt-ltb 0 (suc k) (omega arith)))
 
 -- the choice of a word
-pub picked_at : (cs : List Choice) (word : ℕ) (c : Choice) → slice_get cs (word % length cs) ≡ Some c → picked cs word ≡ Some c
+pub picked_at : (cs : List Choice) (word : ℕ) (c : Choice) → slice_get cs (word % length cs) ≡ Some c
+    → picked cs word ≡ Some c
 picked_at [] word c e = absurd (cc)
 picked_at (x ∷ xs) word c e = ap Some (get_or_from_slice_get (x ∷ xs) (word % length (x ∷ xs)) c x e)

@@ -1,5 +1,6 @@
 -- How many takes are left to be made in a fair play: each event spends one, and a call brings a bounded number.
-use Rattle.std.proofs.Common.{◌≡◌, ℕ, zero, suc, ◌+◌, ◌-◌, ◌*◌, ◌<◌, ◌≤◌, ◌≢◌, List, [], ◌∷◌, ◌++◌, length, drop, Some, refl, sym, ap, ◌∙◌, subst, inl, inr, arith, length-append, max}
+use Rattle.std.proofs.Common.{◌≡◌, ℕ, zero, suc, ◌+◌, ◌-◌, ◌*◌, ◌<◌, ◌≤◌, ◌≢◌, List, [], ◌∷◌, ◌++◌, length, drop, Some}
+use Rattle.std.proofs.Common.{refl, sym, ap, ◌∙◌, subst, inl, inr, arith, length-append, max}
 use Rattle.std.specs.Prelude.{cond, ◌==◌}
 use Rattle.std.specs.List.{sum_by}
 use Rattle.std.proofs.lemmas.Bool.{cases_eq, cond-true, cond-false, cond_both, eq-eqb, ne_eqb}
@@ -13,7 +14,8 @@ use Rattle.reg_frames.specs.declared.bodies.Body.TheVariants.{Cast, Ack}
 use Rattle.reg_frames.specs.declared.bodies.Frame.{Frame}
 use Rattle.reg_frames.specs.declared.bodies.Frame.TheVariants.{Numbered, Got}
 use Rattle.reg_front.specs.declared.starts.Start.{Start}
-use Rattle.reg_front.specs.declared.starts.Start.TheVariants.{Cast as Casts, CastAndAnswer as CastsAndAnswers, Look as Looks, Hold as Holds}
+use Rattle.reg_front.specs.declared.starts.Start.TheVariants.{Cast as Casts, CastAndAnswer as CastsAndAnswers}
+use Rattle.reg_front.specs.declared.starts.Start.TheVariants.{Look as Looks, Hold as Holds}
 use Rattle.reg_process.specs.Process.{State, peer_at, data_frames, got_frames, called, taken, accepted, quiet}
 use Rattle.reg_process.specs.declared.events.Event.{Event}
 use Rattle.reg_process.specs.declared.events.Event.TheVariants.{Call, Take}
@@ -23,7 +25,8 @@ use Rattle.reg_workload.specs.Plays.{call_at, calls_of, script_of, FollowsScript
 use Rattle.reg_workload.specs.Fair.{most_for_call, most_fair_events}
 use Rattle.reg_workload.specs.FairParts.{takes_for, takes_for_all, left_on, left_in, InStep}
 use Rattle.reg_base.specs.Sums.{total}
-use Rattle.reg_base.proofs.Totals.{total_same, total_both, total_least, total_one, total_zero, total_at, total_others, total_along}
+use Rattle.reg_base.proofs.Totals.{total_same, total_both, total_least, total_one, total_zero, total_at, total_others}
+use Rattle.reg_base.proofs.Totals.{total_along}
 use Rattle.reg_workload.proofs.Wires.{Takes}
 use Rattle.reg_workload.proofs.Moving.{data_is, one_got}
 
@@ -35,7 +38,9 @@ abbrev pub for_all : ℕ → ℕ → (ℕ → List Frame) → ℕ
 for_all n p frames = total n (for_others n p frames)
 
 -- What a step of p puts is left more, and what it took is left no more.
-pub left_after : (n p : ℕ) (w : Nodes) (y : Node) (put_frames got : ℕ → List Frame) (behind behind1 : ℕ → ℕ → ℕ) → p < n → InStep n w behind → ((b : ℕ) → b < n → p ≢ b → y.wire b ≡ (w p).wire b ++ put_frames b) → Takes n p w got behind behind1
+pub left_after : (n p : ℕ) (w : Nodes) (y : Node) (put_frames got : ℕ → List Frame) (behind behind1 : ℕ → ℕ → ℕ) → p < n
+    → InStep n w behind → ((b : ℕ) → b < n → p ≢ b → y.wire b ≡ (w p).wire b ++ put_frames b)
+    → Takes n p w got behind behind1
     → left_in n (put w p y) behind1 + for_all n p got ≡ left_in n w behind + for_all n p put_frames
 left_after n p w y put_frames got behind behind1 lp S wires T =
     let a = total_both n row1 (for_others n p got) (λ q. row1 q + for_others n p got q) (λ q _. refl) in
@@ -126,7 +131,8 @@ for_one n p a f la ne =
     omega (arith, s, x, y, z)
 
 -- one frame for each other process
-for_each_other : (n p c : ℕ) (frames : ℕ → List Frame) → p < n → ((q : ℕ) → q < n → p ≢ q → takes_for_all n (frames q) ≡ c) → for_all n p frames + c ≡ n * c
+for_each_other : (n p c : ℕ) (frames : ℕ → List Frame) → p < n
+    → ((q : ℕ) → q < n → p ≢ q → takes_for_all n (frames q) ≡ c) → for_all n p frames + c ≡ n * c
 for_each_other n p c frames lp is =
     let s = total_same n (for_others n p frames) (λ q. cond (p == q) 0 c) (λ q lq. same q lq) in
     let t = total_others n p c lp in
@@ -218,11 +224,13 @@ module _ (n registers k : ℕ) (w : Nodes) (I : Inv n registers k w) (p : ℕ) (
 abbrev pub calls_in : ℕ → List Event → ℕ
 calls_in n es = total n (λ q. length (calls_of q es))
 
-calls_more : (q : ℕ) (es : List Event) (e : Event) → length (calls_of q (es ++ e ∷ [])) ≡ length (calls_of q es) + length (call_at q e)
+calls_more : (q : ℕ) (es : List Event) (e : Event)
+    → length (calls_of q (es ++ e ∷ [])) ≡ length (calls_of q es) + length (call_at q e)
 calls_more q es e =
     ap length (flat_map-append (call_at q) es (e ∷ []) ∙ ap (λ l. calls_of q es ++ l) (append-nil (call_at q e))) ∙ length-append (calls_of q es) (call_at q e)
 
-pub calls_of_call : (n p : ℕ) (op : Op) (es : List Event) → p < n → calls_in n (es ++ Call p op ∷ []) ≡ calls_in n es + 1
+pub calls_of_call : (n p : ℕ) (op : Op) (es : List Event) → p < n
+    → calls_in n (es ++ Call p op ∷ []) ≡ calls_in n es + 1
 calls_of_call n p op es lp =
     let a = total_one n p (λ q. length (calls_of q (es ++ Call p op ∷ []))) (λ q. length (calls_of q es)) lp (λ q _ away.
     let m = calls_more q es (Call p op) in
@@ -237,7 +245,8 @@ calls_of_take n a p k es =
     total_same n (λ q. length (calls_of q (es ++ Take a p k ∷ []))) (λ q. length (calls_of q es)) (λ q _. let m = calls_more q es (Take a p k) in omega (arith, m))
 
 -- there are no more calls than operations
-pub calls_few : (n : ℕ) (scripts : List (List Op)) (es : List Event) → length scripts ≡ n → ((p : ℕ) → p < length scripts → FollowsScript scripts es p) → calls_in n es ≤ sum_by length scripts
+pub calls_few : (n : ℕ) (scripts : List (List Op)) (es : List Event) → length scripts ≡ n
+    → ((p : ℕ) → p < length scripts → FollowsScript scripts es p) → calls_in n es ≤ sum_by length scripts
 calls_few n scripts es is follows =
     let a = total_least n (λ q. length (calls_of q es)) (λ q. length (script_of scripts q)) (λ q lq. few q (omega (arith, lq, is))) in
     let b = total_along length scripts [] in
@@ -249,9 +258,12 @@ calls_few n scripts es is follows =
 
 -- what one more call may bring
 pub more_calls : (n calls : ℕ) → (calls + 1) * most_for_call n ≡ calls * most_for_call n + most_for_call n
-more_calls n calls = let e : calls + 1 ≡ suc calls = omega arith in ap (λ c. c * most_for_call n) e ∙ suc-mul calls (most_for_call n)
+more_calls n calls =
+    let e : calls + 1 ≡ suc calls = omega arith in ap (λ c. c * most_for_call n) e ∙ suc-mul calls (most_for_call n)
 
-pub few_events : (n : ℕ) (scripts : List (List Op)) (es : List Event) (count left : ℕ) → length scripts ≡ n → ((p : ℕ) → p < length scripts → FollowsScript scripts es p) → count + left ≤ calls_in n es * most_for_call n → count ≤ most_fair_events n scripts
+pub few_events : (n : ℕ) (scripts : List (List Op)) (es : List Event) (count left : ℕ) → length scripts ≡ n
+    → ((p : ℕ) → p < length scripts → FollowsScript scripts es p) → count + left ≤ calls_in n es * most_for_call n
+    → count ≤ most_fair_events n scripts
 few_events n scripts es count left is follows spent =
     let a = mul-le-mul_right (most_for_call n) (calls_few n scripts es is follows) in
     omega (arith, a, spent)

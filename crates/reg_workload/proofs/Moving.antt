@@ -1,5 +1,6 @@
 -- What each kind of step does to the ends of the wires.
-use Rattle.std.proofs.Common.{◌≡◌, ℕ, zero, suc, ◌+◌, ◌-◌, inl, inr, ◌<◌, ◌≢◌, max, Bool, true, false, List, [], ◌∷◌, ◌++◌, length, drop, Some, refl, sym, ap, ◌∙◌, arith, length-append}
+use Rattle.std.proofs.Common.{◌≡◌, ℕ, zero, suc, ◌+◌, ◌-◌, inl, inr, ◌<◌, ◌≢◌, max, Bool, true, false, List, [], ◌∷◌}
+use Rattle.std.proofs.Common.{◌++◌, length, drop, Some, refl, sym, ap, ◌∙◌, arith, length-append}
 use Rattle.std.specs.Prelude.{cond, ◌==◌, slice_index_or}
 use Rattle.std.proofs.lemmas.Bool.{cond-false, ne_eqb, cond_both, cases_eq, eqb-true, eqb-false}
 use Rattle.std.proofs.lemmas.List.{append-nil, get_or-set_same, get_or-set_other}
@@ -9,15 +10,18 @@ use Rattle.reg_frames.specs.declared.bodies.Body.TheVariants.{Cast, Ack}
 use Rattle.reg_frames.specs.declared.bodies.Frame.{Frame}
 use Rattle.reg_frames.specs.declared.bodies.Frame.TheVariants.{Numbered, Got}
 use Rattle.reg_front.specs.declared.starts.Start.{Start}
-use Rattle.reg_front.specs.declared.starts.Start.TheVariants.{Cast as Casts, CastAndAnswer as CastsAndAnswers, Look as Looks, Hold as Holds}
-use Rattle.reg_process.specs.Process.{State, Peer, no_peer, peer_at, next_of, queue_from, data_frames, got_frames, accepts, called, taken, accepted, acknowledged, quiet}
+use Rattle.reg_front.specs.declared.starts.Start.TheVariants.{Cast as Casts, CastAndAnswer as CastsAndAnswers}
+use Rattle.reg_front.specs.declared.starts.Start.TheVariants.{Look as Looks, Hold as Holds}
+use Rattle.reg_process.specs.Process.{State, Peer, no_peer, peer_at, next_of, queue_from, data_frames, got_frames}
+use Rattle.reg_process.specs.Process.{accepts, called, taken, accepted, acknowledged, quiet}
 use Rattle.reg_process.proofs.Peers.{queue_expected}
 use Rattle.reg_world.specs.Nodes.{Node, Nodes, after_result}
 use Rattle.reg_world.proofs.one_order.Worlds.{Inv}
 use Rattle.reg_world.proofs.one_order.NodeEvents.{next_is}
 use Rattle.reg_world.proofs.one_order.Accepting.{accepts_is, accepts_first}
 use Rattle.reg_workload.specs.FairParts.{expected_after, counted_after}
-use Rattle.reg_workload.proofs.Wires.{Moves, expected_both, counted_both, next_expected, other_expected, got_expected, got_counted, none_counted}
+use Rattle.reg_workload.proofs.Wires.{Moves, expected_both, counted_both, next_expected, other_expected, got_expected}
+use Rattle.reg_workload.proofs.Wires.{got_counted, none_counted}
 
 -- no frame taken, and one frame of one process
 abbrev pub none_got : ℕ → List Frame
@@ -26,7 +30,8 @@ none_got b = []
 abbrev pub one_got : ℕ → Frame → ℕ → List Frame
 one_got a f b = cond (b == a) (f ∷ []) []
 
-queue_first : (body : Body) (r me : ℕ) (ps : List Peer) (i : ℕ) → (slice_index_or (queue_from r me body ps) i no_peer).first ≡ (slice_index_or ps i no_peer).first
+queue_first : (body : Body) (r me : ℕ) (ps : List Peer) (i : ℕ)
+    → (slice_index_or (queue_from r me body ps) i no_peer).first ≡ (slice_index_or ps i no_peer).first
 queue_first body r me [] i = refl
 queue_first body r me (p ∷ ps) zero = cond_first (r == me) p body
   where
@@ -76,7 +81,8 @@ module _ (n registers k : ℕ) (w : Nodes) (I : Inv n registers k w) (p : ℕ) (
         knows = λ b _ _. sym (ap (λ z. (slice_index_or z b no_peer).first) ps ∙ queue_first body 0 s.me s.peers b);
       }
 
-  pub called_moves : (op : Op) (st : Start) → Moves n p (w p) (after_result (w p) op (called s op st)) (called s op st).1.frames none_got
+  pub called_moves : (op : Op) (st : Start)
+      → Moves n p (w p) (after_result (w p) op (called s op st)) (called s op st).1.frames none_got
   called_moves op Casts = cast_moves op (after_result (w p) op (called s op Casts)) (Cast (s.clock + 1) op) refl refl (λ b. refl)
   called_moves op CastsAndAnswers = cast_moves op (after_result (w p) op (called s op CastsAndAnswers)) (Cast (s.clock + 1) op) refl refl (λ b. refl)
   called_moves op Looks = record { wire = λ b _ _. refl; bodies = λ b _ _. nothing_more; counts = λ b _ _. refl; accepts = λ b _ _. refl; knows = λ b _ _. refl }

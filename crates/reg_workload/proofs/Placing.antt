@@ -1,6 +1,8 @@
--- What is kept of the choices of a seeded play: it is so again once what a choice touched is listed anew, and the choices
+-- What is kept of the choices of a seeded play: it is so again once what a choice touched is listed anew, and the
+-- choices
 -- stand where its bits say.
-use Rattle.std.proofs.Common.{◌≡◌, ℕ, zero, ◌+◌, ◌%◌, ◌^◌, ◌<◌, ◌≤◌, ◌≢◌, Bool, true, false, List, [], ◌∷◌, length, count_ones, Option, Some, None, refl, sym, ap, ◌∙◌, subst, inl, inr, arith}
+use Rattle.std.proofs.Common.{◌≡◌, ℕ, zero, ◌+◌, ◌%◌, ◌^◌, ◌<◌, ◌≤◌, ◌≢◌, Bool, true, false, List, [], ◌∷◌, length}
+use Rattle.std.proofs.Common.{count_ones, Option, Some, None, refl, sym, ap, ◌∙◌, subst, inl, inr, arith}
 use Rattle.std.specs.Prelude.{cond, not, ◌&&◌, ◌==◌, nat_lt, slice_get, slice_index_or}
 use Rattle.std.specs.Int.{bit_at}
 use Rattle.std.specs.Option.{is_some}
@@ -16,8 +18,10 @@ use Rattle.reg_workload.specs.declared.choices.Choice.{Choice}
 use Rattle.reg_workload.specs.declared.choices.Choice.TheVariants.{Call as CallNext, Take as TakeNext, Tick as PutAgain}
 use Rattle.reg_workload.specs.Plays.{Playing, cursor_at, may_call, next_frame}
 use Rattle.reg_workload.specs.PlayParts.{IsChoice}
-use Rattle.reg_workload.specs.Seeded.{take_of, call_choice, take_choice, tick_choice, call_choices, take_choices_from, tick_choices}
-use Rattle.reg_workload.specs.Listed.{bit_of, may_take, may_tick, takes_at, AreBits, AreListedBut, AreListed, Lists, ListsWire, IsWithin}
+use Rattle.reg_workload.specs.Seeded.{take_of, call_choice, take_choice, tick_choice, call_choices, take_choices_from}
+use Rattle.reg_workload.specs.Seeded.{tick_choices}
+use Rattle.reg_workload.specs.Listed.{bit_of, may_take, may_tick, takes_at, AreBits, AreListedBut, AreListed, Lists}
+use Rattle.reg_workload.specs.Listed.{ListsWire, IsWithin}
 use Rattle.reg_workload.proofs.Bits.{bit_true, place_below, all_are, stands_at}
 
 one_if : {X : Type 0} (b : Bool) (x : X) → length (cond b (x ∷ []) []) ≡ bit_of b
@@ -39,7 +43,9 @@ module _ (start : Op → ℕ → Start) (s : Playing) where
       ap is_some (cond-false (not (p == p) && left) (Some k) None (and_left (not (p == p)) left (ap not (eq-eqb p p refl))))
 
   -- a bit that isn't looked at is right: it is known, or it is of no wire
-  pub passed_over : (from to known seen : ℕ) → (bit_at known to ≡ 1 → may_take start s from to ≡ true) → (to ≢ from → bit_at seen to ≡ bit_at known to) → (bit_at seen to ≡ 0 → ⊥) → bit_at known to ≡ bit_of (may_take start s from to)
+  pub passed_over : (from to known seen : ℕ) → (bit_at known to ≡ 1 → may_take start s from to ≡ true)
+      → (to ≢ from → bit_at seen to ≡ bit_at known to) → (bit_at seen to ≡ 0 → ⊥)
+      → bit_at known to ≡ bit_of (may_take start s from to)
   passed_over from to known seen so same some = elim (cases_eq (bit_at known to) 1) [
     | inl one ↦ one ∙ sym (ap bit_of (so one))
     | inr not_one ↦
@@ -52,7 +58,9 @@ module _ (start : Op → ℕ → Start) (s : Playing) where
   ]
 
   -- a process is listed anew
-  pub relisted : (acts later : ℕ → Type 0) (passes : ℕ → ℕ → Type 0) (p : ℕ) (old new : Chances) → AreListedBut start s acts passes old → Lists start s p old new → ((q : ℕ) → q ≢ p → acts q → later q) → AreListedBut start s later passes new
+  pub relisted : (acts later : ℕ → Type 0) (passes : ℕ → ℕ → Type 0) (p : ℕ) (old new : Chances)
+      → AreListedBut start s acts passes old → Lists start s p old new → ((q : ℕ) → q ≢ p → acts q → later q)
+      → AreListedBut start s later passes new
   relisted acts later passes p old new L R more = record {
     processes = L.processes;
     few_calls = R.few_calls L.few_calls;
@@ -83,7 +91,9 @@ module _ (start : Op → ℕ → Start) (s : Playing) where
       wide q l = let few = L.processes in omega (arith, l, few)
 
   -- and a wire
-  pub wire_relisted : (acts : ℕ → Type 0) (passes : ℕ → ℕ → Type 0) (from to : ℕ) (old new : Chances) → AreListedBut start s acts passes old → ListsWire start s from to old new → ((p q : ℕ) → passes p q → (from ≡ p) × (to ≡ q)) → AreListedBut start s acts (λ _ _. ⊥) new
+  pub wire_relisted : (acts : ℕ → Type 0) (passes : ℕ → ℕ → Type 0) (from to : ℕ) (old new : Chances)
+      → AreListedBut start s acts passes old → ListsWire start s from to old new
+      → ((p q : ℕ) → passes p q → (from ≡ p) × (to ≡ q)) → AreListedBut start s acts (λ _ _. ⊥) new
   wire_relisted acts passes from to old new L R only = record {
     processes = L.processes;
     few_calls = subst (λ (k : ℕ). k < 2 ^ s.made.processes) (sym R.calls) L.few_calls;
@@ -116,7 +126,8 @@ module _ (start : Op → ℕ → Start) (s : Playing) where
       wide q l = let few = L.processes in omega (arith, l, few)
 
   -- process by process
-  pub none_listed : (takes : List ℕ) → ((p : ℕ) → slice_index_or takes p 0 ≡ 0) → s.made.processes ≤ MOST_PROCESSES → AreListedBut start s (λ p. 0 ≤ p) (λ _ _. ⊥) (record { calls = 0; takes = takes; ticks = 0 })
+  pub none_listed : (takes : List ℕ) → ((p : ℕ) → slice_index_or takes p 0 ≡ 0) → s.made.processes ≤ MOST_PROCESSES
+      → AreListedBut start s (λ p. 0 ≤ p) (λ _ _. ⊥) (record { calls = 0; takes = takes; ticks = 0 })
   none_listed takes none few = record {
     processes = few;
     few_calls = pow_pos s.made.processes;
@@ -128,13 +139,15 @@ module _ (start : Op → ℕ → Start) (s : Playing) where
     take = λ p q lp lq free apart. absurd (free (omega arith));
   }
 
-  pub one_more_listed : (n : ℕ) (old new : Chances) → AreListedBut start s (λ p. n ≤ p) (λ _ _. ⊥) old → Lists start s n old new → AreListedBut start s (λ p. n + 1 ≤ p) (λ _ _. ⊥) new
+  pub one_more_listed : (n : ℕ) (old new : Chances) → AreListedBut start s (λ p. n ≤ p) (λ _ _. ⊥) old
+      → Lists start s n old new → AreListedBut start s (λ p. n + 1 ≤ p) (λ _ _. ⊥) new
   one_more_listed n old new L R = relisted (λ p. n ≤ p) (λ p. n + 1 ≤ p) (λ _ _. ⊥) n old new L R (λ p ne l. elim (cases_lt n p) [
     | inl less ↦ omega (arith, less)
     | inr not_less ↦ absurd (ne (omega (arith, not_less, l)))
   ])
 
-  pub all_listed : (n : ℕ) (c : Chances) → n ≡ s.made.processes → AreListedBut start s (λ p. n ≤ p) (λ _ _. ⊥) c → AreListed start s c
+  pub all_listed : (n : ℕ) (c : Chances) → n ≡ s.made.processes → AreListedBut start s (λ p. n ≤ p) (λ _ _. ⊥) c
+      → AreListed start s c
   all_listed n c e L = record {
     processes = L.processes;
     few_calls = L.few_calls;

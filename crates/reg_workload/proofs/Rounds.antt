@@ -8,7 +8,10 @@ use Rattle.reg_workload.specs.FairParts.{IsFair, GoesFairly, RoundPart}
 
 module _ (start : Op → ℕ → Start) (budget : ℕ) where
   -- an event was made
-  pub makes : (old new : Playing) (rest : Type 0) → length old.made.accepted ≤ budget → length old.made.accepted ≢ budget → IsFair start new → new.scripts ≡ old.scripts → new.made.processes ≡ old.made.processes → new.made.registers ≡ old.made.registers → new.made.failed ≡ false → length new.made.accepted ≡ length old.made.accepted + 1 → RoundPart start budget old new false rest
+  pub makes : (old new : Playing) (rest : Type 0) → length old.made.accepted ≤ budget
+      → length old.made.accepted ≢ budget → IsFair start new → new.scripts ≡ old.scripts
+      → new.made.processes ≡ old.made.processes → new.made.registers ≡ old.made.registers → new.made.failed ≡ false
+      → length new.made.accepted ≡ length old.made.accepted + 1 → RoundPart start budget old new false rest
   makes old new rest few not_full fair same processes registers going more = record {
     goes = record { on = record { same = same; processes = processes; registers = registers; going = going; few = omega (arith, few, not_full, more) }; fair = fair; more = omega (arith, more) };
     full = λ e. absurd (false≢true e);
@@ -16,7 +19,8 @@ module _ (start : Op → ℕ → Start) (budget : ℕ) where
     still = λ _ e. absurd (omega (arith, e, more));
   }
 
-  pub fairly : (old mid new : Playing) → GoesFairly start budget old mid → GoesFairly start budget mid new → GoesFairly start budget old new
+  pub fairly : (old mid new : Playing) → GoesFairly start budget old mid → GoesFairly start budget mid new
+      → GoesFairly start budget old new
   fairly old mid new a b = record {
     on = record { same = b.on.same ∙ a.on.same; processes = b.on.processes ∙ a.on.processes; registers = b.on.registers ∙ a.on.registers; going = b.on.going; few = b.on.few };
     fair = b.fair;
@@ -24,7 +28,9 @@ module _ (start : Op → ℕ → Start) (budget : ℕ) where
   }
 
   -- two parts, of which the first left the budget
-  pub both : (P : Playing → Type 0) (old mid new : Playing) (full : Bool) (later rest : Type 0) → RoundPart start budget old mid false (P mid) → RoundPart start budget mid new full later → (full ≡ false → P new → later → rest) → RoundPart start budget old new full rest
+  pub both : (P : Playing → Type 0) (old mid new : Playing) (full : Bool) (later rest : Type 0)
+      → RoundPart start budget old mid false (P mid) → RoundPart start budget mid new full later
+      → (full ≡ false → P new → later → rest) → RoundPart start budget old new full rest
   both P old mid new full later rest a b so =
       let x = a.goes.more in
       let y = b.goes.more in

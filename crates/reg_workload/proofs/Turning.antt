@@ -1,5 +1,6 @@
 -- What a turn of a seeded play does.
-use Rattle.std.proofs.Common.{◌≡◌, ℕ, zero, suc, ◌+◌, ◌≤◌, List, [], ◌∷◌, length, Option, Some, None, refl, sym, ap, ◌∙◌, inl, inr, arith}
+use Rattle.std.proofs.Common.{◌≡◌, ℕ, zero, suc, ◌+◌, ◌≤◌, List, [], ◌∷◌, length, Option, Some, None, refl, sym, ap}
+use Rattle.std.proofs.Common.{◌∙◌, inl, inr, arith}
 use Rattle.std.specs.Prelude.{◌⊎◌, slice_index_or, slice_set}
 use Rattle.std.proofs.lemmas.Bool.{cond_both}
 use Rattle.reg_base.specs.declared.memory.Op.{Op}
@@ -17,7 +18,8 @@ pub steps_more : {S : Type 0} (step : ℕ → S → S) (n : ℕ) (s : S) → ste
 steps_more step n s = let e : n + 1 ≡ suc n = omega arith in ap (λ k. steps step k s) e
 
 -- steps that change nothing any more
-pub steps_stay : {S : Type 0} (step : ℕ → S → S) (k n : ℕ) (s t : S) → steps step k s ≡ t → k ≤ n → ((j : ℕ) → step j t ≡ t) → steps step n s ≡ t
+pub steps_stay : {S : Type 0} (step : ℕ → S → S) (k n : ℕ) (s t : S) → steps step k s ≡ t → k ≤ n
+    → ((j : ℕ) → step j t ≡ t) → steps step n s ≡ t
 steps_stay step k zero s t e l still = let z : k ≡ 0 = omega (arith, l) in ap (λ i. steps step i s) (sym z) ∙ e
 steps_stay step k (suc n) s t e l still = elim (last k n l) [
   | inl z ↦ ap (λ i. steps step i s) (sym z) ∙ e
@@ -41,7 +43,9 @@ goes_more loss n old mid new g t = record {
 }
 
 module _ {W : Type 0} (start : Op → ℕ → Start) (next_word : W → ℕ × W) (loss repeat : ℕ) where
-  pub turn_picks : (s : Playing) (w w1 : W) (c : Choice) (cs : List Choice) (word : ℕ) → cs ≡ choices_of start s → picked cs word ≡ Some c → (word, w1) ≡ next_word w → turn start next_word loss repeat (s, w) ≡ chooses start next_word loss repeat s c w1
+  pub turn_picks : (s : Playing) (w w1 : W) (c : Choice) (cs : List Choice) (word : ℕ) → cs ≡ choices_of start s
+      → picked cs word ≡ Some c → (word, w1) ≡ next_word w
+      → turn start next_word loss repeat (s, w) ≡ chooses start next_word loss repeat s c w1
   unfolding turn
   turn_picks s w w1 c cs word all is drawn =
       let p : picked (choices_of start s) (next_word w).0 ≡ Some c = ap (λ (y : ℕ × W). picked (choices_of start s) y.0) (sym drawn) ∙ (ap (λ l. picked l word) (sym all) ∙ is) in
@@ -52,11 +56,14 @@ module _ {W : Type 0} (start : Op → ℕ → Start) (next_word : W → ℕ × W
   turn_none s w none = ap (λ l. turns_by start next_word loss repeat s (picked l (next_word w).0) w) none
 
   -- one more turn
-  pub turns_more : (n : ℕ) (x : Playing × W) (s s1 : Playing) (w w1 : W) → (s, w) ≡ turns start next_word loss repeat n x → (s1, w1) ≡ turn start next_word loss repeat (s, w) → (s1, w1) ≡ turns start next_word loss repeat (n + 1) x
+  pub turns_more : (n : ℕ) (x : Playing × W) (s s1 : Playing) (w w1 : W)
+      → (s, w) ≡ turns start next_word loss repeat n x → (s1, w1) ≡ turn start next_word loss repeat (s, w)
+      → (s1, w1) ≡ turns start next_word loss repeat (n + 1) x
   turns_more n x s s1 w w1 e f = f ∙ (ap (turn start next_word loss repeat) e ∙ sym (steps_more (λ _ y. turn start next_word loss repeat y) n x))
 
   -- where nothing can happen, further turns change nothing
-  pub turns_end : (k n : ℕ) (x : Playing × W) (s : Playing) (w : W) → (s, w) ≡ turns start next_word loss repeat k x → k ≤ n → choices_of start s ≡ [] → (s, w) ≡ turns start next_word loss repeat n x
+  pub turns_end : (k n : ℕ) (x : Playing × W) (s : Playing) (w : W) → (s, w) ≡ turns start next_word loss repeat k x
+      → k ≤ n → choices_of start s ≡ [] → (s, w) ≡ turns start next_word loss repeat n x
   turns_end k n x s w e l none = sym (steps_stay (λ _ y. turn start next_word loss repeat y) k n x (s, w) (sym e) l (λ _. turn_none s w none))
 
   -- A turn puts one more frame of a wire behind at most.
@@ -100,7 +107,8 @@ module _ {W : Type 0} (start : Op → ℕ → Start) (next_word : W → ℕ × W
       by_choice None = omega arith
       by_choice (Some c) = chooses_one s c (next_word w).1 a b
 
-  pub few_behind : (n : ℕ) (s s1 : Playing) (w w1 : W) → (s1, w1) ≡ turn start next_word loss repeat (s, w) → ((a b : ℕ) → cursor_at s a b ≤ n) → (a b : ℕ) → cursor_at s1 a b ≤ n + 1
+  pub few_behind : (n : ℕ) (s s1 : Playing) (w w1 : W) → (s1, w1) ≡ turn start next_word loss repeat (s, w)
+      → ((a b : ℕ) → cursor_at s a b ≤ n) → (a b : ℕ) → cursor_at s1 a b ≤ n + 1
   few_behind n s s1 w w1 e few a b =
       let l = few a b in
       let m = turn_one s w a b in

@@ -1,5 +1,6 @@
 -- What frames bring to their two ends, and that a step of one process keeps both in step.
-use Rattle.std.proofs.Common.{◌≡◌, ℕ, zero, suc, ◌+◌, ◌<◌, ◌≤◌, ◌≢◌, max, List, [], ◌∷◌, ◌++◌, length, drop, Some, refl, sym, ap, ◌∙◌, subst, inl, inr, arith, length-append}
+use Rattle.std.proofs.Common.{◌≡◌, ℕ, zero, suc, ◌+◌, ◌<◌, ◌≤◌, ◌≢◌, max, List, [], ◌∷◌, ◌++◌, length, drop, Some, refl}
+use Rattle.std.proofs.Common.{sym, ap, ◌∙◌, subst, inl, inr, arith, length-append}
 use Rattle.std.specs.Prelude.{cond, ◌==◌, slice_get}
 use Rattle.std.proofs.lemmas.Bool.{cond-true, cond-false, eq-eqb, ne_eqb, cond_both, cases_eq}
 use Rattle.std.proofs.lemmas.List.{drop-append-le, drop_all}
@@ -31,7 +32,8 @@ pub other_expected : (e i : ℕ) (body : Body) → (i ≡ e → ⊥) → expecte
 other_expected e i body ne = cond-false (i == e) (e + 1) e (ne_eqb i e ne)
 
 pub got_expected : (e a count b : ℕ) → expected_after e (got_frames a count b) ≡ e
-got_expected e a count b = cond_both (b == a) (Got count ∷ []) [] (λ fs. expected_after e fs ≡ e) (λ _. refl) (λ _. refl)
+got_expected e a count b =
+    cond_both (b == a) (Got count ∷ []) [] (λ fs. expected_after e fs ≡ e) (λ _. refl) (λ _. refl)
 
 pub got_counted : (c a count b : ℕ) → b ≡ a → counted_after c (got_frames a count b) ≡ max c count
 got_counted c a count b e = ap (counted_after c) (cond-true (b == a) (Got count ∷ []) [] (eq-eqb b a e))
@@ -43,14 +45,17 @@ none_counted c a count b ne = ap (counted_after c) (cond-false (b == a) (Got cou
 pub first_left : (k : ℕ) (xs : List Frame) (f : Frame) → slice_get xs k ≡ Some f → drop k xs ≡ f ∷ drop (k + 1) xs
 first_left k [] f h = cc
 first_left zero (x ∷ xs) f h = let e : x ≡ f = cc in ap (λ z. z ∷ xs) e
-first_left (suc k) (x ∷ xs) f h = let q : suc (k + 1) ≡ suc k + 1 = omega arith in first_left k xs f h ∙ ap (λ j. f ∷ drop j (x ∷ xs)) q
+first_left (suc k) (x ∷ xs) f h =
+    let q : suc (k + 1) ≡ suc k + 1 = omega arith in first_left k xs f h ∙ ap (λ j. f ∷ drop j (x ∷ xs)) q
 
 -- What a step of p does to its ends of the wires: the frames put and the frames taken.
 pub record Moves (n p : ℕ) (x y : Node) (put_frames got : ℕ → List Frame) : Type 0 where
   pub wire : (b : ℕ) → b < n → p ≢ b → y.wire b ≡ x.wire b ++ put_frames b
   pub bodies : (b : ℕ) → b < n → p ≢ b → expected_after (length x.queued) (put_frames b) ≡ length y.queued
-  pub counts : (b : ℕ) → b < n → p ≢ b → counted_after (peer_at x.state b).expected (put_frames b) ≡ (peer_at y.state b).expected
-  pub accepts : (b : ℕ) → b < n → p ≢ b → expected_after (peer_at x.state b).expected (got b) ≡ (peer_at y.state b).expected
+  pub counts : (b : ℕ) → b < n → p ≢ b
+      → counted_after (peer_at x.state b).expected (put_frames b) ≡ (peer_at y.state b).expected
+  pub accepts : (b : ℕ) → b < n → p ≢ b
+      → expected_after (peer_at x.state b).expected (got b) ≡ (peer_at y.state b).expected
   pub knows : (b : ℕ) → b < n → p ≢ b → counted_after (peer_at x.state b).first (got b) ≡ (peer_at y.state b).first
 
 -- the frames that p took are behind now
@@ -59,7 +64,9 @@ pub record Takes (n p : ℕ) (w : Nodes) (got : ℕ → List Frame) (behind behi
   pub taken : (b : ℕ) → b < n → p ≢ b → drop (behind b p) ((w b).wire p) ≡ got b ++ drop (behind1 b p) ((w b).wire p)
   pub same : (a b : ℕ) → p ≢ b → behind1 a b ≡ behind a b
 
-pub moves_on : (n p : ℕ) (w : Nodes) (y : Node) (put_frames got : ℕ → List Frame) (behind behind1 : ℕ → ℕ → ℕ) → p < n → InStep n w behind → Moves n p (w p) y put_frames got → Takes n p w got behind behind1 → InStep n (put w p y) behind1
+pub moves_on : (n p : ℕ) (w : Nodes) (y : Node) (put_frames got : ℕ → List Frame) (behind behind1 : ℕ → ℕ → ℕ) → p < n
+    → InStep n w behind → Moves n p (w p) y put_frames got → Takes n p w got behind behind1
+    → InStep n (put w p y) behind1
 moves_on n p w y put_frames got behind behind1 lp S M T = record {
   within = λ a b la lb ne. put_cases (λ (z : Node). behind1 a b ≤ length (z.wire b)) w p y a
       (λ e.
@@ -124,7 +131,8 @@ moves_on n p w y put_frames got behind behind1 lp S M T = record {
     ]
 
 -- Where all frames are behind, nothing is pending.
-pub all_behind : (n registers k : ℕ) (w : Nodes) (behind : ℕ → ℕ → ℕ) → Inv n registers k w → InStep n w behind → ((p q : ℕ) → p < n → q < n → p ≢ q → length ((w p).wire q) ≤ behind p q) → NothingPending n w
+pub all_behind : (n registers k : ℕ) (w : Nodes) (behind : ℕ → ℕ → ℕ) → Inv n registers k w → InStep n w behind
+    → ((p q : ℕ) → p < n → q < n → p ≢ q → length ((w p).wire q) ≤ behind p q) → NothingPending n w
 all_behind n registers k w behind I S all p q lp lq ne =
     let K = I.link p q lp lq ne in
     let a : (peer_at (w q).state p).expected ≡ length (w p).queued =

@@ -1,5 +1,6 @@
 -- Conditions of a fair play under way, and the parts of its rounds. They carry a proof: no promise speaks of them.
-use Rattle.std.specs.Prelude.{ℕ, ◌≡◌, ◌≢◌, ◌+◌, ◌*◌, ◌<◌, ◌≤◌, max, ◌==◌, cond, Bool, true, false, List, [], ◌∷◌, length, drop}
+use Rattle.std.specs.Prelude.{ℕ, ◌≡◌, ◌≢◌, ◌+◌, ◌*◌, ◌<◌, ◌≤◌, max, ◌==◌, cond, Bool, true, false, List, [], ◌∷◌}
+use Rattle.std.specs.Prelude.{length, drop}
 use Rattle.reg_frames.specs.declared.bodies.Body.TheVariants.{Cast, Ack}
 use Rattle.reg_frames.specs.declared.bodies.Frame.{Frame}
 use Rattle.reg_frames.specs.declared.bodies.Frame.TheVariants.{Numbered, Got}
@@ -32,8 +33,11 @@ counted_after c (Got count ∷ fs) = counted_after (max c count) fs
 -- receiver, and all that it accepted to the knowledge of the sender.
 pub record InStep (n : ℕ) (w : Nodes) (behind : ℕ → ℕ → ℕ) : Type 0 where
   pub within : (p q : ℕ) → p < n → q < n → p ≢ q → behind p q ≤ length ((w p).wire q)
-  pub bodies : (p q : ℕ) → p < n → q < n → p ≢ q → expected_after (peer_at (w q).state p).expected (drop (behind p q) ((w p).wire q)) ≡ length (w p).queued
-  pub counts : (p q : ℕ) → p < n → q < n → p ≢ q → counted_after (peer_at (w p).state q).first (drop (behind q p) ((w q).wire p)) ≡ (peer_at (w q).state p).expected
+  pub bodies : (p q : ℕ) → p < n → q < n → p ≢ q
+      → expected_after (peer_at (w q).state p).expected (drop (behind p q) ((w p).wire q)) ≡ length (w p).queued
+  pub counts : (p q : ℕ) → p < n → q < n → p ≢ q
+      → counted_after (peer_at (w p).state q).first (drop (behind q p) ((w q).wire p))
+      ≡ (peer_at (w q).state p).expected
 
 -- How many takes a frame asks for, its own among them, if from now on each frame is taken once: a cast is answered by a
 -- count, and by an acknowledgement for each other process, and that by a count.
@@ -56,7 +60,8 @@ left_in n w behind = total n (λ a. total n (left_on n w behind a))
 
 -- the passed frames are those taken, in order, and there are no more of them than events
 pub record IsFair (start : Op → ℕ → Start) (s : Playing) : Type 0 where
-  pub spent : length s.made.accepted + left_in s.made.processes (run_in start s.made).nodes (cursor_at s) ≤ total s.made.processes (λ p. length (calls_of p s.made.accepted)) * most_for_call s.made.processes
+  pub spent : length s.made.accepted + left_in s.made.processes (run_in start s.made).nodes (cursor_at s)
+      ≤ total s.made.processes (λ p. length (calls_of p s.made.accepted)) * most_for_call s.made.processes
   pub in_step : InStep s.made.processes (run_in start s.made).nodes (cursor_at s)
   pub few : (p q : ℕ) → cursor_at s p q ≤ length (run_in start s.made).accepted
   pub takes : (p q : ℕ) → takes_of p q s.made.accepted ≡ range_with_len 0 (cursor_at s p q)
@@ -81,7 +86,8 @@ pub record GoesFairly (start : Op → ℕ → Start) (budget : ℕ) (old new : P
 
 -- A part of a round. It ends early only where the budget is used up. Where it made no event nothing changed, and `rest`
 -- holds unless it ended early.
-pub record RoundPart (start : Op → ℕ → Start) (budget : ℕ) (old new : Playing) (is_full : Bool) (rest : Type 0) : Type 0 where
+pub record RoundPart (start : Op → ℕ → Start) (budget : ℕ) (old new : Playing) (is_full : Bool)
+    (rest : Type 0) : Type 0 where
   pub goes : GoesFairly start budget old new
   pub full : is_full ≡ true → length new.made.accepted ≡ budget
   pub same : length new.made.accepted ≡ length old.made.accepted → new ≡ old

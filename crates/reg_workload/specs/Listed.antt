@@ -32,15 +32,18 @@ takes_at c from = slice_index_or c.takes from 0
 
 -- What is kept is true, except of what these processes can do, and of these wires. Of a wire from such a process, a
 -- frame that is kept as one that can be taken can be.
-pub record AreListedBut (start : Op → ℕ → Start) (s : Playing) (acts : ℕ → Type 0) (passes : ℕ → ℕ → Type 0) (c : Chances) : Type 0 where
+pub record AreListedBut (start : Op → ℕ → Start) (s : Playing) (acts : ℕ → Type 0) (passes : ℕ → ℕ → Type 0)
+    (c : Chances) : Type 0 where
   pub processes : s.made.processes ≤ MOST_PROCESSES
   pub few_calls : c.calls < 2 ^ s.made.processes
   pub few_ticks : c.ticks < 2 ^ s.made.processes
   pub few_takes : (p : ℕ) → p < s.made.processes → takes_at c p < 2 ^ s.made.processes
-  pub known : (p q : ℕ) → p < s.made.processes → q < s.made.processes → (passes p q → ⊥) → bit_at (takes_at c p) q ≡ 1 → may_take start s p q ≡ true
+  pub known : (p q : ℕ) → p < s.made.processes → q < s.made.processes → (passes p q → ⊥) → bit_at (takes_at c p) q ≡ 1
+      → may_take start s p q ≡ true
   pub call : (p : ℕ) → p < s.made.processes → (acts p → ⊥) → bit_at c.calls p ≡ bit_of (may_call start s p)
   pub tick : (p : ℕ) → p < s.made.processes → (acts p → ⊥) → bit_at c.ticks p ≡ bit_of (may_tick start s p)
-  pub take : (p q : ℕ) → p < s.made.processes → q < s.made.processes → (acts p → ⊥) → (passes p q → ⊥) → bit_at (takes_at c p) q ≡ bit_of (may_take start s p q)
+  pub take : (p q : ℕ) → p < s.made.processes → q < s.made.processes → (acts p → ⊥) → (passes p q → ⊥)
+      → bit_at (takes_at c p) q ≡ bit_of (may_take start s p q)
 
 -- all that is kept is true
 abbrev pub AreListed : (Op → ℕ → Start) → Playing → Chances → Type 0

@@ -55,7 +55,8 @@ AllStill start s = (p : ℕ) → p < s.made.processes → IsStill start s p
 -- a process may call, a frame of a wire is taken, or a process puts frames again
 abbrev pub IsChoice : (Op → ℕ → Start) → Playing → Choice → Type 0
 IsChoice start s (CallNext p) = (p < s.made.processes) × IsReadyToCall start s p
-IsChoice start s (TakeNext from to number) = (from < s.made.processes) × (to < s.made.processes) × (next_frame start s from to ≡ Some number)
+IsChoice start s (TakeNext from to number) =
+    (from < s.made.processes) × (to < s.made.processes) × (next_frame start s from to ≡ Some number)
 IsChoice start s (PutAgain p) = p < s.made.processes
 
 abbrev pub AreChoices : (Op → ℕ → Start) → Playing → List Choice → Type 0

@@ -1,5 +1,6 @@
 -- Plays: runs in which each process calls the operations of its script, one after another.
-use Rattle.std.specs.Prelude.{ℕ, ◌≡◌, ◌<◌, ◌≤◌, ◌↔◌, ◌==◌, ◌&&◌, not, nat_lt, Bool, true, false, cond, zero, suc, ◌+◌, List, [], ◌∷◌, length, take, replicate, Option, Some, None, slice_index_or, slice_set}
+use Rattle.std.specs.Prelude.{ℕ, ◌≡◌, ◌<◌, ◌≤◌, ◌↔◌, ◌==◌, ◌&&◌, not, nat_lt, Bool, true, false, cond, zero, suc, ◌+◌}
+use Rattle.std.specs.Prelude.{List, [], ◌∷◌, length, take, replicate, Option, Some, None, slice_index_or, slice_set}
 use Rattle.std.specs.List.{flat_map}
 use Rattle.std.specs.Option.{is_some}
 use Rattle.reg_base.specs.declared.limits.TheConstants.{MOST_PROCESSES}
@@ -41,7 +42,8 @@ IsFinished start scripts w = (p : ℕ) → p < length scripts → IsDone start s
 
 -- What happened in a play of these scripts, one for each process of this shape, with at most as many events as the
 -- budget says.
-pub record IsPlay (start : Op → ℕ → Start) (shape : Extent) (all : List (List Op)) (budget : ℕ) (w : Made) (is_finished : Bool) : Type 0 where
+pub record IsPlay (start : Op → ℕ → Start) (shape : Extent) (all : List (List Op)) (budget : ℕ) (w : Made)
+    (is_finished : Bool) : Type 0 where
   pub going : w.failed ≡ false
   pub processes : w.processes ≡ shape.processes
   pub registers : w.registers ≡ shape.registers
@@ -79,12 +81,14 @@ steps step (suc n) s = step n (steps step n s)
 
 -- whether the process is free and has an operation left
 abbrev pub may_call : (Op → ℕ → Start) → Playing → ℕ → Bool
-may_call start s p = nat_lt (next_at s p) (length (script_of s.scripts p)) && not (is_some ((run_in start s.made).nodes p).state.running)
+may_call start s p =
+    nat_lt (next_at s p) (length (script_of s.scripts p)) && not (is_some ((run_in start s.made).nodes p).state.running)
 
 -- the first frame of a wire that is not passed
 abbrev pub next_frame : (Op → ℕ → Start) → Playing → ℕ → ℕ → Option ℕ
 next_frame start s from to =
-    cond (not (from == to) && nat_lt (cursor_at s from to) (length (((run_in start s.made).nodes from).wire to))) (Some (cursor_at s from to)) None
+    cond (not (from == to) && nat_lt (cursor_at s from to) (length (((run_in start s.made).nodes from).wire to)))
+    (Some (cursor_at s from to)) None
 
 -- how many frames the process has to put again
 abbrev pub pending_at : (Op → ℕ → Start) → Playing → ℕ → ℕ
@@ -100,8 +104,13 @@ next_op s p = slice_index_or (script_of s.scripts p) (next_at s p) (Read 0)
 
 -- the process called its next operation
 abbrev pub calls_next : (Op → ℕ → Start) → Playing → ℕ → Playing
-calls_next start s p = record s { made = with_event start s.made (Call p (next_op s p)); next = slice_set s.next p (next_at s p + 1) }
+calls_next start s p =
+    record s { made = with_event start s.made (Call p (next_op s p)); next = slice_set s.next p (next_at s p + 1) }
 
 -- one more frame of the wire is passed
 abbrev pub passes : Playing → ℕ → ℕ → Playing
-passes s from to = record s { cursors = slice_set s.cursors from (slice_set (slice_index_or s.cursors from []) to (cursor_at s from to + 1)) }
+passes s from to =
+    record s {
+      cursors = slice_set s.cursors from
+          (slice_set (slice_index_or s.cursors from []) to (cursor_at s from to + 1));
+    }

@@ -8,13 +8,15 @@ use Rattle.reg_workload.specs.Plays.{Playing, new_play, steps, may_call, next_fr
 
 -- the process calls its next operation, where it may and the budget is not used up
 unfoldable pub call_in_round : (Op → ℕ → Start) → ℕ → Playing → ℕ → Playing
-call_in_round start budget s p = cond (may_call start s p && nat_lt (length s.made.accepted) budget) (calls_next start s p) s
+call_in_round start budget s p =
+    cond (may_call start s p && nat_lt (length s.made.accepted) budget) (calls_next start s p) s
 
 -- the first frame of a wire that is not passed is taken, and is passed then, where there is one and the budget is not
 -- used up
 abbrev pub take_if_room : (Op → ℕ → Start) → ℕ → Playing → ℕ → ℕ → Option ℕ → Playing
 take_if_room start budget s from to None = s
-take_if_room start budget s from to (Some number) = cond (nat_lt (length s.made.accepted) budget) (passes (makes start s (Take from to number)) from to) s
+take_if_room start budget s from to (Some number) =
+    cond (nat_lt (length s.made.accepted) budget) (passes (makes start s (Take from to number)) from to) s
 
 unfoldable pub take_in_round : (Op → ℕ → Start) → ℕ → Playing → ℕ → ℕ → Playing
 take_in_round start budget s from to = take_if_room start budget s from to (next_frame start s from to)

@@ -7,7 +7,8 @@ use Rattle.reg_front.specs.declared.starts.Start.{Start}
 use Rattle.reg_process.specs.declared.events.Event.TheVariants.{Take, Tick}
 use Rattle.reg_workload.specs.declared.choices.Choice.{Choice}
 use Rattle.reg_workload.specs.declared.choices.Choice.TheVariants.{Call as CallNext, Take as TakeNext, Tick as PutAgain}
-use Rattle.reg_workload.specs.Plays.{Playing, new_play, steps, may_call, next_frame, pending_at, makes, calls_next, passes}
+use Rattle.reg_workload.specs.Plays.{Playing, new_play, steps, may_call, next_frame, pending_at, makes, calls_next}
+use Rattle.reg_workload.specs.Plays.{passes}
 use Rattle.reg_base.specs.Words.{says}
 
 -- what one process can call, what one wire brings, and what one process can put again
@@ -39,22 +40,30 @@ tick_choices start s n = flat_map (tick_choice start s) (range_with_len 0 n)
 
 -- all choices: the calls, then the takes, then the ticks
 unfoldable pub choices_of : (Op → ℕ → Start) → Playing → List Choice
-choices_of start s = (call_choices start s s.made.processes ++ take_choices start s s.made.processes) ++ tick_choices start s s.made.processes
+choices_of start s =
+    (call_choices start s s.made.processes ++ take_choices start s s.made.processes)
+    ++ tick_choices start s s.made.processes
 
 -- A frame is taken. It is passed then, unless the next word says that it can be taken again.
 abbrev pub takes_next : {W : Type 0} → (Op → ℕ → Start) → (W → ℕ × W) → ℕ → Playing → ℕ → ℕ → ℕ → W → Playing × W
-takes_next start next_word repeat s from to number w =
-    (cond (says repeat (next_word w).0) (makes start s (Take from to number)) (passes (makes start s (Take from to number)) from to), (next_word w).1)
+takes_next start next_word repeat s from to number w = (
+  cond (says repeat (next_word w).0) (makes start s (Take from to number))
+      (passes (makes start s (Take from to number)) from to),
+  (next_word w).1,
+)
 
 -- A frame is taken so, unless the next word says that it is lost.
-abbrev pub takes_or_loses : {W : Type 0} → (Op → ℕ → Start) → (W → ℕ × W) → ℕ → ℕ → Playing → ℕ → ℕ → ℕ → W → Playing × W
+abbrev pub takes_or_loses : {W : Type 0} → (Op → ℕ → Start) → (W → ℕ × W) → ℕ → ℕ → Playing → ℕ → ℕ → ℕ → W
+    → Playing × W
 takes_or_loses start next_word loss repeat s from to number w =
-    cond (says loss (next_word w).0) (passes s from to, (next_word w).1) (takes_next start next_word repeat s from to number (next_word w).1)
+    cond (says loss (next_word w).0) (passes s from to, (next_word w).1)
+    (takes_next start next_word repeat s from to number (next_word w).1)
 
 -- a choice is made
 unfoldable pub chooses : {W : Type 0} → (Op → ℕ → Start) → (W → ℕ × W) → ℕ → ℕ → Playing → Choice → W → Playing × W
 chooses start next_word loss repeat s (CallNext p) w = (calls_next start s p, w)
-chooses start next_word loss repeat s (TakeNext from to number) w = takes_or_loses start next_word loss repeat s from to number w
+chooses start next_word loss repeat s (TakeNext from to number) w =
+    takes_or_loses start next_word loss repeat s from to number w
 chooses start next_word loss repeat s (PutAgain p) w = (makes start s (Tick p), w)
 
 -- the choice of a word, modulo the number of choices
@@ -69,12 +78,15 @@ turns_by start next_word loss repeat s (Some choice) w = chooses start next_word
 
 -- A turn of a play, with the source of its words.
 unfoldable pub turn : {W : Type 0} → (Op → ℕ → Start) → (W → ℕ × W) → ℕ → ℕ → Playing × W → Playing × W
-turn start next_word loss repeat x = turns_by start next_word loss repeat x.0 (picked (choices_of start x.0) (next_word x.1).0) x.1
+turn start next_word loss repeat x =
+    turns_by start next_word loss repeat x.0 (picked (choices_of start x.0) (next_word x.1).0) x.1
 
 -- This number of turns. After one with no choice nothing changes any more: the play has ended.
 abbrev pub turns : {W : Type 0} → (Op → ℕ → Start) → (W → ℕ × W) → ℕ → ℕ → ℕ → Playing × W → Playing × W
 turns start next_word loss repeat n x = steps (λ _ y. turn start next_word loss repeat y) n x
 
 -- the play of these scripts, one for each process of this shape, with the words of this source
-abbrev pub seeded_play : {W : Type 0} → (Op → ℕ → Start) → (W → ℕ × W) → Extent → List (List Op) → ℕ → ℕ → ℕ → W → Playing × W
-seeded_play start next_word shape scripts loss repeat budget w = turns start next_word loss repeat budget (new_play shape scripts, w)
+abbrev pub seeded_play : {W : Type 0} → (Op → ℕ → Start) → (W → ℕ × W) → Extent → List (List Op) → ℕ → ℕ → ℕ → W
+    → Playing × W
+seeded_play start next_word shape scripts loss repeat budget w =
+    turns start next_word loss repeat budget (new_play shape scripts, w)

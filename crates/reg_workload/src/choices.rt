@@ -1,10 +1,12 @@
 //! What can happen next in a seeded play. Between turns it is kept as bits, and a turn looks again only at what its
 //! choice touched: a wire that is taken from, and what the process of the event can do. So it costs as many looks as
 //! there are processes, and not their square.
-ghost use Rattle.std.specs.Prelude.{◌≡◌, ◌<◌, ◌≤◌, ◌≢◌, ◌+◌, ◌%◌, ◌^◌, ◌∷◌, ℕ, [], Some, true, false, length, count_ones, IfOk, MatchResult, slice_get};
+ghost use Rattle.std.specs.Prelude.{◌≡◌, ◌<◌, ◌≤◌, ◌≢◌, ◌+◌, ◌%◌, ◌^◌, ◌∷◌, ℕ, [], Some, true, false, length};
+ghost use Rattle.std.specs.Prelude.{count_ones, IfOk, MatchResult, slice_get};
 ghost use Rattle.std.specs.Int.{bit_at};
 ghost use Rattle.reg_base.specs.declared.limits.TheConstants.{MOST_PROCESSES};
-ghost use Rattle.reg_workload.specs.Listed.{bit_of, may_take, takes_at, AreBits, Lists, ListsWire, AreListed, AreOthersListed, IsWithin};
+ghost use Rattle.reg_workload.specs.Listed.{bit_of, may_take, takes_at, AreBits, Lists, ListsWire, AreListed};
+ghost use Rattle.reg_workload.specs.Listed.{AreOthersListed, IsWithin};
 ghost use Rattle.reg_workload.specs.Seeded.{take_choice, take_choices, choices_of};
 
 use crate::playing::{Player, WIDTH};
@@ -49,7 +51,8 @@ fn with_bit(bits: u64, place: u8, is_set: bool) -> u64
 /// are set bits.
 fn nth_bit(bits: u64, count: u32) -> Result<u8, u32>
     ensures set { IfOk result (λ place. bit_at bits place ≡ 1) }
-    ensures count { MatchResult result (λ place. count ≡ count_ones (bits % 2 ^ place)) (λ left. count ≡ count_ones bits + left) }
+    ensures count { MatchResult result (λ place. count ≡ count_ones (bits % 2 ^ place))
+        (λ left. count ≡ count_ones bits + left) }
 {
     let all = bits.count_ones();
     if all <= count {
@@ -76,7 +79,8 @@ fn takes_from<F: FrontEnd, A: Allocator + Copy, W: WireStore<A>>(
     requires from { from < player.now.made.processes }
     requires few { player.now.made.processes ≤ MOST_PROCESSES }
     requires few_known { known < 2 ^ player.now.made.processes }
-    requires known { (to : ℕ) → to < player.now.made.processes → bit_at known to ≡ 1 → may_take F.start player.now from to ≡ true }
+    requires known { (to : ℕ) → to < player.now.made.processes → bit_at known to ≡ 1
+        → may_take F.start player.now from to ≡ true }
     ensures { AreBits player.now.made.processes (may_take F.start player.now from) result }
 {
     let mut takes = known;
@@ -137,7 +141,8 @@ impl Chances {
         requires process { process < player.now.made.processes }
         requires few { player.now.made.processes ≤ MOST_PROCESSES }
         requires few_takes { takes_at self.old process < 2 ^ player.now.made.processes }
-        requires known { (to : ℕ) → to < player.now.made.processes → bit_at (takes_at self.old process) to ≡ 1 → may_take F.start player.now process to ≡ true }
+        requires known { (to : ℕ) → to < player.now.made.processes → bit_at (takes_at self.old process) to ≡ 1
+            → may_take F.start player.now process to ≡ true }
         ensures { Lists F.start player.now process self.old self.new }
     {
         self.calls = with_bit(self.calls, process, player.may_call(process));
@@ -212,7 +217,9 @@ impl Chances {
     ) -> Result<Choice, u32>
         requires going { player.now.made.failed ≡ false }
         requires listed { AreListed F.start player.now self.now }
-        ensures { MatchResult result (λ c. slice_get (take_choices F.start player.now player.now.made.processes) place ≡ Some c) (λ left. place ≡ length (take_choices F.start player.now player.now.made.processes) + left) }
+        ensures { MatchResult result
+            (λ c. slice_get (take_choices F.start player.now player.now.made.processes) place ≡ Some c)
+            (λ left. place ≡ length (take_choices F.start player.now player.now.made.processes) + left) }
     {
         let mut left = place;
         for from in 0..player.processes() {

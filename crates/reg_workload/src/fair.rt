@@ -4,9 +4,11 @@ ghost use Rattle.reg_base.specs.Lists.{lists};
 ghost use Rattle.reg_base.specs.declared.limits.TheConstants.{MOST_EVENTS};
 ghost use Rattle.reg_workload.specs.Plays.{IsPlay};
 ghost use Rattle.reg_workload.specs.PlayParts.{GoesOn, IsReadyToCall, ArePlayable};
-ghost use Rattle.reg_workload.specs.Rounds.{call_in_round, take_in_round, calls_in_round, takes_from_in_round, takes_in_round, round, rounds, fair_play};
+ghost use Rattle.reg_workload.specs.Rounds.{call_in_round, take_in_round, calls_in_round, takes_from_in_round};
+ghost use Rattle.reg_workload.specs.Rounds.{takes_in_round, round, rounds, fair_play};
 ghost use Rattle.reg_workload.specs.Fair.{TakesInOrder, most_fair_events};
-ghost use Rattle.reg_workload.specs.FairParts.{IsFair, IsBehind, RoundPart, NoneMayCall, AllBehindFrom, AllBehind, AtRest};
+ghost use Rattle.reg_workload.specs.FairParts.{IsFair, IsBehind, RoundPart, NoneMayCall, AllBehindFrom, AllBehind};
+ghost use Rattle.reg_workload.specs.FairParts.{AtRest};
 
 use crate::playing::{Play, Player};
 use reg_base::{Op, Shape};
@@ -27,7 +29,8 @@ fn call_one<F: FrontEnd, A: Allocator + Copy, W: WireStore<A>>(
     requires budget { budget ≤ MOST_EVENTS }
     requires fair { IsFair F.start player.old }
     ensures value { OnOk result (player.new ≡ call_in_round F.start budget player.old process) }
-    ensures part { IfOk result (λ full. RoundPart F.start budget player.old player.new full (IsReadyToCall F.start player.new process → ⊥)) }
+    ensures part { IfOk result
+        (λ full. RoundPart F.start budget player.old player.new full (IsReadyToCall F.start player.new process → ⊥)) }
 {
     if !player.may_call(process) {
         return Ok(false);
@@ -49,7 +52,9 @@ fn call_each<F: FrontEnd, A: Allocator + Copy, W: WireStore<A>>(
     requires budget { budget ≤ MOST_EVENTS }
     requires fair { IsFair F.start player.old }
     ensures value { OnOk result (player.new ≡ calls_in_round F.start budget player.old.made.processes player.old) }
-    ensures part { IfOk result (λ full. RoundPart F.start budget player.old player.new full (NoneMayCall F.start player.new player.new.made.processes)) }
+    ensures part { IfOk result
+        (λ full. RoundPart F.start budget player.old player.new full
+        (NoneMayCall F.start player.new player.new.made.processes)) }
 {
     for process in 0..player.processes() {
         if call_one(player, process, budget)? {
@@ -73,7 +78,8 @@ fn take_one<F: FrontEnd, A: Allocator + Copy, W: WireStore<A>>(
     requires budget { budget ≤ MOST_EVENTS }
     requires fair { IsFair F.start player.old }
     ensures value { OnOk result (player.new ≡ take_in_round F.start budget player.old from to) }
-    ensures part { IfOk result (λ full. RoundPart F.start budget player.old player.new full (IsBehind F.start player.new from to)) }
+    ensures part { IfOk result
+        (λ full. RoundPart F.start budget player.old player.new full (IsBehind F.start player.new from to)) }
 {
     let Some(number) = player.frame(from, to) else {
         return Ok(false);
@@ -97,8 +103,11 @@ fn take_from<F: FrontEnd, A: Allocator + Copy, W: WireStore<A>>(
     requires few { length player.old.made.accepted ≤ budget }
     requires budget { budget ≤ MOST_EVENTS }
     requires fair { IsFair F.start player.old }
-    ensures value { OnOk result (player.new ≡ takes_from_in_round F.start budget from player.old.made.processes player.old) }
-    ensures part { IfOk result (λ full. RoundPart F.start budget player.old player.new full (AllBehindFrom F.start player.new from player.new.made.processes)) }
+    ensures value { OnOk result
+        (player.new ≡ takes_from_in_round F.start budget from player.old.made.processes player.old) }
+    ensures part { IfOk result
+        (λ full. RoundPart F.start budget player.old player.new full
+        (AllBehindFrom F.start player.new from player.new.made.processes)) }
 {
     for to in 0..player.processes() {
         if take_one(player, from, to, budget)? {
@@ -118,7 +127,9 @@ fn take_each<F: FrontEnd, A: Allocator + Copy, W: WireStore<A>>(
     requires budget { budget ≤ MOST_EVENTS }
     requires fair { IsFair F.start player.old }
     ensures value { OnOk result (player.new ≡ takes_in_round F.start budget player.old.made.processes player.old) }
-    ensures part { IfOk result (λ full. RoundPart F.start budget player.old player.new full (AllBehind F.start player.new player.new.made.processes)) }
+    ensures part { IfOk result
+        (λ full. RoundPart F.start budget player.old player.new full
+        (AllBehind F.start player.new player.new.made.processes)) }
 {
     for from in 0..player.processes() {
         if take_from(player, from, budget)? {
@@ -138,7 +149,8 @@ fn play_round<F: FrontEnd, A: Allocator + Copy, W: WireStore<A>>(
     requires budget { budget ≤ MOST_EVENTS }
     requires fair { IsFair F.start player.old }
     ensures value { OnOk result (player.new ≡ round F.start budget player.old) }
-    ensures part { IfOk result (λ full. RoundPart F.start budget player.old player.new full (AtRest F.start player.new)) }
+    ensures part { IfOk result
+        (λ full. RoundPart F.start budget player.old player.new full (AtRest F.start player.new)) }
 {
     if call_each(player, budget)? {
         return Ok(true);
@@ -193,7 +205,8 @@ pub(crate) fn play_fair<F: FrontEnd, A: Allocator + Copy, W: WireStore<A>>(
     ensures in_order { IfOk result (λ p. TakesInOrder p.world.accepted) }
     ensures finished { IfOk result (λ p. length p.world.accepted < budget → p.finished ≡ true) }
     ensures few { IfOk result (λ p. length p.world.accepted ≤ most_fair_events shape.processes (lists scripts.now)) }
-    ensures enough { IfOk result (λ p. most_fair_events shape.processes (lists scripts.now) < budget → p.finished ≡ true) }
+    ensures enough { IfOk result
+        (λ p. most_fair_events shape.processes (lists scripts.now) < budget → p.finished ≡ true) }
 {
     let mut player = Player::new(alloc, shape, scripts)?;
     play_rounds(&mut player, budget)?;

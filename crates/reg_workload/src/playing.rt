@@ -1,5 +1,6 @@
 //! A world in which each process calls the operations of its script.
-ghost use Rattle.std.specs.Prelude.{◌≡◌, ◌<◌, ◌≤◌, ◌↔◌, ◌⊎◌, ◌+◌, ℕ, [], length, nat_lt, true, false, Some, None, IfOk, OnOk, IfSome};
+ghost use Rattle.std.specs.Prelude.{◌≡◌, ◌<◌, ◌≤◌, ◌↔◌, ◌⊎◌, ◌+◌, ℕ, [], length, nat_lt, true, false, Some, None, IfOk};
+ghost use Rattle.std.specs.Prelude.{OnOk, IfSome};
 ghost use Rattle.reg_base.specs.Lists.{lists};
 ghost use Rattle.reg_base.specs.Shape.{Extent};
 ghost use Rattle.reg_process.specs.Process.{pending_of};
@@ -7,7 +8,8 @@ ghost use Rattle.reg_base.specs.declared.limits.TheConstants.{MOST_PROCESSES, MO
 ghost use Rattle.reg_world.specs.Worlds.{Accepts, new_world, refusal, run_in};
 ghost use Rattle.reg_process.specs.declared.events.Event.TheVariants.{Call, Take, Tick};
 ghost use Rattle.reg_base.specs.declared.memory.Op.{Op};
-ghost use Rattle.reg_workload.specs.Plays.{script_of, next_at, cursor_at, call_at, IsDone, IsFinished, IsPlay, Playing, new_play, may_call, next_frame, makes, calls_next, passes};
+ghost use Rattle.reg_workload.specs.Plays.{script_of, next_at, cursor_at, call_at, IsDone, IsFinished, IsPlay, Playing};
+ghost use Rattle.reg_workload.specs.Plays.{new_play, may_call, next_frame, makes, calls_next, passes};
 ghost use Rattle.reg_workload.specs.PlayParts.{IsReadyToCall, ArePlayable};
 ghost use Rattle.reg_workload.specs.FairParts.{IsBehind, Leaves, AtRest};
 
@@ -47,9 +49,11 @@ impl<'w, F: FrontEnd, A: Allocator + Copy, W: WireStore<A>> Model for Player<'w,
 
     ghost Value = { Playing };
 
-    ghost view = { λ p. record { made = p.world; scripts = lists p.scripts.now; next = p.next.items; cursors = p.cursors.items } };
+    ghost view = { λ p.
+        record { made = p.world; scripts = lists p.scripts.now; next = p.next.items; cursors = p.cursors.items } };
 
-    ghost invariant = { λ p. IsPlaying (record { made = p.world; scripts = lists p.scripts.now; next = p.next.items; cursors = p.cursors.items }) };
+    ghost invariant = { λ p. IsPlaying
+        (record { made = p.world; scripts = lists p.scripts.now; next = p.next.items; cursors = p.cursors.items }) };
 }
 
 /// Makes an event that no fault applies to: it fails only where memory is refused.
@@ -288,7 +292,9 @@ impl<'w, F: FrontEnd, A: Allocator + Copy, W: WireStore<A>> Player<'w, F, A, W> 
     pub(crate) fn end(self) -> Play<F, A, W>
         requires { self.made.failed ≡ false }
         ensures world { result.world ≡ self.entry.made }
-        ensures play { (shape : Extent) (budget : ℕ) → self.entry.made.processes ≡ shape.processes → self.entry.made.registers ≡ shape.registers → length self.entry.made.accepted ≤ budget → IsPlay F.start shape self.entry.scripts budget result.world result.finished }
+        ensures play { (shape : Extent) (budget : ℕ) → self.entry.made.processes ≡ shape.processes
+            → self.entry.made.registers ≡ shape.registers → length self.entry.made.accepted ≤ budget
+            → IsPlay F.start shape self.entry.scripts budget result.world result.finished }
         ensures rest { AtRest F.start self.entry → result.finished ≡ true }
     {
         let _world = &self.world;

@@ -26,12 +26,16 @@ pub fn play_fair<F: FrontEnd, A: Allocator + Copy>(
     alloc: A,
     work: &Workload<A>,
 ) -> Result<Play<F, A>, AllocError>
-    ensures rounds { IfOk result (λ p. p.world ≡ (fair_play F.start work.now.shape work.now.scripts work.now.budget).made) }
-    ensures play { IfOk result (λ p. IsPlay F.start work.now.shape work.now.scripts work.now.budget p.world p.finished) }
+    ensures rounds { IfOk result (λ p. p.world
+        ≡ (fair_play F.start work.now.shape work.now.scripts work.now.budget).made) }
+    ensures play { IfOk result
+        (λ p. IsPlay F.start work.now.shape work.now.scripts work.now.budget p.world p.finished) }
     ensures in_order { IfOk result (λ p. TakesInOrder p.world.accepted) }
     ensures finished { IfOk result (λ p. length p.world.accepted < work.now.budget → p.finished ≡ true) }
-    ensures few { IfOk result (λ p. length p.world.accepted ≤ most_fair_events work.now.shape.processes work.now.scripts) }
-    ensures enough { IfOk result (λ p. most_fair_events work.now.shape.processes work.now.scripts < work.now.budget → p.finished ≡ true) }
+    ensures few { IfOk result (λ p. length p.world.accepted
+        ≤ most_fair_events work.now.shape.processes work.now.scripts) }
+    ensures enough { IfOk result (λ p. most_fair_events work.now.shape.processes work.now.scripts < work.now.budget
+        → p.finished ≡ true) }
 {
     play_fair_in(alloc, work)
 }
@@ -46,12 +50,16 @@ pub fn play_fair_in<F: FrontEnd, A: Allocator + Copy, W: WireStore<A>>(
     alloc: A,
     work: &Workload<A>,
 ) -> Result<Play<F, A, W>, AllocError>
-    ensures rounds { IfOk result (λ p. p.world ≡ (fair_play F.start work.now.shape work.now.scripts work.now.budget).made) }
-    ensures play { IfOk result (λ p. IsPlay F.start work.now.shape work.now.scripts work.now.budget p.world p.finished) }
+    ensures rounds { IfOk result (λ p. p.world
+        ≡ (fair_play F.start work.now.shape work.now.scripts work.now.budget).made) }
+    ensures play { IfOk result
+        (λ p. IsPlay F.start work.now.shape work.now.scripts work.now.budget p.world p.finished) }
     ensures in_order { IfOk result (λ p. TakesInOrder p.world.accepted) }
     ensures finished { IfOk result (λ p. length p.world.accepted < work.now.budget → p.finished ≡ true) }
-    ensures few { IfOk result (λ p. length p.world.accepted ≤ most_fair_events work.now.shape.processes work.now.scripts) }
-    ensures enough { IfOk result (λ p. most_fair_events work.now.shape.processes work.now.scripts < work.now.budget → p.finished ≡ true) }
+    ensures few { IfOk result (λ p. length p.world.accepted
+        ≤ most_fair_events work.now.shape.processes work.now.scripts) }
+    ensures enough { IfOk result (λ p. most_fair_events work.now.shape.processes work.now.scripts < work.now.budget
+        → p.finished ≡ true) }
 {
     fair::play_fair(alloc, work.shape, &work.scripts, work.budget)
 }
@@ -71,9 +79,13 @@ pub fn play_seeded<F: FrontEnd, R: Words + Drop, A: Allocator + Copy>(
     work: &Workload<A>,
     words: R,
 ) -> Result<Play<F, A>, AllocError>
-    ensures turns { IfOk result (λ p. p.world ≡ (seeded_play F.start R.next_word work.now.shape work.now.scripts work.now.loss work.now.repeat work.now.budget words).0.made) }
-    ensures play { IfOk result (λ p. IsPlay F.start work.now.shape work.now.scripts work.now.budget p.world p.finished) }
-    ensures finished { IfOk result (λ p. work.now.loss ≡ 0 → length p.world.accepted < work.now.budget → p.finished ≡ true) }
+    ensures turns { IfOk result (λ p. p.world
+        ≡ (seeded_play F.start R.next_word work.now.shape work.now.scripts work.now.loss work.now.repeat work.now.budget
+        words).0.made) }
+    ensures play { IfOk result
+        (λ p. IsPlay F.start work.now.shape work.now.scripts work.now.budget p.world p.finished) }
+    ensures finished { IfOk result (λ p. work.now.loss ≡ 0 → length p.world.accepted < work.now.budget
+        → p.finished ≡ true) }
 {
     play_seeded_in(alloc, work, words)
 }
@@ -89,9 +101,13 @@ pub fn play_seeded_in<F: FrontEnd, R: Words + Drop, A: Allocator + Copy, W: Wire
     work: &Workload<A>,
     words: R,
 ) -> Result<Play<F, A, W>, AllocError>
-    ensures turns { IfOk result (λ p. p.world ≡ (seeded_play F.start R.next_word work.now.shape work.now.scripts work.now.loss work.now.repeat work.now.budget words).0.made) }
-    ensures play { IfOk result (λ p. IsPlay F.start work.now.shape work.now.scripts work.now.budget p.world p.finished) }
-    ensures finished { IfOk result (λ p. work.now.loss ≡ 0 → length p.world.accepted < work.now.budget → p.finished ≡ true) }
+    ensures turns { IfOk result (λ p. p.world
+        ≡ (seeded_play F.start R.next_word work.now.shape work.now.scripts work.now.loss work.now.repeat work.now.budget
+        words).0.made) }
+    ensures play { IfOk result
+        (λ p. IsPlay F.start work.now.shape work.now.scripts work.now.budget p.world p.finished) }
+    ensures finished { IfOk result (λ p. work.now.loss ≡ 0 → length p.world.accepted < work.now.budget
+        → p.finished ≡ true) }
 {
     let mut words = words;
     seeded::play_seeded(alloc, work, &mut words)

@@ -35,7 +35,8 @@ fn choose<F: FrontEnd, R: Words, A: Allocator + Copy, W: WireStore<A>>(
     requires choice { IsChoice F.start player.old choice }
     requires room { length player.old.made.accepted < MOST_EVENTS }
     requires behind { (from to : ℕ) → cursor_at player.old from to < MOST_EVENTS }
-    ensures value { OnOk result ((player.new, words.new) ≡ chooses F.start R.next_word odds.loss odds.repeat player.old choice words.old) }
+    ensures value { OnOk result
+        ((player.new, words.new) ≡ chooses F.start R.next_word odds.loss odds.repeat player.old choice words.old) }
     ensures turns { OnOk result (Turns odds.loss player.old player.new) }
 {
     match choice {
@@ -66,9 +67,11 @@ fn play_turn<F: FrontEnd, R: Words, A: Allocator + Copy, W: WireStore<A>>(
     requires listed { AreListed F.start player.old chances.old }
     requires room { length player.old.made.accepted < MOST_EVENTS }
     requires behind { (from to : ℕ) → cursor_at player.old from to < MOST_EVENTS }
-    ensures value { OnOk result ((player.new, words.new) ≡ turn F.start R.next_word odds.loss odds.repeat (player.old, words.old)) }
+    ensures value { OnOk result
+        ((player.new, words.new) ≡ turn F.start R.next_word odds.loss odds.repeat (player.old, words.old)) }
     ensures listed { OnOk result (AreListed F.start player.new chances.new) }
-    ensures ended { IfOk result (λ ended. ended ≡ true → (choices_of F.start player.old ≡ []) × AllStill F.start player.old × (player.new ≡ player.old)) }
+    ensures ended { IfOk result (λ ended. ended ≡ true
+        → (choices_of F.start player.old ≡ []) × AllStill F.start player.old × (player.new ≡ player.old)) }
     ensures turns { IfOk result (λ ended. ended ≡ false → Turns odds.loss player.old player.new) }
 {
     let all = chances.count(player);
@@ -95,9 +98,12 @@ fn play_turns<F: FrontEnd, R: Words, A: Allocator + Copy, W: WireStore<A>>(
     requires none { length player.old.made.accepted ≡ 0 }
     requires first { (from to : ℕ) → cursor_at player.old from to ≡ 0 }
     requires budget { budget ≤ MOST_EVENTS }
-    ensures value { OnOk result ((player.new, words.new) ≡ turns F.start R.next_word odds.loss odds.repeat budget (player.old, words.old)) }
+    ensures value { OnOk result
+        ((player.new, words.new) ≡ turns F.start R.next_word odds.loss odds.repeat budget (player.old, words.old)) }
     ensures on { OnOk result (GoesOn budget player.old player.new) }
-    ensures ended { IfOk result (λ ended. (ended ≡ true → AllStill F.start player.new) × (ended ≡ false → odds.loss ≡ 0 → length player.new.made.accepted ≡ budget)) }
+    ensures ended { IfOk result
+        (λ ended. (ended ≡ true → AllStill F.start player.new)
+        × (ended ≡ false → odds.loss ≡ 0 → length player.new.made.accepted ≡ budget)) }
 {
     let mut chances = Chances::new(player);
     for _turn in 0..budget {
@@ -118,10 +124,16 @@ pub(crate) fn play_seeded<F: FrontEnd, R: Words, A: Allocator + Copy, W: WireSto
     work: &Workload<A>,
     words: &mut R,
 ) -> Result<Play<F, A, W>, AllocError>
-    ensures turns { IfOk result (λ p. p.world ≡ (seeded_play F.start R.next_word work.now.shape work.now.scripts work.now.loss work.now.repeat work.now.budget words.old).0.made) }
-    ensures words { OnOk result (words.new ≡ (seeded_play F.start R.next_word work.now.shape work.now.scripts work.now.loss work.now.repeat work.now.budget words.old).1) }
-    ensures play { IfOk result (λ p. IsPlay F.start work.now.shape work.now.scripts work.now.budget p.world p.finished) }
-    ensures finished { IfOk result (λ p. work.now.loss ≡ 0 → length p.world.accepted < work.now.budget → p.finished ≡ true) }
+    ensures turns { IfOk result (λ p. p.world
+        ≡ (seeded_play F.start R.next_word work.now.shape work.now.scripts work.now.loss work.now.repeat work.now.budget
+        words.old).0.made) }
+    ensures words { OnOk result (words.new
+        ≡ (seeded_play F.start R.next_word work.now.shape work.now.scripts work.now.loss work.now.repeat work.now.budget
+        words.old).1) }
+    ensures play { IfOk result
+        (λ p. IsPlay F.start work.now.shape work.now.scripts work.now.budget p.world p.finished) }
+    ensures finished { IfOk result (λ p. work.now.loss ≡ 0 → length p.world.accepted < work.now.budget
+        → p.finished ≡ true) }
 {
     let odds = Odds {
         loss: work.loss,

@@ -23,7 +23,8 @@ firsts_at w = map (λ (f : First). f.at) w.order
 one_process : World
 one_process = whole linear 1 1 (Call 0 (Write 0 5) ∷ Call 0 (Read 0) ∷ [])
 
-one_process_told : told one_process 0 ≡ record { answer = Done; place = 0 } ∷ record { answer = Value 5; place = 1 } ∷ []
+one_process_told : told one_process 0
+    ≡ record { answer = Done; place = 0 } ∷ record { answer = Value 5; place = 1 } ∷ []
 unfolding one_process
 one_process_told = refl
 
@@ -31,7 +32,9 @@ one_process_firsts : firsts_at one_process ≡ 0 ∷ 1 ∷ []
 unfolding one_process
 one_process_firsts = refl
 
-one_process_history : one_process.history ≡ Called 0 (op_id 0 0) (Write 0 5) ∷ Answered 0 (op_id 0 0) Done ∷ Called 1 (op_id 0 1) (Read 0) ∷ Answered 1 (op_id 0 1) (Value 5) ∷ []
+one_process_history : one_process.history
+    ≡ Called 0 (op_id 0 0) (Write 0 5) ∷ Answered 0 (op_id 0 0) Done ∷ Called 1 (op_id 0 1) (Read 0)
+    ∷ Answered 1 (op_id 0 1) (Value 5) ∷ []
 unfolding one_process
 one_process_history = refl
 
@@ -93,13 +96,17 @@ two_writers_told1 = refl
 
 -- examples/stale-read.sched: a local read does not see a write that is done
 stale_read : World
-stale_read = whole local_read 3 1 (Call 0 (Write 0 5) ∷ Take 0 1 0 ∷ Take 0 2 0 ∷ Take 1 0 1 ∷ Take 2 0 1 ∷ Call 1 (Read 0) ∷ [])
+stale_read =
+    whole local_read 3 1 (Call 0 (Write 0 5) ∷ Take 0 1 0 ∷ Take 0 2 0 ∷ Take 1 0 1 ∷ Take 2 0 1 ∷ Call 1 (Read 0) ∷ [])
 
-stale_read_told : told stale_read 0 ++ told stale_read 1 ≡ record { answer = Done; place = 0 } ∷ record { answer = Value 0; place = 0 } ∷ []
+stale_read_told : told stale_read 0 ++ told stale_read 1
+    ≡ record { answer = Done; place = 0 } ∷ record { answer = Value 0; place = 0 } ∷ []
 unfolding stale_read
 stale_read_told = refl
 
-stale_read_history : stale_read.history ≡ Called 0 (op_id 0 0) (Write 0 5) ∷ Answered 4 (op_id 0 0) Done ∷ Called 5 (op_id 1 0) (Read 0) ∷ Answered 5 (op_id 1 0) (Value 0) ∷ []
+stale_read_history : stale_read.history
+    ≡ Called 0 (op_id 0 0) (Write 0 5) ∷ Answered 4 (op_id 0 0) Done ∷ Called 5 (op_id 1 0) (Read 0)
+    ∷ Answered 5 (op_id 1 0) (Value 0) ∷ []
 unfolding stale_read
 stale_read_history = refl
 
@@ -111,11 +118,14 @@ stale_read_reads = refl
 waiting_read : World
 waiting_read = whole local_write 2 1 (Call 0 (Write 0 5) ∷ Call 0 (Read 0) ∷ Take 0 1 0 ∷ Take 1 0 1 ∷ [])
 
-waiting_read_told : told waiting_read 0 ≡ record { answer = Done; place = 0 } ∷ record { answer = Value 5; place = 1 } ∷ []
+waiting_read_told : told waiting_read 0
+    ≡ record { answer = Done; place = 0 } ∷ record { answer = Value 5; place = 1 } ∷ []
 unfolding waiting_read
 waiting_read_told = refl
 
-waiting_read_history : waiting_read.history ≡ Called 0 (op_id 0 0) (Write 0 5) ∷ Answered 0 (op_id 0 0) Done ∷ Called 1 (op_id 0 1) (Read 0) ∷ Answered 3 (op_id 0 1) (Value 5) ∷ []
+waiting_read_history : waiting_read.history
+    ≡ Called 0 (op_id 0 0) (Write 0 5) ∷ Answered 0 (op_id 0 0) Done ∷ Called 1 (op_id 0 1) (Read 0)
+    ∷ Answered 3 (op_id 0 1) (Value 5) ∷ []
 unfolding waiting_read
 waiting_read_history = refl
 
@@ -171,11 +181,14 @@ held_read_reads = refl
 waiting_swap : World
 waiting_swap = whole local_write 2 1 (Call 0 (Write 0 5) ∷ Call 0 (Swap 0 6) ∷ Take 0 1 0 ∷ Take 1 0 1 ∷ [])
 
-waiting_swap_history : waiting_swap.history ≡ Called 0 (op_id 0 0) (Write 0 5) ∷ Answered 0 (op_id 0 0) Done ∷ Called 1 (op_id 0 1) (Swap 0 6) ∷ Answered 3 (op_id 0 1) (Value 5) ∷ []
+waiting_swap_history : waiting_swap.history
+    ≡ Called 0 (op_id 0 0) (Write 0 5) ∷ Answered 0 (op_id 0 0) Done ∷ Called 1 (op_id 0 1) (Swap 0 6)
+    ∷ Answered 3 (op_id 0 1) (Value 5) ∷ []
 unfolding waiting_swap
 waiting_swap_history = refl
 
-waiting_swap_told : told waiting_swap 0 ≡ record { answer = Done; place = 0 } ∷ record { answer = Value 5; place = 1 } ∷ []
+waiting_swap_told : told waiting_swap 0
+    ≡ record { answer = Done; place = 0 } ∷ record { answer = Value 5; place = 1 } ∷ []
 unfolding waiting_swap
 waiting_swap_told = refl
 
@@ -191,7 +204,8 @@ waiting_swap_ids = refl
 seen_swap : World
 seen_swap = whole local_read 2 1 (Call 0 (Swap 0 5) ∷ Take 0 1 0 ∷ Call 1 (Read 0) ∷ [])
 
-seen_swap_history : seen_swap.history ≡ Called 0 (op_id 0 0) (Swap 0 5) ∷ Called 2 (op_id 1 0) (Read 0) ∷ Answered 2 (op_id 1 0) (Value 5) ∷ []
+seen_swap_history : seen_swap.history
+    ≡ Called 0 (op_id 0 0) (Swap 0 5) ∷ Called 2 (op_id 1 0) (Read 0) ∷ Answered 2 (op_id 1 0) (Value 5) ∷ []
 unfolding seen_swap
 seen_swap_history = refl
 
@@ -203,13 +217,15 @@ seen_swap_ids = refl
 swap_lock : World
 swap_lock = whole linear 2 1 (Call 0 (Swap 0 1) ∷ Call 1 (Swap 0 1) ∷ Take 0 1 0 ∷ Take 1 0 0 ∷ Take 0 1 2 ∷ [])
 
-swap_lock_told : told swap_lock 0 ++ told swap_lock 1 ≡ record { answer = Value 0; place = 0 } ∷ record { answer = Value 1; place = 1 } ∷ []
+swap_lock_told : told swap_lock 0 ++ told swap_lock 1
+    ≡ record { answer = Value 0; place = 0 } ∷ record { answer = Value 1; place = 1 } ∷ []
 unfolding swap_lock
 swap_lock_told = refl
 
 -- a number that is not expected
 frame_out_of_turn : World
-frame_out_of_turn = whole linear 2 1 (Call 0 (Write 0 1) ∷ Call 1 (Write 0 2) ∷ Take 0 1 0 ∷ Take 1 0 2 ∷ Take 1 0 0 ∷ [])
+frame_out_of_turn =
+    whole linear 2 1 (Call 0 (Write 0 1) ∷ Call 1 (Write 0 2) ∷ Take 0 1 0 ∷ Take 1 0 2 ∷ Take 1 0 0 ∷ [])
 
 frame_out_of_turn_firsts : firsts_at frame_out_of_turn ≡ 2 ∷ 4 ∷ []
 unfolding frame_out_of_turn
@@ -227,7 +243,8 @@ two_writers_of_three_firsts : firsts_at two_writers_of_three ≡ 4 ∷ 6 ∷ []
 unfolding two_writers_of_three
 two_writers_of_three_firsts = refl
 
-two_writers_of_three_told : told two_writers_of_three 0 ++ told two_writers_of_three 1 ≡ record { answer = Done; place = 0 } ∷ record { answer = Done; place = 1 } ∷ []
+two_writers_of_three_told : told two_writers_of_three 0 ++ told two_writers_of_three 1
+    ≡ record { answer = Done; place = 0 } ∷ record { answer = Done; place = 1 } ∷ []
 unfolding two_writers_of_three
 two_writers_of_three_told = refl
 
@@ -271,7 +288,9 @@ write_alone_firsts = refl
 old_value : World
 old_value = whole linear 1 1 (Call 0 (Swap 0 5) ∷ Call 0 (Swap 0 6) ∷ [])
 
-old_value_history : old_value.history ≡ Called 0 (op_id 0 0) (Swap 0 5) ∷ Answered 0 (op_id 0 0) (Value 0) ∷ Called 1 (op_id 0 1) (Swap 0 6) ∷ Answered 1 (op_id 0 1) (Value 5) ∷ []
+old_value_history : old_value.history
+    ≡ Called 0 (op_id 0 0) (Swap 0 5) ∷ Answered 0 (op_id 0 0) (Value 0) ∷ Called 1 (op_id 0 1) (Swap 0 6)
+    ∷ Answered 1 (op_id 0 1) (Value 5) ∷ []
 unfolding old_value
 old_value_history = refl
 
@@ -279,15 +298,19 @@ old_value_history = refl
 found_then_not : World
 found_then_not = whole linear 1 1 (Call 0 (CompareAndSwap 0 0 5) ∷ Call 0 (CompareAndSwap 0 0 6) ∷ Call 0 (Read 0) ∷ [])
 
-found_then_not_told : told found_then_not 0 ≡ record { answer = Done; place = 0 } ∷ record { answer = Unequal; place = 1 } ∷ record { answer = Value 5; place = 2 } ∷ []
+found_then_not_told : told found_then_not 0
+    ≡ record { answer = Done; place = 0 } ∷ record { answer = Unequal; place = 1 }
+    ∷ record { answer = Value 5; place = 2 } ∷ []
 unfolding found_then_not
 found_then_not_told = refl
 
--- of two compare-and-swaps that expect the first value the one of the lesser stamp is done, and the other finds its value
+-- of two compare-and-swaps that expect the first value the one of the lesser stamp is done, and the other finds its
+-- value
 cas_lock : World
 cas_lock = whole linear 2 1 (Call 0 (CompareAndSwap 0 0 1) ∷ Call 1 (CompareAndSwap 0 0 2) ∷ Take 0 1 0 ∷ Take 1 0 0 ∷ Take 0 1 2 ∷ [])
 
-cas_lock_told : told cas_lock 0 ++ told cas_lock 1 ≡ record { answer = Done; place = 0 } ∷ record { answer = Unequal; place = 1 } ∷ []
+cas_lock_told : told cas_lock 0 ++ told cas_lock 1
+    ≡ record { answer = Done; place = 0 } ∷ record { answer = Unequal; place = 1 } ∷ []
 unfolding cas_lock
 cas_lock_told = refl
 

@@ -1,5 +1,6 @@
 -- Words of data frames whose numbers follow each other.
-use Rattle.std.proofs.Common.{◌≡◌, ℕ, zero, suc, ◌+◌, ◌<◌, ◌≤◌, List, [], ◌∷◌, ◌++◌, map, length, take, get_or, set, refl, sym, ap, ◌∙◌, subst, inl, inr, arith}
+use Rattle.std.proofs.Common.{◌≡◌, ℕ, zero, suc, ◌+◌, ◌<◌, ◌≤◌, List, [], ◌∷◌, ◌++◌, map, length, take, get_or, set}
+use Rattle.std.proofs.Common.{refl, sym, ap, ◌∙◌, subst, inl, inr, arith}
 use Rattle.std.specs.Prelude.{nat_lt}
 use Rattle.std.proofs.lemmas.Bool.Decides.{nat_tests}
 use Rattle.std.proofs.lemmas.Bool.{cond_both}
@@ -31,13 +32,16 @@ slots_taken first zero n l = refl
 slots_taken first (suc count) zero l = absurd (omega (arith, l))
 slots_taken first (suc count) (suc n) l = ap (λ z. Data first ∷ z) (slots_taken (first + 1) count n (omega (arith, l)))
 
-pub slots_kept : (k : Kept) (first count : ℕ) → first + count ≤ length k.bodies → (s : Slot) → In s (data_slots first count) → IsKept k s
+pub slots_kept : (k : Kept) (first count : ℕ) → first + count ≤ length k.bodies → (s : Slot)
+    → In s (data_slots first count) → IsKept k s
 slots_kept k first zero l s i = absurd i
-slots_kept k first (suc count) l s (inl e) = subst (IsKept k) (sym e) (let here : first < length k.bodies = omega (arith, l) in here)
+slots_kept k first (suc count) l s (inl e) =
+    subst (IsKept k) (sym e) (let here : first < length k.bodies = omega (arith, l) in here)
 slots_kept k first (suc count) l s (inr i) = slots_kept k (first + 1) count (omega (arith, l)) s i
 
 -- a data frame that is on the wire is the one of its number
-data_is : (k : Kept) (s : Slot) (i : ℕ) (b : Body) → k.others ≡ [] → IsKept k s → Numbered i b ≡ frame_of k s → frame_of k (Data i) ≡ Numbered i b
+data_is : (k : Kept) (s : Slot) (i : ℕ) (b : Body) → k.others ≡ [] → IsKept k s → Numbered i b ≡ frame_of k s
+    → frame_of k (Data i) ≡ Numbered i b
 data_is k (Data number) i b none kept is =
     let same : i ≡ number = cc in
     ap (λ n. frame_of k (Data n)) same ∙ sym is
@@ -45,7 +49,8 @@ data_is k (Count count) i b none kept is = absurd (let bad : ⊥ = cc in bad)
 data_is k (Other place) i b none kept is = absurd (let z = ap length none in omega (arith, z, kept))
 
 -- and so data frames that are on the wire are told by their numbers
-pub slots_say : (k : Kept) (strip : List Slot) (first : ℕ) (bodies : List Body) → k.others ≡ [] → ((s : Slot) → In s strip → IsKept k s) → AreOn (map (frame_of k) strip) (numbered_from first bodies)
+pub slots_say : (k : Kept) (strip : List Slot) (first : ℕ) (bodies : List Body) → k.others ≡ []
+    → ((s : Slot) → In s strip → IsKept k s) → AreOn (map (frame_of k) strip) (numbered_from first bodies)
     → map (frame_of k) (data_slots first (length bodies)) ≡ numbered_from first bodies
 slots_say k strip first [] none kept on = refl
 slots_say k strip first (b ∷ bs) none kept on =
@@ -57,13 +62,17 @@ same_grows : (k : Kept) → Grows k k
 same_grows k = record { bodies = longer_same k.bodies k.bodies refl; others = longer_same k.others k.others refl }
 
 -- words of bodies that are kept go to the end of a wire
-pub again_kept : (k : Kept) (strips strips1 : List (List Slot)) (r first count : ℕ) (more : List Slot) → AreKept k strips → r < length strips → first + count ≤ length k.bodies → more ≡ data_slots first count
+pub again_kept : (k : Kept) (strips strips1 : List (List Slot)) (r first count : ℕ) (more : List Slot)
+    → AreKept k strips → r < length strips → first + count ≤ length k.bodies → more ≡ data_slots first count
     → strips1 ≡ set strips r (get_or strips r [] ++ more) → AreKept k strips1
 again_kept k strips strips1 r first count more K l few is pushed =
     subst (AreKept k) (sym pushed) (still_kept k k strips r (get_or strips r [] ++ more) more (same_grows k) K l (λ s i. slots_kept k first count few s (subst (In s) is i)) refl)
 
 -- and say the frames that are there already
-pub again_says : (k : Kept) (strips strips1 : List (List Slot)) (wires : List (List Frame)) (r to first count : ℕ) (more : List Slot) → frames_on k strips ≡ wires → AreKept k strips → r ≡ to → to < length wires → k.others ≡ [] → more ≡ data_slots first count
+pub again_says : (k : Kept) (strips strips1 : List (List Slot)) (wires : List (List Frame)) (r to first count : ℕ)
+    (more : List Slot)
+    → frames_on k strips ≡ wires → AreKept k strips → r ≡ to → to < length wires → k.others ≡ []
+    → more ≡ data_slots first count
     → strips1 ≡ set strips r (get_or strips r [] ++ more) → (bodies : List Body) → length bodies ≡ count → AreOn (get_or wires to []) (numbered_from first bodies)
     → frames_on k strips1 ≡ set wires to (get_or wires to [] ++ numbered_from first bodies)
 again_says k strips strips1 wires r to first count more view K same l none is pushed bodies size on =

@@ -22,7 +22,8 @@ of_these : (os : List Outline) (vs : List ℕ) (events : List Event) → AreOf o
 of_these os vs events these =
     ap (λ z. events_of z vs) these.outlines ∙ (ap (events_of (map outline_of events)) these.values ∙ again events)
 
-with_one : (os : List Outline) (vs : List ℕ) (events : List Event) (e : Event) → AreOf os vs events → AreOf (os ++ outline_of e ∷ []) (vs ++ values_of e) (events ++ e ∷ [])
+with_one : (os : List Outline) (vs : List ℕ) (events : List Event) (e : Event) → AreOf os vs events
+    → AreOf (os ++ outline_of e ∷ []) (vs ++ values_of e) (events ++ e ∷ [])
 with_one os vs events e these = record {
   outlines = ap (λ z. z ++ outline_of e ∷ []) these.outlines ∙ sym (map-append outline_of events (e ∷ []));
   values =
@@ -31,14 +32,16 @@ with_one os vs events e these = record {
 }
 
 -- an event is added
-pub added : (os new_os : List Outline) (vs new_vs : List ℕ) (e : Event) → AreOf os vs (events_of os vs) → new_os ≡ os ++ outline_of e ∷ [] → new_vs ≡ vs ++ values_of e
+pub added : (os new_os : List Outline) (vs new_vs : List ℕ) (e : Event) → AreOf os vs (events_of os vs)
+    → new_os ≡ os ++ outline_of e ∷ [] → new_vs ≡ vs ++ values_of e
     → events_of new_os new_vs ≡ events_of os vs ++ e ∷ []
 added os new_os vs new_vs e these outlined valued =
     ap (λ z. events_of z new_vs) outlined
     ∙ (ap (events_of (os ++ outline_of e ∷ [])) valued
     ∙ of_these (os ++ outline_of e ∷ []) (vs ++ values_of e) (events_of os vs ++ e ∷ []) (with_one os vs (events_of os vs) e these))
 
-pub still_these : (os new_os : List Outline) (vs new_vs : List ℕ) (e : Event) → AreOf os vs (events_of os vs) → new_os ≡ os ++ outline_of e ∷ [] → new_vs ≡ vs ++ values_of e
+pub still_these : (os new_os : List Outline) (vs new_vs : List ℕ) (e : Event) → AreOf os vs (events_of os vs)
+    → new_os ≡ os ++ outline_of e ∷ [] → new_vs ≡ vs ++ values_of e
     → AreOf new_os new_vs (events_of new_os new_vs)
 still_these os new_os vs new_vs e these outlined valued =
     let one = with_one os vs (events_of os vs) e these in

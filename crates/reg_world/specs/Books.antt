@@ -16,7 +16,8 @@ abbrev pub notes_of : ℕ → List Cast → List Note
 notes_of p casts = map note_of (filter (λ (c : Cast). c.id.process == p) casts)
 
 abbrev pub tally_of : World → ℕ → Tally
-tally_of w p = record { calls = (w.nodes p).state.calls; runs = is_some (w.nodes p).state.running; casts = notes_of p w.casts }
+tally_of w p =
+    record { calls = (w.nodes p).state.calls; runs = is_some (w.nodes p).state.running; casts = notes_of p w.casts }
 
 -- a tally for each process, as the run has it
 pub record AreTallies (n : ℕ) (w : World) (tallies : List Tally) : Type 0 where

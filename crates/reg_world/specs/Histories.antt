@@ -27,13 +27,16 @@ AddsCall at old (Tick p) new = new ≡ old
 -- A reply adds the answer of the process's running operation, by event at. No reply adds nothing.
 abbrev pub AddsAnswer : ℕ → List Entry → ℕ → Option Reply → List Entry → Type 0
 AddsAnswer at old p None new = new ≡ old
-AddsAnswer at old p (Some reply) new = (id : OpId) × (id.process ≡ p) × IsRunning old id × (new ≡ old ++ Answered at id reply.answer ∷ [])
+AddsAnswer at old p (Some reply) new =
+    (id : OpId) × (id.process ≡ p) × IsRunning old id × (new ≡ old ++ Answered at id reply.answer ∷ [])
 
 -- event at, with this reply, makes the old history the new one: it adds its call, and then its answer
 abbrev pub Grows : ℕ → List Entry → Event → Option Reply → List Entry → Type 0
-Grows at old e reply new = (called : List Entry) × AddsCall at old e called × AddsAnswer at called (process_of e) reply new
+Grows at old e reply new =
+    (called : List Entry) × AddsCall at old e called × AddsAnswer at called (process_of e) reply new
 
 -- the events, one after another, make this history, from the empty one
 pub data Makes : List Event → List Entry → Type 0 where
   Nothing : Makes [] []
-  More : {events : List Event} {old new : List Entry} (e : Event) (reply : Option Reply) → Makes events old → Grows (length events) old e reply new → Makes (events ++ e ∷ []) new
+  More : {events : List Event} {old new : List Entry} (e : Event) (reply : Option Reply) → Makes events old
+      → Grows (length events) old e reply new → Makes (events ++ e ∷ []) new

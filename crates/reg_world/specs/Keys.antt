@@ -16,7 +16,10 @@ pub record Key : Type 0 where
   pub minor : ℕ
 
 abbrev pub IsBelow : Key → Key → Type 0
-IsBelow a b = (a.place < b.place) ⊎ ((a.place ≡ b.place) × ((a.kind < b.kind) ⊎ ((a.kind ≡ b.kind) × ((a.major < b.major) ⊎ ((a.major ≡ b.major) × (a.minor < b.minor))))))
+IsBelow a b =
+    (a.place < b.place)
+    ⊎ ((a.place ≡ b.place)
+    × ((a.kind < b.kind) ⊎ ((a.kind ≡ b.kind) × ((a.major < b.major) ⊎ ((a.major ≡ b.major) × (a.minor < b.minor))))))
 
 abbrev pub key : ℕ → ℕ → ℕ → ℕ → Key
 key place kind major minor = record { place = place; kind = kind; major = major; minor = minor }
@@ -30,9 +33,12 @@ IsKept r c = IsUpdate c.op ⊎ IsFinished r.history c.id
 -- Delivered: a cast that was delivered, if it is an update or finished, has its place in the order.
 -- Lost: a finished cast that was delivered nowhere stands after all others, by its stamp.
 pub data HasKey (r : Run) (id : OpId) (k : Key) : Type 0 where
-  Copied : (q : CopyRead) → ((k : ℕ) × IsAt r.reads k q) → q.id ≡ id → k ≡ key q.place 0 id.process id.number → HasKey r id k
-  Delivered : (place : ℕ) (c : First) → IsAt r.order place c → c.id ≡ id → IsKept r c → k ≡ key place 1 0 0 → HasKey r id k
-  Lost : (d : Cast) → ((k : ℕ) × IsAt r.casts k d) → d.id ≡ id → IsWaiting r id → IsFinished r.history id → k ≡ key (length r.order) 2 d.stamp.time d.stamp.process → HasKey r id k
+  Copied : (q : CopyRead) → ((k : ℕ) × IsAt r.reads k q) → q.id ≡ id → k ≡ key q.place 0 id.process id.number
+      → HasKey r id k
+  Delivered : (place : ℕ) (c : First) → IsAt r.order place c → c.id ≡ id → IsKept r c → k ≡ key place 1 0 0
+      → HasKey r id k
+  Lost : (d : Cast) → ((k : ℕ) × IsAt r.casts k d) → d.id ≡ id → IsWaiting r id → IsFinished r.history id
+      → k ≡ key (length r.order) 2 d.stamp.time d.stamp.process → HasKey r id k
 
 pub record Keyed : Type 0 where
   pub id : OpId

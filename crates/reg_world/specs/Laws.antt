@@ -13,7 +13,9 @@ use Rattle.reg_world.specs.Nodes.{Nodes}
 
 -- Of the deliveries of any two processes, one list is a prefix of the other.
 abbrev pub DeliveriesAgree : ℕ → Nodes → Type 0
-DeliveriesAgree n w = (p q : ℕ) → p < n → q < n → IsPrefixOf (w p).deliveries (w q).deliveries ⊎ IsPrefixOf (w q).deliveries (w p).deliveries
+DeliveriesAgree n w =
+    (p q : ℕ) → p < n → q < n
+    → IsPrefixOf (w p).deliveries (w q).deliveries ⊎ IsPrefixOf (w q).deliveries (w p).deliveries
 
 -- the deliveries of each process are in rising stamp order
 abbrev pub DeliveriesRise : ℕ → Nodes → Type 0
@@ -21,13 +23,15 @@ DeliveriesRise n w = (p : ℕ) → p < n → Rising (w p).deliveries
 
 -- p queued this cast at some time
 abbrev pub IsMade : ℕ → Nodes → Delivered → Type 0
-IsMade n w c = (c.stamp.process < n) × ((i : ℕ) × (slice_get (w c.stamp.process).queued i ≡ Some (Cast c.stamp.time c.op)))
+IsMade n w c =
+    (c.stamp.process < n) × ((i : ℕ) × (slice_get (w c.stamp.process).queued i ≡ Some (Cast c.stamp.time c.op)))
 
 -- A cast that q hasn't delivered in the earlier world, made then or later, stands above all casts that it has
 -- delivered.
 abbrev pub UndeliveredAbove : ℕ → Nodes → Nodes → Type 0
 UndeliveredAbove n earlier later =
-    (q : ℕ) (c d : Delivered) → q < n → IsMade n later c → (In c (earlier q).deliveries → ⊥) → In d (earlier q).deliveries → Below d.stamp c.stamp
+    (q : ℕ) (c d : Delivered) → q < n → IsMade n later c → (In c (earlier q).deliveries → ⊥)
+    → In d (earlier q).deliveries → Below d.stamp c.stamp
 
 -- only casts that were made are delivered
 abbrev pub DeliveriesMade : ℕ → Nodes → Type 0
@@ -52,13 +56,16 @@ names_register registers (Ack t) = Unit {0}
 
 -- No frame on a wire is refused.
 pub record NoRefusal (n registers : ℕ) (w : Nodes) : Type 0 where
-  pub not_ahead : (a b : ℕ) (f : Frame) → a < n → b < n → (a ≡ b → ⊥) → In f ((w a).wire b) → IsAhead (w b).state a f → ⊥
-  pub not_stale : (a b : ℕ) (f : Frame) → a < n → b < n → (a ≡ b → ⊥) → In f ((w a).wire b) → IsStale (w b).state a f → ⊥
+  pub not_ahead : (a b : ℕ) (f : Frame) → a < n → b < n → (a ≡ b → ⊥) → In f ((w a).wire b) → IsAhead (w b).state a f
+      → ⊥
+  pub not_stale : (a b : ℕ) (f : Frame) → a < n → b < n → (a ≡ b → ⊥) → In f ((w a).wire b) → IsStale (w b).state a f
+      → ⊥
   pub not_full : (a b : ℕ) (f : Frame) → a < n → b < n → (a ≡ b → ⊥) → In f ((w a).wire b) → IsFull (w b).state a f → ⊥
   pub call_fits : (p : ℕ) → p < n → (w p).state.clock + 1 ≤ LAST_TIME
   -- every link has a number left
   pub number_left : (a b : ℕ) → a < n → b < n → (a ≡ b → ⊥) → next_of (peer_at (w a).state b) < FRAME_NUMBERS
-  pub in_range : (a b i : ℕ) (body : Body) → a < n → b < n → (a ≡ b → ⊥) → In (Numbered i body) ((w a).wire b) → names_register registers body
+  pub in_range : (a b i : ℕ) (body : Body) → a < n → b < n → (a ≡ b → ⊥) → In (Numbered i body) ((w a).wire b)
+      → names_register registers body
 
 -- at every process no data frame, over all its links, waits for an acknowledgement
 abbrev pub AllAcknowledged : ℕ → Nodes → Type 0

@@ -1,5 +1,6 @@
 -- Processes with their wires, and an event of one. They carry a proof: no promise speaks of them.
-use Rattle.std.specs.Prelude.{ℕ, ◌≡◌, ◌<◌, zero, suc, slice_index_or, Bool, false, List, [], ◌∷◌, ◌++◌, length, Option, None}
+use Rattle.std.specs.Prelude.{ℕ, ◌≡◌, ◌<◌, zero, suc, slice_index_or, Bool, false, List, [], ◌∷◌, ◌++◌, length, Option}
+use Rattle.std.specs.Prelude.{None}
 use Rattle.reg_base.specs.declared.stamps.Stamp.{Stamp}
 use Rattle.reg_base.specs.declared.stamps.Delivered.{Delivered}
 use Rattle.reg_base.specs.declared.memory.Op.{Op}
@@ -31,7 +32,8 @@ pub record MayAct (start : Op → ℕ → Start) (s : Standing) (e : Step) : Typ
   pub out : (to : ℕ) → to < length s.state.peers → AreOn (slice_index_or s.wires to []) (resent s.state to)
 
 -- the step was made
-pub record Acts (start : Op → ℕ → Start) (old : Standing) (e : Step) (made : Option Stamp) (casts : List Delivered) (answer : Option Reply) (new : Standing) : Type 0 where
+pub record Acts (start : Op → ℕ → Start) (old : Standing) (e : Step) (made : Option Stamp) (casts : List Delivered)
+    (answer : Option Reply) (new : Standing) : Type 0 where
   pub runs : new.failed ≡ false
   pub state : new.state ≡ (step start old.state e).0
   pub wires : new.wires ≡ sent (puts (step start old.state e).1.frames (length old.state.peers)) old.wires

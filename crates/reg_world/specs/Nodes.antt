@@ -1,7 +1,8 @@
 -- All processes and wires, over a list of events.
 use Rattle.std.specs.List.{filter, list_any}
 use Rattle.reg_base.specs.declared.limits.TheConstants.{MOST_OPERATIONS}
-use Rattle.std.specs.Prelude.{ℕ, not, ◌&&◌, ◌==◌, nat_lt, cond, List, [], ◌∷◌, ◌++◌, replicate, Option, Some, None, slice_get}
+use Rattle.std.specs.Prelude.{ℕ, not, ◌&&◌, ◌==◌, nat_lt, cond, List, [], ◌∷◌, ◌++◌, replicate, Option, Some, None}
+use Rattle.std.specs.Prelude.{slice_get}
 use Rattle.std.specs.Option.{option_to_list, is_some}
 use Rattle.reg_base.specs.declared.stamps.Delivered.{Delivered}
 use Rattle.reg_base.specs.declared.memory.Op.{Op}
@@ -51,7 +52,8 @@ first_state n registers p = record {
 }
 
 abbrev pub empty : ℕ → ℕ → Nodes
-empty n registers p = record { state = first_state n registers p; deliveries = []; queued = []; wire = λ b. []; replies = [] }
+empty n registers p =
+    record { state = first_state n registers p; deliveries = []; queued = []; wire = λ b. []; replies = [] }
 
 -- the operation that a reply in this step is for: the one called, or the one that runs
 abbrev pub running_op : Option Running → Op
@@ -88,12 +90,19 @@ take_step from to (Some frame) = Some (to, TakeStep from frame)
 
 abbrev pub step_of : ℕ → ℕ → Nodes → Event → Option (ℕ × Step)
 step_of n registers w (Call p op) =
-    cond (nat_lt p n && (not (is_some (w p).state.running) && (nat_lt (register_of op) registers && nat_lt (w p).state.calls MOST_OPERATIONS)))
+    cond (nat_lt p n &&
+    (not (is_some (w p).state.running) &&
+    (nat_lt (register_of op) registers && nat_lt (w p).state.calls MOST_OPERATIONS)))
     (Some (p, CallStep op)) None
 step_of n registers w (Take from to number) =
-    cond (nat_lt from n && (nat_lt to n && not (from == to))) (take_step from to (slice_get ((w from).wire to) number)) None
+    cond (nat_lt from n && (nat_lt to n && not (from == to))) (take_step from to (slice_get ((w from).wire to) number))
+    None
 step_of n registers w (Tick p) = cond (nat_lt p n) (Some (p, TickStep)) None
 
 -- those of the casts whose stamps don't stand in the list
 abbrev pub unseen : List Delivered → List Delivered → List Delivered
-unseen known casts = filter (λ c. not (list_any (λ (d : Delivered). (d.stamp.time == c.stamp.time) && (d.stamp.process == c.stamp.process)) known)) casts
+unseen known casts =
+    filter
+    (λ c. not
+    (list_any (λ (d : Delivered). (d.stamp.time == c.stamp.time) && (d.stamp.process == c.stamp.process)) known))
+    casts

@@ -7,7 +7,8 @@ use Rattle.reg_base.specs.Memory.{register_of}
 use Rattle.reg_process.specs.declared.events.Event.{Event}
 use Rattle.reg_process.specs.declared.events.Event.TheVariants.{Call, Take, Tick}
 use Rattle.reg_world.specs.declared.outlines.Kind.{Kind}
-use Rattle.reg_world.specs.declared.outlines.Kind.TheVariants.{Read as Reads, Write as Writes, Swap as Swaps, CompareAndSwap as ComparesAndSwaps}
+use Rattle.reg_world.specs.declared.outlines.Kind.TheVariants.{Read as Reads, Write as Writes, Swap as Swaps}
+use Rattle.reg_world.specs.declared.outlines.Kind.TheVariants.{CompareAndSwap as ComparesAndSwaps}
 use Rattle.reg_world.specs.declared.outlines.Outline.{Outline}
 use Rattle.reg_world.specs.declared.outlines.Outline.TheVariants.{Call as Called, Take as Taken, Tick as Ticked}
 

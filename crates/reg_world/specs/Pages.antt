@@ -1,6 +1,7 @@
 -- The pages of a book, which tell of a run, and what an event adds to them. They carry a proof: no promise speaks of
 -- them.
-use Rattle.std.specs.Prelude.{ℕ, ◌≡◌, ◌<◌, ◌+◌, ◌-◌, Bool, false, not, ◌==◌, cond, List, [], ◌∷◌, ◌++◌, length, map, drop, Option, Some, None, slice_get, slice_set, slice_index_or}
+use Rattle.std.specs.Prelude.{ℕ, ◌≡◌, ◌<◌, ◌+◌, ◌-◌, Bool, false, not, ◌==◌, cond, List, [], ◌∷◌, ◌++◌, length, map}
+use Rattle.std.specs.Prelude.{drop, Option, Some, None, slice_get, slice_set, slice_index_or}
 use Rattle.std.specs.List.{filter}
 use Rattle.reg_base.specs.declared.limits.TheConstants.{MOST_EVENTS, MOST_OPERATIONS}
 use Rattle.reg_base.specs.declared.stamps.Stamp.{Stamp}
@@ -53,7 +54,8 @@ notes_in (Take from frame) number cast = []
 notes_in Tick number cast = []
 
 abbrev pub tally_after : Tally → Step → Bool → Option Stamp → Tally
-tally_after t step runs cast = record { calls = calls_after step t.calls; runs = runs; casts = t.casts ++ notes_in step t.calls cast }
+tally_after t step runs cast =
+    record { calls = calls_after step t.calls; runs = runs; casts = t.casts ++ notes_in step t.calls cast }
 
 abbrev pub tally_at : List Tally → ℕ → Tally
 tally_at tallies p = slice_index_or tallies p no_calls
@@ -83,14 +85,21 @@ number_at [] time = 0
 number_at (n ∷ ns) time = cond (n.time == time) n.number (number_at ns time)
 
 abbrev pub first_in : List Tally → ℕ → Delivered → First
-first_in tallies at d = record { stamp = d.stamp; id = op_id d.stamp.process (number_at (tally_at tallies d.stamp.process).casts d.stamp.time); op = d.op; at = at }
+first_in tallies at d =
+    record {
+      stamp = d.stamp;
+      id = op_id d.stamp.process (number_at (tally_at tallies d.stamp.process).casts d.stamp.time);
+      op = d.op;
+      at = at;
+    }
 
 -- the casts that come after the last one that was delivered are delivered for the first time
 abbrev pub firsts_in : List Tally → ℕ → Option Stamp → List Delivered → List First
 firsts_in tallies at last ds = map (first_in tallies at) (filter (λ (d : Delivered). is_after last d.stamp) ds)
 
 abbrev pub entries_after : List Entry → ℕ → ℕ → Tally → Step → Option Reply → List Entry
-entries_after entries at p t step reply = (entries ++ calls_in at (op_id p t.calls) step) ++ answers_in at (op_id p (calls_after step t.calls - 1)) reply
+entries_after entries at p t step reply =
+    (entries ++ calls_in at (op_id p t.calls) step) ++ answers_in at (op_id p (calls_after step t.calls - 1)) reply
 
 -- the pages after the event, in which p made the step
 abbrev pub entered : Pages → Event → ℕ → Step → Bool → Option Stamp → List Delivered → Option Reply → Pages
@@ -129,10 +138,12 @@ abbrev pub TimesDiffer : List Note → Type 0
 TimesDiffer notes = (i j : ℕ) (a b : Note) → IsAt notes i a → IsAt notes j b → a.time ≡ b.time → i ≡ j
 
 -- the event may be entered
-pub record MayEnter (b : Pages) (p : ℕ) (step : Step) (runs : Bool) (cast : Option Stamp) (ds : List Delivered) (reply : Option Reply) : Type 0 where
+pub record MayEnter (b : Pages) (p : ℕ) (step : Step) (runs : Bool) (cast : Option Stamp) (ds : List Delivered)
+    (reply : Option Reply) : Type 0 where
   pub few : length b.accepted < MOST_EVENTS
   pub process : p < length b.tallies
   pub calls : CallFits step (tally_at b.tallies p).calls
-  pub history : IsHistory b.shape.processes b.shape.registers (entries_after b.entries (length b.accepted) p (tally_at b.tallies p) step reply)
+  pub history : IsHistory b.shape.processes b.shape.registers
+      (entries_after b.entries (length b.accepted) p (tally_at b.tallies p) step reply)
   pub casters : (d : Delivered) → In d ds → d.stamp.process < length b.tallies
   pub once : (q : ℕ) (t : Tally) → IsAt (tallies_after b.tallies p step runs cast) q t → TimesDiffer t.casts

@@ -11,7 +11,8 @@ use Rattle.reg_checkers.specs.History.{IsAt, IsCalled, IsAnswered}
 
 -- a was answered at an event before that of the call of b
 abbrev pub IsEarlier : List Entry → OpId → OpId → Type 0
-IsEarlier h a b = (s : ℕ) × (t : ℕ) × (answer : Answer) × (op : Op) × IsAnswered h a s answer × IsCalled h b t op × (s < t)
+IsEarlier h a b =
+    (s : ℕ) × (t : ℕ) × (answer : Answer) × (op : Op) × IsAnswered h a s answer × IsCalled h b t op × (s < t)
 
 -- the operation called under this id is one of which P holds
 abbrev pub IsCallOf : (Op → Type 0) → List Entry → OpId → Type 0
@@ -28,15 +29,19 @@ AnswersNothingFirst start = (op : Op) → WaitsForDelivery start op
 -- An operation that may change the memory stands after each that was answered before its call, except those that the
 -- front end may answer before their delivery.
 abbrev pub KeepsUpdates : (Op → ℕ → Start) → List Entry → List OpId → Type 0
-KeepsUpdates start h ids = (i j : ℕ) (a b : OpId) → IsAt ids i a → IsAt ids j b → IsEarlier h a b → IsCallOf (WaitsForDelivery start) h a → IsCallOf IsUpdate h b → i < j
+KeepsUpdates start h ids =
+    (i j : ℕ) (a b : OpId) → IsAt ids i a → IsAt ids j b → IsEarlier h a b → IsCallOf (WaitsForDelivery start) h a
+    → IsCallOf IsUpdate h b → i < j
 
 -- An operation that may change the memory stands after each that was answered before its call.
 abbrev pub KeepsAllUpdates : List Entry → List OpId → Type 0
-KeepsAllUpdates h ids = (i j : ℕ) (a b : OpId) → IsAt ids i a → IsAt ids j b → IsEarlier h a b → IsCallOf IsUpdate h b → i < j
+KeepsAllUpdates h ids =
+    (i j : ℕ) (a b : OpId) → IsAt ids i a → IsAt ids j b → IsEarlier h a b → IsCallOf IsUpdate h b → i < j
 
 -- An operation stands after each of its own process that was answered before its call.
 abbrev pub KeepsOwnTime : List Entry → List OpId → Type 0
-KeepsOwnTime h ids = (i j : ℕ) (a b : OpId) → IsAt ids i a → IsAt ids j b → IsEarlier h a b → a.process ≡ b.process → i < j
+KeepsOwnTime h ids =
+    (i j : ℕ) (a b : OpId) → IsAt ids i a → IsAt ids j b → IsEarlier h a b → a.process ≡ b.process → i < j
 
 -- An operation stands after each that was answered before its call.
 abbrev pub KeepsRealTime : List Entry → List OpId → Type 0

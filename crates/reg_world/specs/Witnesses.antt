@@ -1,5 +1,6 @@
 -- The order and the points of a run as lists, from what is kept of it. They carry a proof: no promise speaks of them.
-use Rattle.std.specs.Prelude.{ℕ, ◌≡◌, ◌+◌, ◌-◌, slice_get, Bool, true, ◌||◌, ◌&&◌, nat_lt, nat_le, cond, List, [], ◌∷◌, ◌++◌, map, length, Option, Some, None}
+use Rattle.std.specs.Prelude.{ℕ, ◌≡◌, ◌+◌, ◌-◌, slice_get, Bool, true, ◌||◌, ◌&&◌, nat_lt, nat_le, cond, List, [], ◌∷◌}
+use Rattle.std.specs.Prelude.{◌++◌, map, length, Option, Some, None}
 use Rattle.std.specs.List.{filter}
 use Rattle.std.specs.List.Sorted.{IsSorted, IsStable}
 use Rattle.std.specs.Ordering.{nat_cmp, ordering_then}
@@ -88,7 +89,8 @@ kept_one kept k c = cond (kept c) (keyed_cast k c ∷ []) []
 -- the sorted reads and the kept casts by their keys, k being the place of the first cast
 abbrev pub merge : (First → Bool) → ℕ → List Ranked → List First → List Keyed
 merge kept k reads [] = map keyed_read reads
-merge kept k reads (c ∷ cs) = map keyed_read (upto k reads) ++ (kept_one kept k c ++ merge kept (k + 1) (later k reads) cs)
+merge kept k reads (c ∷ cs) =
+    map keyed_read (upto k reads) ++ (kept_one kept k c ++ merge kept (k + 1) (later k reads) cs)
 
 abbrev pub ids_of : List Keyed → List OpId
 ids_of es = map (λ (e : Keyed). e.id) es

@@ -8,7 +8,9 @@ use Rattle.reg_world.specs.declared.words.Slot.TheVariants.{Data, Count, Other}
 
 -- what a word says
 abbrev pub slot_of : ℕ → Slot
-slot_of bits = cond (nat_lt bits FIRST_COUNT) (Data bits) (cond (nat_lt bits FIRST_OTHER) (Count (bits - FIRST_COUNT)) (Other (bits - FIRST_OTHER)))
+slot_of bits =
+    cond (nat_lt bits FIRST_COUNT) (Data bits)
+    (cond (nat_lt bits FIRST_OTHER) (Count (bits - FIRST_COUNT)) (Other (bits - FIRST_OTHER)))
 
 -- the word that says a slot
 abbrev pub bits_of : Slot → ℕ
@@ -20,11 +22,15 @@ bits_of (Other place) = FIRST_OTHER + place
 pub bits_again : (bits : ℕ) → bits_of (slot_of bits) ≡ bits
 bits_again bits = first (nat_lt bits FIRST_COUNT) refl
   where
-    second : (t : Bool) → nat_lt bits FIRST_COUNT ≡ false → nat_lt bits FIRST_OTHER ≡ t → bits_of (cond t (Count (bits - FIRST_COUNT)) (Other (bits - FIRST_OTHER))) ≡ bits
+    second : (t : Bool) → nat_lt bits FIRST_COUNT ≡ false → nat_lt bits FIRST_OTHER ≡ t
+        → bits_of (cond t (Count (bits - FIRST_COUNT)) (Other (bits - FIRST_OTHER))) ≡ bits
     second true e f = grind (arith, nat_tests)
     second false e f = grind (arith, nat_tests)
 
-    first : (t : Bool) → nat_lt bits FIRST_COUNT ≡ t → bits_of (cond t (Data bits) (cond (nat_lt bits FIRST_OTHER) (Count (bits - FIRST_COUNT)) (Other (bits - FIRST_OTHER)))) ≡ bits
+    first : (t : Bool) → nat_lt bits FIRST_COUNT ≡ t
+        → bits_of
+        (cond t (Data bits) (cond (nat_lt bits FIRST_OTHER) (Count (bits - FIRST_COUNT)) (Other (bits - FIRST_OTHER))))
+        ≡ bits
     first true e = refl
     first false e = second (nat_lt bits FIRST_OTHER) e refl
 

@@ -1,5 +1,6 @@
 -- A run: all processes and wires, and what is told of the events accepted so far.
-use Rattle.std.specs.Prelude.{ℕ, ◌-◌, Bool, ◌&&◌, ◌==◌, nat_lt, cond, List, [], ◌∷◌, ◌++◌, length, map, Option, Some, None, slice_get}
+use Rattle.std.specs.Prelude.{ℕ, ◌-◌, Bool, ◌&&◌, ◌==◌, nat_lt, cond, List, [], ◌∷◌, ◌++◌, length, map, Option, Some}
+use Rattle.std.specs.Prelude.{None, slice_get}
 use Rattle.reg_base.specs.declared.limits.TheConstants.{MOST_EVENTS, MOST_OPERATIONS}
 use Rattle.std.specs.Option.{is_some}
 use Rattle.std.specs.List.{list_any}
@@ -19,7 +20,8 @@ use Rattle.reg_checkers.specs.declared.entries.Entry.TheVariants.{Called, Answer
 use Rattle.reg_process.specs.declared.events.Event.{Event}
 use Rattle.reg_process.specs.declared.events.Event.TheVariants.{Call as CallOf, Take as TakeOf, Tick as TickOf}
 use Rattle.reg_world.specs.declared.faults.WorldFault.{WorldFault}
-use Rattle.reg_world.specs.declared.faults.WorldFault.TheVariants.{TooManyEvents, NoProcess, Busy, NoRegister, TooManyOperations, NoFrame}
+use Rattle.reg_world.specs.declared.faults.WorldFault.TheVariants.{TooManyEvents, NoProcess, Busy, NoRegister}
+use Rattle.reg_world.specs.declared.faults.WorldFault.TheVariants.{TooManyOperations, NoFrame}
 use Rattle.reg_world.specs.declared.order.First.{First}
 use Rattle.reg_world.specs.declared.order.CopyRead.{CopyRead}
 use Rattle.reg_world.specs.Nodes.{Nodes, put, empty, after_step, step_of, unseen}
@@ -43,7 +45,8 @@ pub record World : Type 0 where
   pub replies : List Replied
 
 abbrev pub empty_world : ℕ → ℕ → World
-empty_world n registers = record { nodes = empty n registers; accepted = []; history = []; casts = []; order = []; reads = []; replies = [] }
+empty_world n registers =
+    record { nodes = empty n registers; accepted = []; history = []; casts = []; order = []; reads = []; replies = [] }
 
 abbrev pub op_id : ℕ → ℕ → OpId
 op_id p number = record { process = p; number = number }
@@ -95,9 +98,12 @@ abbrev pub told : World → Event → ℕ → State → Step → State × Outcom
 told w e p s m r nodes = record {
   nodes = nodes;
   accepted = w.accepted ++ e ∷ [];
-  history = (w.history ++ calls_in (length w.accepted) (op_id p s.calls) m) ++ answers_in (length w.accepted) (op_id p (r.0.calls - 1)) r.1.reply;
+  history = (w.history ++ calls_in (length w.accepted) (op_id p s.calls) m)
+      ++ answers_in (length w.accepted) (op_id p (r.0.calls - 1)) r.1.reply;
   casts = w.casts ++ casts_in (op_id p s.calls) m r.1.cast;
-  order = w.order ++ map (first_of (w.casts ++ casts_in (op_id p s.calls) m r.1.cast) (length w.accepted)) (unseen (map delivered_of w.order) r.1.delivered);
+  order = w.order
+      ++ map (first_of (w.casts ++ casts_in (op_id p s.calls) m r.1.cast) (length w.accepted))
+      (unseen (map delivered_of w.order) r.1.delivered);
   reads = w.reads ++ reads_in (w.casts ++ casts_in (op_id p s.calls) m r.1.cast) (op_id p (r.0.calls - 1)) r.1.reply;
   replies = w.replies ++ replies_in (length w.accepted) (op_id p (r.0.calls - 1)) r.1.reply;
 }
@@ -108,7 +114,9 @@ move_of n registers w e = cond (nat_lt (length w.accepted) MOST_EVENTS) (step_of
 
 abbrev pub moved : (Op → ℕ → Start) → World → Event → Option (ℕ × Step) → World
 moved start w e None = w
-moved start w e (Some m) = told w e m.0 (w.nodes m.0).state m.1 (step start (w.nodes m.0).state m.1) (put w.nodes m.0 (after_step start (w.nodes m.0) m.1))
+moved start w e (Some m) =
+    told w e m.0 (w.nodes m.0).state m.1 (step start (w.nodes m.0).state m.1)
+    (put w.nodes m.0 (after_step start (w.nodes m.0) m.1))
 
 -- A refused event changes nothing.
 abbrev pub happens : (Op → ℕ → Start) → ℕ → ℕ → World → Event → World
@@ -124,7 +132,8 @@ whole start n registers events = run start n registers events (empty_world n reg
 
 -- what the orders of a run rest on
 abbrev pub run_of : ℕ → World → Run
-run_of registers w = record { registers = registers; history = w.history; casts = w.casts; order = w.order; reads = w.reads }
+run_of registers w =
+    record { registers = registers; history = w.history; casts = w.casts; order = w.order; reads = w.reads }
 
 -- the first fault that applies to an event, `OutOfMemory` aside
 abbrev pub call_fault : ℕ → ℕ → State → ℕ → Op → Option WorldFault
@@ -143,8 +152,12 @@ frame_fault (Some frame) = None
 abbrev pub event_fault : ℕ → ℕ → Nodes → Event → Option WorldFault
 event_fault n registers w (CallOf p op) = call_fault n registers (w p).state p op
 event_fault n registers w (TakeOf from to number) =
-    cond (nat_lt from n) (cond (nat_lt to n) (cond (from == to) (Some NoFrame) (frame_fault (slice_get ((w from).wire to) number))) (Some NoProcess)) (Some NoProcess)
+    cond (nat_lt from n)
+    (cond (nat_lt to n) (cond (from == to) (Some NoFrame) (frame_fault (slice_get ((w from).wire to) number)))
+    (Some NoProcess))
+    (Some NoProcess)
 event_fault n registers w (TickOf p) = cond (nat_lt p n) None (Some NoProcess)
 
 abbrev pub world_fault : ℕ → ℕ → World → Event → Option WorldFault
-world_fault n registers w e = cond (nat_lt (length w.accepted) MOST_EVENTS) (event_fault n registers w.nodes e) (Some TooManyEvents)
+world_fault n registers w e =
+    cond (nat_lt (length w.accepted) MOST_EVENTS) (event_fault n registers w.nodes e) (Some TooManyEvents)

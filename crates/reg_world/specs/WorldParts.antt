@@ -1,5 +1,6 @@
 -- The parts of a world, and what they do in an event. They carry a proof: no promise speaks of them.
-use Rattle.std.specs.Prelude.{ℕ, ◌≡◌, ◌<◌, ◌≤◌, Bool, false, ◌==◌, drop, replicate, cond, nat_lt, List, [], length, Option, Some, None, Result, Ok, Err, slice_get, slice_index_or}
+use Rattle.std.specs.Prelude.{ℕ, ◌≡◌, ◌<◌, ◌≤◌, Bool, false, ◌==◌, drop, replicate, cond, nat_lt, List, [], length}
+use Rattle.std.specs.Prelude.{Option, Some, None, Result, Ok, Err, slice_get, slice_index_or}
 use Rattle.reg_base.specs.declared.limits.TheConstants.{MOST_PROCESSES, MOST_EVENTS, MOST_OPERATIONS}
 use Rattle.reg_base.specs.declared.memory.Op.{Op}
 use Rattle.reg_base.specs.Memory.{register_of}
@@ -14,7 +15,8 @@ use Rattle.reg_checkers.specs.History.{IsAt}
 use Rattle.reg_process.specs.declared.events.Event.{Event}
 use Rattle.reg_process.specs.declared.events.Event.TheVariants.{Call, Take, Tick}
 use Rattle.reg_world.specs.declared.faults.WorldFault.{WorldFault}
-use Rattle.reg_world.specs.declared.faults.WorldFault.TheVariants.{TooManyEvents, NoProcess, Busy, NoRegister, TooManyOperations, NoFrame}
+use Rattle.reg_world.specs.declared.faults.WorldFault.TheVariants.{TooManyEvents, NoProcess, Busy, NoRegister}
+use Rattle.reg_world.specs.declared.faults.WorldFault.TheVariants.{TooManyOperations, NoFrame}
 use Rattle.reg_world.specs.World.{World, move_of, whole}
 use Rattle.reg_world.specs.Histories.{Grows, Makes}
 use Rattle.reg_world.specs.Tallies.{Tally}
@@ -37,7 +39,8 @@ standing_of n w p = record { failed = false; state = (w.nodes p).state; wires = 
 
 -- the processes stand as the run has them
 pub record Stand (start : Op → ℕ → Start) (b : Pages) (members : List Standing) : Type 0 where
-  pub each : (p : ℕ) → p < b.shape.processes → IsAt members p (standing_of b.shape.processes (whole start b.shape.processes b.shape.registers b.accepted) p)
+  pub each : (p : ℕ) → p < b.shape.processes
+      → IsAt members p (standing_of b.shape.processes (whole start b.shape.processes b.shape.registers b.accepted) p)
 
 -- What is true of the parts of a world. After a stop nothing is claimed of the processes and wires.
 pub record IsWorld (start : Op → ℕ → Start) (failed : Bool) (members : List Standing) (b : Pages) : Type 0 where
@@ -48,15 +51,25 @@ pub record IsWorld (start : Op → ℕ → Start) (failed : Bool) (members : Lis
   pub stand : failed ≡ false → Stand start b members
 
 abbrev pub made_of : Bool → Pages → Made
-made_of failed b = record { failed = failed; processes = b.shape.processes; registers = b.shape.registers; accepted = b.accepted; history = b.entries }
+made_of failed b =
+    record {
+      failed = failed;
+      processes = b.shape.processes;
+      registers = b.shape.registers;
+      accepted = b.accepted;
+      history = b.entries;
+    }
 
 -- which process makes which step in an event, from the parts of a world
 abbrev pub tally_fault : Tally → ℕ → Op → Option WorldFault
 tally_fault t registers op =
-    cond t.runs (Some Busy) (cond (nat_lt (register_of op) registers) (cond (nat_lt t.calls MOST_OPERATIONS) None (Some TooManyOperations)) (Some NoRegister))
+    cond t.runs (Some Busy)
+    (cond (nat_lt (register_of op) registers) (cond (nat_lt t.calls MOST_OPERATIONS) None (Some TooManyOperations))
+    (Some NoRegister))
 
 abbrev pub call_refusal : List Tally → ℕ → ℕ → Op → Option WorldFault
-call_refusal tallies registers p op = cond (nat_lt p (length tallies)) (tally_fault (tally_at tallies p) registers op) (Some NoProcess)
+call_refusal tallies registers p op =
+    cond (nat_lt p (length tallies)) (tally_fault (tally_at tallies p) registers op) (Some NoProcess)
 
 abbrev pub wire_in : Option Standing → ℕ → List Frame
 wire_in None to = []
@@ -68,7 +81,11 @@ frame_or (Some frame) = Ok frame
 
 abbrev pub frame_in : List Standing → ℕ → ℕ → ℕ → Result Frame WorldFault
 frame_in members from to number =
-    cond (nat_lt from (length members)) (cond (nat_lt to (length members)) (cond (from == to) (Err NoFrame) (frame_or (slice_get (wire_in (slice_get members from) to) number))) (Err NoProcess)) (Err NoProcess)
+    cond (nat_lt from (length members))
+    (cond (nat_lt to (length members))
+    (cond (from == to) (Err NoFrame) (frame_or (slice_get (wire_in (slice_get members from) to) number)))
+    (Err NoProcess))
+    (Err NoProcess)
 
 abbrev pub call_or : Option WorldFault → ℕ → Op → Result (ℕ × Step) WorldFault
 call_or None p op = Ok (p, CallStep op)
@@ -90,14 +107,16 @@ abbrev pub IsMove : (Op → ℕ → Start) → Pages → Event → ℕ × Step �
 IsMove start b e m = move_of b.shape.processes b.shape.registers (run_in start (made_of false b)) e ≡ Some m
 
 -- the event was made, with this reply
-pub record Advances (start : Op → ℕ → Start) (old : Pages) (e : Event) (answer : Option Reply) (members : List Standing) (new : Pages) : Type 0 where
+pub record Advances (start : Op → ℕ → Start) (old : Pages) (e : Event) (answer : Option Reply) (members : List Standing)
+    (new : Pages) : Type 0 where
   pub world : IsWorld start false members new
   pub made : made_of false new ≡ with_event start (made_of false old) e
   pub reply : answer ≡ reply_in start (made_of false old) e
   pub grows : Grows (length old.accepted) old.entries e answer new.entries
 
 -- the parts of a world after an event, which is no longer ahead
-pub record PartsGoOn (start : Op → ℕ → Start) (old : Pages) (e : Event) (members : List Standing) (new : Pages) : Type 0 where
+pub record PartsGoOn (start : Op → ℕ → Start) (old : Pages) (e : Event) (members : List Standing)
+    (new : Pages) : Type 0 where
   pub world : IsWorld start false members new
   pub accepts : Accepts start (made_of false old) e (made_of false new)
   pub ahead : new.ahead ≡ drop 1 old.ahead
@@ -108,4 +127,9 @@ PartsRefuse start b e fault = (after : Made) × Refuses start (made_of false b) 
 
 -- a process that did nothing yet
 abbrev pub first_standing : Extent → ℕ → Standing
-first_standing shape p = record { failed = false; state = state_of (first_parts p shape.processes shape.registers); wires = replicate shape.processes [] }
+first_standing shape p =
+    record {
+      failed = false;
+      state = state_of (first_parts p shape.processes shape.registers);
+      wires = replicate shape.processes [];
+    }

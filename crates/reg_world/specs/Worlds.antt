@@ -1,5 +1,6 @@
 -- A world as its callers see it.
-use Rattle.std.specs.Prelude.{ℕ, ◌≡◌, ◌<◌, ◌≤◌, Bool, true, false, ◌⊎◌, take, cond, List, [], ◌∷◌, ◌++◌, length, Option, Some, None, slice_get}
+use Rattle.std.specs.Prelude.{ℕ, ◌≡◌, ◌<◌, ◌≤◌, Bool, true, false, ◌⊎◌, take, cond, List, [], ◌∷◌, ◌++◌, length, Option}
+use Rattle.std.specs.Prelude.{Some, None, slice_get}
 use Rattle.reg_base.specs.declared.memory.Op.{Op}
 use Rattle.reg_base.specs.Shape.{Extent}
 use Rattle.reg_frames.specs.declared.bodies.Frame.{Frame}
@@ -33,7 +34,11 @@ refusal start w e = cond w.failed (Some Failed) (world_fault w.processes w.regis
 
 -- a world with one more event
 abbrev pub with_event : (Op → ℕ → Start) → Made → Event → Made
-with_event start w e = record w { accepted = w.accepted ++ e ∷ []; history = (whole start w.processes w.registers (w.accepted ++ e ∷ [])).history }
+with_event start w e =
+    record w {
+      accepted = w.accepted ++ e ∷ [];
+      history = (whole start w.processes w.registers (w.accepted ++ e ∷ [])).history;
+    }
 
 -- a world as it was, but stopped for good
 abbrev pub stopped : Made → Made
@@ -60,17 +65,27 @@ Refuses start old e fault new = (refusal start old e ≡ Some fault) × (new ≡
 
 -- a world in which nothing happened yet
 abbrev pub new_world : Extent → Made
-new_world shape = record { failed = false; processes = shape.processes; registers = shape.registers; accepted = []; history = [] }
+new_world shape =
+    record { failed = false; processes = shape.processes; registers = shape.registers; accepted = []; history = [] }
 
 -- the world after the first events of a list, all of them accepted
 abbrev pub after_events : (Op → ℕ → Start) → Extent → List Event → Made
-after_events start shape events = record { failed = false; processes = shape.processes; registers = shape.registers; accepted = events; history = (whole start shape.processes shape.registers events).history }
+after_events start shape events =
+    record {
+      failed = false;
+      processes = shape.processes;
+      registers = shape.registers;
+      accepted = events;
+      history = (whole start shape.processes shape.registers events).history;
+    }
 
 -- Why a run of these events ends at this one: the first fault that applies to it after those before it; or refused
 -- memory, where no fault applies to it, or before the first event, of which it is told then.
 abbrev pub RunRefuses : (Op → ℕ → Start) → Extent → List Event → ℕ → WorldFault → Type 0
-RunRefuses start shape events at OutOfMemory = (at ≡ 0) ⊎ ((e : Event) × IsAt events at e × (refusal start (after_events start shape (take at events)) e ≡ None))
-RunRefuses start shape events at fault = (e : Event) × IsAt events at e × (refusal start (after_events start shape (take at events)) e ≡ Some fault)
+RunRefuses start shape events at OutOfMemory =
+    (at ≡ 0) ⊎ ((e : Event) × IsAt events at e × (refusal start (after_events start shape (take at events)) e ≡ None))
+RunRefuses start shape events at fault =
+    (e : Event) × IsAt events at e × (refusal start (after_events start shape (take at events)) e ≡ Some fault)
 
 -- the process p of the run, unless the world has stopped
 abbrev pub IsProcess : (Op → ℕ → Start) → Made → ℕ → Kept → Type 0
@@ -78,18 +93,24 @@ IsProcess start w p k = (p < w.processes) × (w.failed ≡ false → IsGoing k (
 
 -- all frames ever put from one process to another, unless the world has stopped
 abbrev pub IsWire : (Op → ℕ → Start) → Made → ℕ → ℕ → List Frame → Type 0
-IsWire start w from to frames = (from < w.processes) × (to < w.processes) × (from ≡ to → ⊥) × (w.failed ≡ false → frames ≡ ((run_in start w).nodes from).wire to)
+IsWire start w from to frames =
+    (from < w.processes) × (to < w.processes) × (from ≡ to → ⊥)
+    × (w.failed ≡ false → frames ≡ ((run_in start w).nodes from).wire to)
 
 abbrev pub IsNoWire : Made → ℕ → ℕ → Type 0
 IsNoWire w from to = (w.processes ≤ from) ⊎ ((w.processes ≤ to) ⊎ (from ≡ to))
 
 -- this number of frames was ever put from one process to another, unless the world has stopped
 abbrev pub HasFrames : (Op → ℕ → Start) → Made → ℕ → ℕ → ℕ → Type 0
-HasFrames start w from to count = (from < w.processes) × (to < w.processes) × (from ≡ to → ⊥) × (w.failed ≡ false → count ≡ length (((run_in start w).nodes from).wire to))
+HasFrames start w from to count =
+    (from < w.processes) × (to < w.processes) × (from ≡ to → ⊥)
+    × (w.failed ≡ false → count ≡ length (((run_in start w).nodes from).wire to))
 
 -- what stands at a place of the frames ever put from one process to another, unless the world has stopped
 abbrev pub HasFrameAt : (Op → ℕ → Start) → Made → ℕ → ℕ → ℕ → Option Frame → Type 0
-HasFrameAt start w from to number found = (from < w.processes) × (to < w.processes) × (from ≡ to → ⊥) × (w.failed ≡ false → found ≡ slice_get (((run_in start w).nodes from).wire to) number)
+HasFrameAt start w from to number found =
+    (from < w.processes) × (to < w.processes) × (from ≡ to → ⊥)
+    × (w.failed ≡ false → found ≡ slice_get (((run_in start w).nodes from).wire to) number)
 
 -- what stands at a place of the frames ever put from one process to another, or none where these are no two processes
 abbrev pub IsFrameAt : (Op → ℕ → Start) → Made → ℕ → ℕ → ℕ → Option Frame → Type 0

@@ -21,7 +21,12 @@ impl<A: Allocator + Copy> Model for Accepted<A> {
 
     ghost Value = { Taken };
 
-    ghost view = { λ a. record { taken = take a.count a.events.items; ahead = drop a.count a.events.items; room = vec_capacity a.events - a.count } };
+    ghost view = { λ a.
+        record {
+          taken = take a.count a.events.items;
+          ahead = drop a.count a.events.items;
+          room = vec_capacity a.events - a.count;
+        } };
 
     ghost invariant = { λ a. a.count ≤ length a.events.items };
 }

@@ -24,7 +24,8 @@ pub(crate) fn advance<F: FrontEnd, A: Allocator + Copy, W: WireStore<A>>(
 ) -> Result<Option<Reply>, AllocError>
     requires world { IsWorld F.start false members.old.items book.old }
     requires moves { IsMove F.start book.old event (moved.now.0, moved.now.1) }
-    ensures made { MatchResult result (λ reply. Advances F.start book.old event reply members.new.items book.new) (λ _. (book.new ≡ book.old) × (length members.new.items ≡ length members.old.items)) }
+    ensures made { MatchResult result (λ reply. Advances F.start book.old event reply members.new.items book.new)
+        (λ _. (book.new ≡ book.old) × (length members.new.items ≡ length members.old.items)) }
     ensures ahead { OnOk result (book.new.ahead ≡ drop 1 book.old.ahead) }
 {
     let (process, step) = (moved.0, &moved.1);
@@ -45,7 +46,8 @@ fn step_parts<F: FrontEnd, A: Allocator + Copy, W: WireStore<A>>(
     event: Event,
 ) -> Result<(), WorldFault>
     requires { IsWorld F.start false members.old.items book.old }
-    ensures made { MatchResult result (λ _. PartsGoOn F.start book.old event members.new.items book.new) (λ fault. PartsRefuse F.start book.old event fault) }
+    ensures made { MatchResult result (λ _. PartsGoOn F.start book.old event members.new.items book.new)
+        (λ fault. PartsRefuse F.start book.old event fault) }
 {
     let moved = found(members, book, &event)?;
     match advance(members, book, event, &moved, brief) {
@@ -65,8 +67,12 @@ pub(crate) fn run_ahead<F: FrontEnd, A: Allocator + Copy, W: WireStore<A>>(
     requires none { book.old.accepted ≡ [] }
     requires count { count ≡ length book.old.ahead }
     ensures world { OnOk result (IsWorld F.start false members.new.items book.new) }
-    ensures made { MatchResult result (λ _. made_of false book.new ≡ after_events F.start book.old.shape book.old.ahead) (λ f. RunRefuses F.start book.old.shape book.old.ahead f.at f.fault) }
-    ensures accepted { MatchResult result (λ _. (run_in F.start (after_events F.start book.old.shape book.old.ahead)).accepted ≡ book.old.ahead) (λ f. (run_in F.start (after_events F.start book.old.shape (take f.at book.old.ahead))).accepted ≡ take f.at book.old.ahead) }
+    ensures made { MatchResult result (λ _. made_of false book.new ≡ after_events F.start book.old.shape book.old.ahead)
+        (λ f. RunRefuses F.start book.old.shape book.old.ahead f.at f.fault) }
+    ensures accepted { MatchResult result
+        (λ _. (run_in F.start (after_events F.start book.old.shape book.old.ahead)).accepted ≡ book.old.ahead)
+        (λ f. (run_in F.start (after_events F.start book.old.shape (take f.at book.old.ahead))).accepted
+        ≡ take f.at book.old.ahead) }
 {
     for at in 0..count {
         let Some(event) = book.next_ahead() else {

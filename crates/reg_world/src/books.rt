@@ -1,12 +1,16 @@
 //! What a world tells of its run.
-ghost use Rattle.std.specs.Prelude.{◌≡◌, ◌<◌, ◌≤◌, ◌+◌, ◌-◌, not, ◌++◌, ◌∷◌, [], if◌then◌else◌, ℕ, length, replicate, IfOk, OnOk, MatchResult, MatchResult, vec_len, vec_capacity, slice_get, Decides, None};
+ghost use Rattle.std.specs.Prelude.{◌≡◌, ◌<◌, ◌≤◌, ◌+◌, ◌-◌, not, ◌++◌, ◌∷◌, [], if◌then◌else◌, ℕ, length, replicate};
+ghost use Rattle.std.specs.Prelude.{IfOk, OnOk, MatchResult, MatchResult, vec_len, vec_capacity, slice_get, Decides};
+ghost use Rattle.std.specs.Prelude.{None};
 ghost use Rattle.reg_base.specs.declared.stamps.Delivered.{Delivered};
 ghost use Rattle.reg_base.specs.Order.{In};
 ghost use Rattle.reg_checkers.specs.History.{IsAt, IsHistory};
 ghost use Rattle.reg_world.specs.World.{op_id, calls_in, answers_in};
 ghost use Rattle.reg_world.specs.Tallies.{Tally, no_calls};
 ghost use Rattle.reg_world.specs.Witnesses.{is_after as is_after_of, last_stamp as last_stamp_of};
-ghost use Rattle.reg_world.specs.Pages.{entered, passed, CallsNothing, copied_in, tallies_after, tally_after, calls_after, last_casts, first_in, firsts_in, tally_at, number_at, TimesDiffer, CallFits, MayEnter};
+ghost use Rattle.reg_world.specs.Pages.{entered, passed, CallsNothing, copied_in, tallies_after, tally_after};
+ghost use Rattle.reg_world.specs.Pages.{calls_after, last_casts, first_in, firsts_in, tally_at, number_at, TimesDiffer};
+ghost use Rattle.reg_world.specs.Pages.{CallFits, MayEnter};
 
 use crate::callers::Caller;
 use crate::events::EventStore;
@@ -35,7 +39,16 @@ impl<A: Allocator + Copy, E: EventStore<A>> Model for Book<A, E> {
 
     ghost Value = { Pages };
 
-    ghost view = { λ b. record { shape = b.history.shape; accepted = E.taken b.accepted; ahead = E.ahead b.accepted; entries = b.history.entries; order = b.order.items; reads = b.reads.items; tallies = b.callers.items } };
+    ghost view = { λ b.
+        record {
+          shape = b.history.shape;
+          accepted = E.taken b.accepted;
+          ahead = E.ahead b.accepted;
+          entries = b.history.entries;
+          order = b.order.items;
+          reads = b.reads.items;
+          tallies = b.callers.items;
+        } };
 }
 
 /// What is kept of each of the given number of processes, which called nothing yet.
@@ -109,10 +122,14 @@ fn enter_caller<A: Allocator + Copy>(
 ) -> Result<StepIds, AllocError>
     requires process { process < length callers.old.items }
     requires calls { CallFits step.now (tally_at callers.old.items process).calls }
-    ensures callers { MatchResult result (λ _. callers.new.items ≡ tallies_after callers.old.items process step.now runs cast) (λ _. callers.new.items ≡ callers.old.items) }
+    ensures callers { MatchResult result (λ _. callers.new.items
+        ≡ tallies_after callers.old.items process step.now runs cast)
+        (λ _. callers.new.items ≡ callers.old.items) }
     ensures called { IfOk result (λ ids. ids.called ≡ op_id process (tally_at callers.old.items process).calls) }
-    ensures answered { IfOk result (λ ids. ids.answered ≡ op_id process (calls_after step.now (tally_at callers.old.items process).calls - 1)) }
-    ensures copied { IfOk result (λ ids. ids.is_copied ≡ not (last_casts (tally_after (tally_at callers.old.items process) step.now runs cast))) }
+    ensures answered { IfOk result (λ ids. ids.answered
+        ≡ op_id process (calls_after step.now (tally_at callers.old.items process).calls - 1)) }
+    ensures copied { IfOk result (λ ids. ids.is_copied
+        ≡ not (last_casts (tally_after (tally_at callers.old.items process) step.now runs cast))) }
 {
     let caller = &mut callers[usize::from(process)];
     let number = caller.calls();
@@ -133,7 +150,8 @@ fn enter_caller<A: Allocator + Copy>(
 #[inline(always)]
 fn push_call<A: Allocator + Copy>(history: &mut History<A>, at: u32, id: OpId, step: &Step)
     requires room { 1 ≤ history.old.room }
-    requires in_place { IsHistory history.old.shape.processes history.old.shape.registers (history.old.entries ++ calls_in at id step.now) }
+    requires in_place { IsHistory history.old.shape.processes history.old.shape.registers
+        (history.old.entries ++ calls_in at id step.now) }
     ensures shape { history.new.shape ≡ history.old.shape }
     ensures entries { history.new.entries ≡ history.old.entries ++ calls_in at id step.now }
     ensures room { history.old.room ≤ history.new.room + 1 }
@@ -156,7 +174,8 @@ fn push_answer<A: Allocator + Copy>(
     reply: Option<Reply>,
 )
     requires room { 1 ≤ history.old.room }
-    requires in_place { IsHistory history.old.shape.processes history.old.shape.registers (history.old.entries ++ answers_in at id reply) }
+    requires in_place { IsHistory history.old.shape.processes history.old.shape.registers
+        (history.old.entries ++ answers_in at id reply) }
     ensures shape { history.new.shape ≡ history.old.shape }
     ensures entries { history.new.entries ≡ history.old.entries ++ answers_in at id reply }
 {
@@ -195,7 +214,9 @@ fn push_first<A: Allocator + Copy>(
     requires room { vec_len order.old < vec_capacity order.old }
     requires caster { cast.now.stamp.process < length callers.old.items }
     requires differ { TimesDiffer (tally_at callers.old.items cast.now.stamp.process).casts }
-    ensures order { order.new.items ≡ order.old.items ++ (if is_after_of last cast.now.stamp then first_in callers.old.items at cast.now ∷ [] else []) }
+    ensures order { order.new.items
+        ≡ order.old.items
+        ++ (if is_after_of last cast.now.stamp then first_in callers.old.items at cast.now ∷ [] else []) }
     ensures same { callers.new.items ≡ callers.old.items }
     ensures few { vec_len order.new ≤ vec_len order.old + 1 }
     ensures capacity { vec_capacity order.new ≡ vec_capacity order.old }
@@ -223,7 +244,8 @@ fn push_firsts<A: Allocator + Copy>(
     requires room { vec_len order.old + length delivered.now ≤ vec_capacity order.old }
     requires casters { (d : Delivered) → In d delivered.now → d.stamp.process < length callers.old.items }
     requires differ { (p : ℕ) (t : Tally) → IsAt callers.old.items p t → TimesDiffer t.casts }
-    ensures order { order.new.items ≡ order.old.items ++ firsts_in callers.old.items at (last_stamp_of order.old.items) delivered.now }
+    ensures order { order.new.items
+        ≡ order.old.items ++ firsts_in callers.old.items at (last_stamp_of order.old.items) delivered.now }
     ensures same { callers.new.items ≡ callers.old.items }
 {
     let last = last_stamp(order);
@@ -235,7 +257,16 @@ fn push_firsts<A: Allocator + Copy>(
 impl<A: Allocator + Copy, E: EventStore<A>> Book<A, E> {
     /// The book of a run in which nothing happened yet.
     pub(crate) fn new(alloc: A, shape: Shape) -> Result<Book<A, E>, AllocError>
-        ensures { IfOk result (λ b. b ≡ record { shape = shape; accepted = []; ahead = []; entries = []; order = []; reads = []; tallies = replicate shape.processes no_calls }) }
+        ensures { IfOk result (λ b. b
+            ≡ record {
+              shape = shape;
+              accepted = [];
+              ahead = [];
+              entries = [];
+              order = [];
+              reads = [];
+              tallies = replicate shape.processes no_calls;
+            }) }
     {
         let history = History::new(alloc, shape)?;
         let callers = new_callers(alloc, shape.processes())?;
@@ -317,8 +348,12 @@ impl<A: Allocator + Copy, E: EventStore<A>> Book<A, E> {
         step: &Step,
         made: &StepEffect<'_, A>,
     ) -> Result<(), AllocError>
-        requires { MayEnter self.old process step.now made.now.runs made.now.effect.now.cast made.now.effect.now.delivered.items made.now.effect.now.reply }
-        ensures { MatchResult result (λ _. self.new ≡ entered self.old event process step.now made.now.runs made.now.effect.now.cast made.now.effect.now.delivered.items made.now.effect.now.reply) (λ _. self.new ≡ self.old) }
+        requires { MayEnter self.old process step.now made.now.runs made.now.effect.now.cast
+            made.now.effect.now.delivered.items made.now.effect.now.reply }
+        ensures { MatchResult result (λ _. self.new
+            ≡ entered self.old event process step.now made.now.runs made.now.effect.now.cast
+            made.now.effect.now.delivered.items made.now.effect.now.reply)
+            (λ _. self.new ≡ self.old) }
     {
         if is_silent(step, made.effect) {
             self.enter_silent(event, process, made.runs)
@@ -350,8 +385,12 @@ impl<A: Allocator + Copy, E: EventStore<A>> Book<A, E> {
         step: &Step,
         made: &StepEffect<'_, A>,
     ) -> Result<(), AllocError>
-        requires { MayEnter self.old process step.now made.now.runs made.now.effect.now.cast made.now.effect.now.delivered.items made.now.effect.now.reply }
-        ensures { MatchResult result (λ _. self.new ≡ entered self.old event process step.now made.now.runs made.now.effect.now.cast made.now.effect.now.delivered.items made.now.effect.now.reply) (λ _. self.new ≡ self.old) }
+        requires { MayEnter self.old process step.now made.now.runs made.now.effect.now.cast
+            made.now.effect.now.delivered.items made.now.effect.now.reply }
+        ensures { MatchResult result (λ _. self.new
+            ≡ entered self.old event process step.now made.now.runs made.now.effect.now.cast
+            made.now.effect.now.delivered.items made.now.effect.now.reply)
+            (λ _. self.new ≡ self.old) }
     {
         let effect = made.effect;
         let at = self.accepted.len() as u32;

@@ -86,7 +86,8 @@ impl<A: Allocator + Copy> Caller<A> {
         cast: Option<Stamp>,
     ) -> Result<(), AllocError>
         requires { CallFits step.now self.old.calls }
-        ensures { MatchResult result (λ _. self.new ≡ tally_after self.old step.now runs cast) (λ _. self.new ≡ self.old) }
+        ensures { MatchResult result (λ _. self.new ≡ tally_after self.old step.now runs cast)
+            (λ _. self.new ≡ self.old) }
     {
         if let Step::Call { op: _ } = *step {
             if let Some(stamp) = cast {

@@ -1,6 +1,7 @@
 //! Which process makes which step in an event.
 ghost use Rattle.std.specs.Prelude.{◌≡◌, slice_get};
-ghost use Rattle.reg_world.specs.WorldParts.{call_refusal as call_refusal_of, wire_in, frame_or, frame_in, call_or, take_or, found_step as found_step_of, found as found_of};
+ghost use Rattle.reg_world.specs.WorldParts.{call_refusal as call_refusal_of, wire_in, frame_or, frame_in, call_or};
+ghost use Rattle.reg_world.specs.WorldParts.{take_or, found_step as found_step_of, found as found_of};
 
 use crate::books::Book;
 use crate::callers::Caller;

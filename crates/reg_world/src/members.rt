@@ -1,5 +1,6 @@
 //! One process with its wires.
-ghost use Rattle.std.specs.Prelude.{◌≡◌, ◌<◌, ◌≤◌, [], length, replicate, false, is_some, Ok, IfOk, OnOk, IfErr, slice_get, slice_index_or};
+ghost use Rattle.std.specs.Prelude.{◌≡◌, ◌<◌, ◌≤◌, [], length, replicate, false, is_some, Ok, IfOk, OnOk, IfErr};
+ghost use Rattle.std.specs.Prelude.{slice_get, slice_index_or};
 ghost use Rattle.reg_process.specs.Parts.{state_of, first_parts};
 ghost use Rattle.reg_process.specs.Sending.{puts_of};
 ghost use Rattle.reg_frames.specs.declared.puts.Put.{Put};
@@ -46,7 +47,12 @@ impl<F: FrontEnd, A: Allocator + Copy, W: WireStore<A>> Model for Member<F, A, W
 impl<F: FrontEnd, A: Allocator + Copy, W: WireStore<A>> Member<F, A, W> {
     /// A process that did nothing yet.
     pub(crate) fn new(alloc: A, shape: Shape, me: u8) -> Result<Member<F, A, W>, AllocError>
-        ensures { IfOk result (λ s. s ≡ record { failed = false; state = state_of (first_parts me shape.processes shape.registers); wires = replicate shape.processes [] }) }
+        ensures { IfOk result (λ s. s
+            ≡ record {
+              failed = false;
+              state = state_of (first_parts me shape.processes shape.registers);
+              wires = replicate shape.processes [];
+            }) }
     {
         let wires = W::new(alloc, shape.processes())?;
         match Process::new(alloc, shape, me) {
@@ -86,7 +92,9 @@ impl<F: FrontEnd, A: Allocator + Copy, W: WireStore<A>> Member<F, A, W> {
     #[inline(always)]
     pub(crate) fn act(&mut self, step: &Step, brief: &mut Brief<A>) -> Result<bool, AllocError>
         requires { MayAct F.start self.old step.now }
-        ensures made { OnOk result (Acts F.start self.old step.now brief.new.effect.cast brief.new.effect.delivered.items brief.new.effect.reply self.new) }
+        ensures made { OnOk result
+            (Acts F.start self.old step.now brief.new.effect.cast brief.new.effect.delivered.items
+            brief.new.effect.reply self.new) }
         ensures runs { IfOk result (λ runs. runs ≡ is_some self.new.state.running) }
     {
         self.make(step, brief)?;
@@ -98,7 +106,9 @@ impl<F: FrontEnd, A: Allocator + Copy, W: WireStore<A>> Member<F, A, W> {
     #[inline(always)]
     fn make(&mut self, step: &Step, brief: &mut Brief<A>) -> Result<(), AllocError>
         requires { MayAct F.start self.old step.now }
-        ensures { OnOk result (Acts F.start self.old step.now brief.new.effect.cast brief.new.effect.delivered.items brief.new.effect.reply self.new) }
+        ensures { OnOk result
+            (Acts F.start self.old step.now brief.new.effect.cast brief.new.effect.delivered.items
+            brief.new.effect.reply self.new) }
     {
         match *step {
             Step::Call { op } => {

@@ -26,7 +26,13 @@ impl<A: Allocator + Copy> Model for PackedEvents<A> {
 
     ghost Value = { Taken };
 
-    ghost view = { λ e. record { taken = events_of e.outlines.items e.values.items; ahead = drop e.passed e.ahead.items; room = min (vec_capacity e.outlines - length e.outlines.items) ((vec_capacity e.values - length e.values.items) / 2) } };
+    ghost view = { λ e.
+        record {
+          taken = events_of e.outlines.items e.values.items;
+          ahead = drop e.passed e.ahead.items;
+          room = min (vec_capacity e.outlines - length e.outlines.items)
+              ((vec_capacity e.values - length e.values.items) / 2);
+        } };
 
     ghost invariant = { λ e. AreOf e.outlines.items e.values.items (events_of e.outlines.items e.values.items) };
 }

@@ -40,7 +40,8 @@ fn put_one<A: Allocator + Copy, W: WireStore<A>>(
     sent: &Sent,
 ) -> Result<(), AllocError>
     requires { sent_frames sent.now to ≢ [] → to < length (W.wires wires.old) }
-    ensures { OnOk result (W.wires wires.new ≡ sent_on (map (put_to to) (sent_frames sent.now to)) (W.wires wires.old)) }
+    ensures { OnOk result
+        (W.wires wires.new ≡ sent_on (map (put_to to) (sent_frames sent.now to)) (W.wires wires.old)) }
 {
     let Sent {
         me,
@@ -96,7 +97,8 @@ fn put_each_to<F: FrontEnd, A: Allocator + Copy, W: WireStore<A>>(
     process: &Process<F, A>,
 ) -> Result<(), AllocError>
     requires { to < length (W.wires wires.old) }
-    ensures { OnOk result (W.wires wires.new ≡ sent_on (map (put_to to) (resent process.now.state to)) (W.wires wires.old)) }
+    ensures { OnOk result
+        (W.wires wires.new ≡ sent_on (map (put_to to) (resent process.now.state to)) (W.wires wires.old)) }
 {
     for place in 0..MOST_RESENT {
         let Some(frame) = process.resend(to, place) else {
@@ -115,7 +117,8 @@ fn put_again_to<F: FrontEnd, A: Allocator + Copy, W: WireStore<A>>(
 ) -> Result<(), AllocError>
     requires within { to < length (W.wires wires.old) }
     requires out { AreOn (slice_index_or (W.wires wires.old) to []) (resent process.now.state to) }
-    ensures { OnOk result (W.wires wires.new ≡ sent_on (map (put_to to) (resent process.now.state to)) (W.wires wires.old)) }
+    ensures { OnOk result
+        (W.wires wires.new ≡ sent_on (map (put_to to) (resent process.now.state to)) (W.wires wires.old)) }
 {
     if process.resend(to, 0).is_none() {
         return Ok(());
@@ -135,8 +138,10 @@ pub(crate) fn put_again<F: FrontEnd, A: Allocator + Copy, W: WireStore<A>>(
     process: &Process<F, A>,
 ) -> Result<(), AllocError>
     requires within { length process.now.state.peers ≤ length (W.wires wires.old) }
-    requires out { (to : ℕ) → to < length process.now.state.peers → AreOn (slice_index_or (W.wires wires.old) to []) (resent process.now.state to) }
-    ensures { OnOk result (W.wires wires.new ≡ sent_on (puts (resent process.now.state) (length process.now.state.peers)) (W.wires wires.old)) }
+    requires out { (to : ℕ) → to < length process.now.state.peers
+        → AreOn (slice_index_or (W.wires wires.old) to []) (resent process.now.state to) }
+    ensures { OnOk result (W.wires wires.new
+        ≡ sent_on (puts (resent process.now.state) (length process.now.state.peers)) (W.wires wires.old)) }
 {
     for to in 0..process.processes() {
         put_again_to(wires, to, process)?;

@@ -1,16 +1,19 @@
 //! All processes and wires of a run, one event after another.
-ghost use Rattle.std.specs.Prelude.{◌≡◌, ◌<◌, ◌≤◌, ◌++◌, ◌∷◌, List, false, length, take, Option, Some, IfOk, [], MatchOption, MatchResult};
+ghost use Rattle.std.specs.Prelude.{◌≡◌, ◌<◌, ◌≤◌, ◌++◌, ◌∷◌, List, false, length, take, Option, Some, IfOk, []};
+ghost use Rattle.std.specs.Prelude.{MatchOption, MatchResult};
 ghost use Rattle.reg_checkers.specs.History.{IsHistory};
 ghost use Rattle.reg_checkers.specs.Orders.{IsSerial, IsPointOrder};
 ghost use Rattle.reg_process.specs.declared.steps.Reply.{Reply};
 ghost use Rattle.reg_process.specs.declared.events.Event.{Event};
 ghost use Rattle.reg_world.specs.Histories.{Grows, Makes};
 ghost use Rattle.reg_world.specs.Keys.{IsWitness, ArePoints};
-ghost use Rattle.reg_world.specs.Laws.{DeliveriesAgree, DeliveriesRise, DeliveriesMade, UndeliveredAbove, AllAcknowledged, IsQuiescent};
+ghost use Rattle.reg_world.specs.Laws.{DeliveriesAgree, DeliveriesRise, DeliveriesMade, UndeliveredAbove};
+ghost use Rattle.reg_world.specs.Laws.{AllAcknowledged, IsQuiescent};
 ghost use Rattle.reg_world.specs.Promises.{OrderIsLongest, OrderIsRight, FirstsRight, RepliesRight, ReadsRight};
 ghost use Rattle.reg_world.specs.RealTime.{AnswersNothingFirst, KeepsUpdates, KeepsAllUpdates};
 ghost use Rattle.reg_world.specs.World.{run_of, whole};
-ghost use Rattle.reg_world.specs.Worlds.{Made, run_in, Accepts, Refuses, reply_in, new_world, after_events, RunRefuses, IsProcess, IsWire, IsNoWire, HasFrames, IsFrameAt};
+ghost use Rattle.reg_world.specs.Worlds.{Made, run_in, Accepts, Refuses, reply_in, new_world, after_events, RunRefuses};
+ghost use Rattle.reg_world.specs.Worlds.{IsProcess, IsWire, IsNoWire, HasFrames, IsFrameAt};
 ghost use Rattle.reg_world.specs.WorldParts.{IsWorld};
 
 use crate::advancing::{advance, run_ahead};
@@ -52,7 +55,14 @@ impl<F: FrontEnd, A: Allocator + Copy, W: WireStore<A>> Model for World<F, A, W>
 
     ghost Value = { Made };
 
-    ghost view = { λ w. record { failed = w.failed; processes = w.book.shape.processes; registers = w.book.shape.registers; accepted = w.book.accepted; history = w.book.entries } };
+    ghost view = { λ w.
+        record {
+          failed = w.failed;
+          processes = w.book.shape.processes;
+          registers = w.book.shape.registers;
+          accepted = w.book.accepted;
+          history = w.book.entries;
+        } };
 
     ghost invariant = { λ w. IsWorld F.start w.failed w.members.items w.book };
 }
@@ -86,9 +96,14 @@ impl<F: FrontEnd, A: Allocator + Copy, W: WireStore<A>> World<F, A, W> {
     // (in line: a caller that makes events of one kind passes by what the others ask for)
     #[inline(always)]
     pub fn step(&mut self, event: &Event) -> Result<(), WorldFault>
-        ensures made { MatchResult result (λ _. Accepts F.start self.old event.now self.new) (λ fault. Refuses F.start self.old event.now fault self.new) }
-        ensures history { MatchResult result (λ _. (reply : Option Reply) × Grows (length self.old.accepted) self.old.history event.now reply self.new.history) (λ _. self.new.history ≡ self.old.history) }
-        ensures accepted { MatchResult result (λ _. self.new.accepted ≡ self.old.accepted ++ event.now ∷ []) (λ _. self.new.accepted ≡ self.old.accepted) }
+        ensures made { MatchResult result (λ _. Accepts F.start self.old event.now self.new)
+            (λ fault. Refuses F.start self.old event.now fault self.new) }
+        ensures history { MatchResult result
+            (λ _. (reply : Option Reply)
+            × Grows (length self.old.accepted) self.old.history event.now reply self.new.history)
+            (λ _. self.new.history ≡ self.old.history) }
+        ensures accepted { MatchResult result (λ _. self.new.accepted ≡ self.old.accepted ++ event.now ∷ [])
+            (λ _. self.new.accepted ≡ self.old.accepted) }
     {
         self.step_reply(event)?;
         Ok(())
@@ -104,9 +119,14 @@ impl<F: FrontEnd, A: Allocator + Copy, W: WireStore<A>> World<F, A, W> {
     // (in line: as `step`)
     #[inline(always)]
     pub fn step_reply(&mut self, event: &Event) -> Result<Option<Reply>, WorldFault>
-        ensures made { MatchResult result (λ reply. Accepts F.start self.old event.now self.new × (reply ≡ reply_in F.start self.old event.now)) (λ fault. Refuses F.start self.old event.now fault self.new) }
-        ensures history { MatchResult result (λ reply. Grows (length self.old.accepted) self.old.history event.now reply self.new.history) (λ _. self.new.history ≡ self.old.history) }
-        ensures accepted { MatchResult result (λ _. self.new.accepted ≡ self.old.accepted ++ event.now ∷ []) (λ _. self.new.accepted ≡ self.old.accepted) }
+        ensures made { MatchResult result (λ reply. Accepts F.start self.old event.now self.new
+            × (reply ≡ reply_in F.start self.old event.now))
+            (λ fault. Refuses F.start self.old event.now fault self.new) }
+        ensures history { MatchResult result
+            (λ reply. Grows (length self.old.accepted) self.old.history event.now reply self.new.history)
+            (λ _. self.new.history ≡ self.old.history) }
+        ensures accepted { MatchResult result (λ _. self.new.accepted ≡ self.old.accepted ++ event.now ∷ [])
+            (λ _. self.new.accepted ≡ self.old.accepted) }
     {
         if self.failed {
             return Err(WorldFault::Failed);
@@ -129,9 +149,13 @@ impl<F: FrontEnd, A: Allocator + Copy, W: WireStore<A>> World<F, A, W> {
     /// The first event that is refused, and why. `OutOfMemory` with 0 may also say that memory was refused before any
     /// event.
     pub fn run(alloc: A, shape: Shape, events: &[Event]) -> Result<World<F, A, W>, RunFault>
-        ensures world { MatchResult result (λ w. w ≡ after_events F.start shape events.now) (λ f. RunRefuses F.start shape events.now f.at f.fault) }
+        ensures world { MatchResult result (λ w. w ≡ after_events F.start shape events.now)
+            (λ f. RunRefuses F.start shape events.now f.at f.fault) }
         ensures history { IfOk result (λ w. Makes events.now w.history) }
-        ensures accepted { MatchResult result (λ _. (run_in F.start (after_events F.start shape events.now)).accepted ≡ events.now) (λ f. (run_in F.start (after_events F.start shape (take f.at events.now))).accepted ≡ take f.at events.now) }
+        ensures accepted { MatchResult result
+            (λ _. (run_in F.start (after_events F.start shape events.now)).accepted ≡ events.now)
+            (λ f. (run_in F.start (after_events F.start shape (take f.at events.now))).accepted
+            ≡ take f.at events.now) }
     {
         let Ok(events) = events.to_vec(alloc) else {
             let fault = WorldFault::OutOfMemory;
@@ -152,9 +176,13 @@ impl<F: FrontEnd, A: Allocator + Copy, W: WireStore<A>> World<F, A, W> {
         shape: Shape,
         events: Vec<Event, A>,
     ) -> Result<World<F, A, W>, RunFault>
-        ensures world { MatchResult result (λ w. w ≡ after_events F.start shape events.items) (λ f. RunRefuses F.start shape events.items f.at f.fault) }
+        ensures world { MatchResult result (λ w. w ≡ after_events F.start shape events.items)
+            (λ f. RunRefuses F.start shape events.items f.at f.fault) }
         ensures history { IfOk result (λ w. Makes events.items w.history) }
-        ensures accepted { MatchResult result (λ _. (run_in F.start (after_events F.start shape events.items)).accepted ≡ events.items) (λ f. (run_in F.start (after_events F.start shape (take f.at events.items))).accepted ≡ take f.at events.items) }
+        ensures accepted { MatchResult result
+            (λ _. (run_in F.start (after_events F.start shape events.items)).accepted ≡ events.items)
+            (λ f. (run_in F.start (after_events F.start shape (take f.at events.items))).accepted
+            ≡ take f.at events.items) }
     {
         let Ok(mut world) = World::new(alloc, shape) else {
             let fault = WorldFault::OutOfMemory;
@@ -218,7 +246,9 @@ impl<F: FrontEnd, A: Allocator + Copy, W: WireStore<A>> World<F, A, W> {
         ensures agree { DeliveriesAgree self.now.processes (run_in F.start self.now).nodes }
         ensures rise { DeliveriesRise self.now.processes (run_in F.start self.now).nodes }
         ensures made { DeliveriesMade self.now.processes (run_in F.start self.now).nodes }
-        ensures above { (more : List Event) → UndeliveredAbove self.now.processes (run_in F.start self.now).nodes (whole F.start self.now.processes self.now.registers (self.now.accepted ++ more)).nodes }
+        ensures above { (more : List Event)
+            → UndeliveredAbove self.now.processes (run_in F.start self.now).nodes
+            (whole F.start self.now.processes self.now.registers (self.now.accepted ++ more)).nodes }
         ensures longest { OrderIsLongest self.now.processes (run_in F.start self.now) }
         ensures right { OrderIsRight self.now.processes (run_in F.start self.now) }
         ensures firsts { FirstsRight F.start self.now.processes self.now.registers (run_in F.start self.now) }
@@ -238,8 +268,10 @@ impl<F: FrontEnd, A: Allocator + Copy, W: WireStore<A>> World<F, A, W> {
     /// Where no process of the run has a frame that is not acknowledged, each has delivered all casts, none is busy,
     /// and all copies are equal.
     pub fn process(&self, process: u8) -> Option<&Process<F, A>>
-        ensures process { MatchOption result (self.now.processes ≤ process) (λ p. IsProcess F.start self.now process p.now) }
-        ensures quiescent { AllAcknowledged self.now.processes (run_in F.start self.now).nodes → IsQuiescent self.now.processes (run_in F.start self.now).nodes }
+        ensures process { MatchOption result (self.now.processes ≤ process)
+            (λ p. IsProcess F.start self.now process p.now) }
+        ensures quiescent { AllAcknowledged self.now.processes (run_in F.start self.now).nodes
+            → IsQuiescent self.now.processes (run_in F.start self.now).nodes }
     {
         match self.members.get(usize::from(process)) {
             Some(member) => Some(member.process()),
@@ -298,7 +330,8 @@ impl<F: FrontEnd, A: Allocator + Copy, W: WireStore<A>> World<F, A, W> {
         ensures keyed { IfOk result (λ ids. IsWitness (run_of self.now.registers (run_in F.start self.now)) ids.items) }
         ensures serial { IfOk result (λ ids. IsSerial self.now.registers (run_in F.start self.now).history ids.items) }
         ensures real_time { IfOk result (λ ids. KeepsUpdates F.start (run_in F.start self.now).history ids.items) }
-        ensures nothing_first { AnswersNothingFirst F.start → IfOk result (λ ids. KeepsAllUpdates (run_in F.start self.now).history ids.items) }
+        ensures nothing_first { AnswersNothingFirst F.start
+            → IfOk result (λ ids. KeepsAllUpdates (run_in F.start self.now).history ids.items) }
     {
         witness_of(
             self.alloc,
@@ -318,12 +351,14 @@ impl<F: FrontEnd, A: Allocator + Copy, W: WireStore<A>> World<F, A, W> {
     ///
     /// Memory was refused.
     pub fn serial_order(&self) -> Result<(&History<A>, Vec<OpId, A>), AllocError>
-        ensures shape { IfOk result (λ r. r.0.now.shape ≡ record { processes = self.now.processes; registers = self.now.registers }) }
+        ensures shape { IfOk result (λ r. r.0.now.shape
+            ≡ record { processes = self.now.processes; registers = self.now.registers }) }
         ensures value { IfOk result (λ r. r.0.now.entries ≡ self.now.history) }
         ensures history { IfOk result (λ r. IsHistory r.0.now.shape.processes r.0.now.shape.registers r.0.now.entries) }
         ensures serial { IfOk result (λ r. IsSerial r.0.now.shape.registers r.0.now.entries r.1.items) }
         ensures real_time { IfOk result (λ r. KeepsUpdates F.start r.0.now.entries r.1.items) }
-        ensures nothing_first { AnswersNothingFirst F.start → IfOk result (λ r. KeepsAllUpdates r.0.now.entries r.1.items) }
+        ensures nothing_first { AnswersNothingFirst F.start
+            → IfOk result (λ r. KeepsAllUpdates r.0.now.entries r.1.items) }
         ensures keyed { IfOk result (λ r. IsWitness (run_of self.now.registers (run_in F.start self.now)) r.1.items) }
     {
         let ids = self.witness()?;
@@ -348,7 +383,8 @@ impl<F: FrontEnd, A: Allocator + Copy> World<F, A, Wires<A>> {
     /// All frames ever put from one process to another, None where one of the processes isn't there or both are the
     /// same. Nothing is claimed of the frames once the world has stopped.
     pub fn wire(&self, from: u8, to: u8) -> Option<&[Frame]>
-        ensures { MatchOption result (IsNoWire self.now from to) (λ frames. IsWire F.start self.now from to frames.now) }
+        ensures { MatchOption result (IsNoWire self.now from to)
+            (λ frames. IsWire F.start self.now from to frames.now) }
     {
         if from == to {
             return None;
@@ -372,8 +408,10 @@ impl<F: RealTime, A: Allocator + Copy, W: WireStore<A>> World<F, A, W> {
     ///
     /// Memory was refused.
     pub fn points(&self) -> Result<Vec<Point, A>, AllocError>
-        ensures first { IfOk result (λ points. ArePoints (run_of self.now.registers (run_in F.start self.now)) points.items) }
-        ensures ordered { IfOk result (λ points. IsPointOrder self.now.registers (run_in F.start self.now).history points.items) }
+        ensures first { IfOk result
+            (λ points. ArePoints (run_of self.now.registers (run_in F.start self.now)) points.items) }
+        ensures ordered { IfOk result
+            (λ points. IsPointOrder self.now.registers (run_in F.start self.now).history points.items) }
     {
         points_of(self.alloc, self.book.order(), self.book.callers())
     }
@@ -386,7 +424,8 @@ impl<F: RealTime, A: Allocator + Copy, W: WireStore<A>> World<F, A, W> {
     ///
     /// Memory was refused.
     pub fn linearization(&self) -> Result<(&History<A>, Vec<Point, A>), AllocError>
-        ensures shape { IfOk result (λ r. r.0.now.shape ≡ record { processes = self.now.processes; registers = self.now.registers }) }
+        ensures shape { IfOk result (λ r. r.0.now.shape
+            ≡ record { processes = self.now.processes; registers = self.now.registers }) }
         ensures value { IfOk result (λ r. r.0.now.entries ≡ self.now.history) }
         ensures history { IfOk result (λ r. IsHistory r.0.now.shape.processes r.0.now.shape.registers r.0.now.entries) }
         ensures points { IfOk result (λ r. IsPointOrder r.0.now.shape.registers r.0.now.entries r.1.items) }

@@ -1,5 +1,6 @@
 //! What keeps the wires of one process, and with them which list of events a world keeps.
-ghost use Rattle.std.specs.Prelude.{◌≡◌, ◌<◌, ◌≤◌, ◌++◌, ◌∷◌, List, [], true, false, length, replicate, IfOk, OnOk, slice_get, slice_set, slice_index_or};
+ghost use Rattle.std.specs.Prelude.{◌≡◌, ◌<◌, ◌≤◌, ◌++◌, ◌∷◌, List, [], true, false, length, replicate, IfOk, OnOk};
+ghost use Rattle.std.specs.Prelude.{slice_get, slice_set, slice_index_or};
 ghost use Rattle.reg_base.specs.declared.limits.TheConstants.{MOST_RESENT};
 ghost use Rattle.reg_frames.specs.declared.bodies.Body.{Body};
 ghost use Rattle.reg_frames.specs.declared.bodies.Frame.{Frame};
@@ -34,7 +35,9 @@ pub trait WireStore<A: Allocator + Copy>: Drop {
     /// Puts a frame for a process. Where memory is refused nothing is claimed of the wires.
     fn put(&mut self, to: u8, frame: &Frame) -> Result<(), AllocError>
         requires { to < length (wires self.old) }
-        ensures { OnOk result (wires self.new ≡ slice_set (wires self.old) to (slice_index_or (wires self.old) to [] ++ frame.now ∷ [])) };
+        ensures { OnOk result
+            (wires self.new
+            ≡ slice_set (wires self.old) to (slice_index_or (wires self.old) to [] ++ frame.now ∷ [])) };
 
     /// Puts data frames again that were put for this process before: so many, of the numbers from `first` on. Says
     /// whether it did so. Else nothing has changed, and each is to be put by itself. Nothing is claimed of the wires
@@ -42,7 +45,10 @@ pub trait WireStore<A: Allocator + Copy>: Drop {
     fn put_again(&mut self, to: u8, first: u64, count: u64) -> Result<bool, AllocError>
         requires within { to < length (wires self.old) }
         requires few { count ≤ MOST_RESENT }
-        ensures again { IfOk result (λ done. done ≡ true → (bodies : List Body) → length bodies ≡ count → AreOn (slice_index_or (wires self.old) to []) (numbered_from first bodies) → wires self.new ≡ slice_set (wires self.old) to (slice_index_or (wires self.old) to [] ++ numbered_from first bodies)) }
+        ensures again { IfOk result (λ done. done ≡ true → (bodies : List Body) → length bodies ≡ count
+            → AreOn (slice_index_or (wires self.old) to []) (numbered_from first bodies)
+            → wires self.new
+            ≡ slice_set (wires self.old) to (slice_index_or (wires self.old) to [] ++ numbered_from first bodies)) }
         ensures kept { IfOk result (λ done. done ≡ false → wires self.new ≡ wires self.old) };
 }
 

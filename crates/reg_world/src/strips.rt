@@ -1,5 +1,6 @@
 //! Items on each of some wires: frames, or the words that stand for them.
-ghost use Rattle.std.specs.Prelude.{◌≡◌, ◌<◌, ◌≤◌, ◌++◌, ◌∷◌, [], true, Decides, length, replicate, IfOk, OnOk, OnErr, slice_get, slice_set, slice_index_or};
+ghost use Rattle.std.specs.Prelude.{◌≡◌, ◌<◌, ◌≤◌, ◌++◌, ◌∷◌, [], true, Decides, length, replicate, IfOk, OnOk, OnErr};
+ghost use Rattle.std.specs.Prelude.{slice_get, slice_set, slice_index_or};
 ghost use Rattle.reg_world.specs.Sharing.{items_in, no_items, IsLonger};
 
 use std::alloc::{AllocError, Allocator, Global};
@@ -137,7 +138,8 @@ impl<T: Item, A: Allocator + Copy> Line<T, A> {
     #[inline(always)]
     fn put(&mut self, common: &mut Vec<T, A>, item: T) -> Result<(), AllocError>
         requires { self.old.shared ≤ length common.old.items }
-        ensures items { OnOk result (items_in common.new.items self.new ≡ items_in common.old.items self.old ++ item ∷ []) }
+        ensures items { OnOk result
+            (items_in common.new.items self.new ≡ items_in common.old.items self.old ++ item ∷ []) }
         ensures kept { OnErr result (items_in common.new.items self.new ≡ items_in common.old.items self.old) }
         ensures longer { IsLonger common.old.items common.new.items }
         ensures shared { self.new.shared ≤ length common.new.items }
@@ -160,7 +162,8 @@ impl<T: Item, A: Allocator + Copy> Line<T, A> {
     /// Puts items. They are kept once where they are the next ones of the common items, or can be.
     fn put_all(&mut self, common: &mut Vec<T, A>, items: &[T]) -> Result<(), AllocError>
         requires { self.old.shared ≤ length common.old.items }
-        ensures items { OnOk result (items_in common.new.items self.new ≡ items_in common.old.items self.old ++ items.now) }
+        ensures items { OnOk result
+            (items_in common.new.items self.new ≡ items_in common.old.items self.old ++ items.now) }
         ensures kept { OnErr result (items_in common.new.items self.new ≡ items_in common.old.items self.old) }
         ensures longer { IsLonger common.old.items common.new.items }
         ensures shared { self.new.shared ≤ length common.new.items }

@@ -2,7 +2,9 @@
 ghost use Rattle.std.specs.Prelude.{◌≡◌, ◌≤◌, ◌++◌, ◌∷◌, [], if◌then◌else◌, IfOk, OnOk, map, drop, length};
 ghost use Rattle.std.specs.List.{filter};
 ghost use Rattle.reg_base.specs.declared.limits.TheConstants.{MOST_PROCESSES};
-ghost use Rattle.reg_world.specs.Witnesses.{is_kept as is_kept_of, point_of, ranked_read, IsSortedFrom, is_after as is_after_of, lost_of, lost_from, last_stamp as last_stamp_of, upto, later, ids_of, merge, IsMerged};
+ghost use Rattle.reg_world.specs.Witnesses.{is_kept as is_kept_of, point_of, ranked_read, IsSortedFrom};
+ghost use Rattle.reg_world.specs.Witnesses.{is_after as is_after_of, lost_of, lost_from, last_stamp as last_stamp_of};
+ghost use Rattle.reg_world.specs.Witnesses.{upto, later, ids_of, merge, IsMerged};
 
 use crate::callers::{Caller, is_done};
 use crate::order::{CopyRead, First};
@@ -135,7 +137,9 @@ fn push_reads<A: Allocator + Copy>(
     reads: &[Ranked],
     place: u64,
 ) -> Result<usize, AllocError>
-    ensures { IfOk result (λ n. (n ≤ length reads.now) × (drop n reads.now ≡ later place reads.now) × (ids.new.items ≡ ids.old.items ++ map (λ q. q.id) (upto place reads.now))) }
+    ensures { IfOk result
+        (λ n. (n ≤ length reads.now) × (drop n reads.now ≡ later place reads.now)
+        × (ids.new.items ≡ ids.old.items ++ map (λ q. q.id) (upto place reads.now))) }
 {
     for (index, read) in reads.iter().enumerate() {
         if read.rank > place {
@@ -165,7 +169,8 @@ fn push_kept<A: Allocator + Copy>(
     callers: &[Caller<A>],
     first: &First,
 ) -> Result<(), AllocError>
-    ensures { OnOk result (ids.new.items ≡ ids.old.items ++ (if is_kept_of callers.now first.now then first.now.id ∷ [] else [])) }
+    ensures { OnOk result
+        (ids.new.items ≡ ids.old.items ++ (if is_kept_of callers.now first.now then first.now.id ∷ [] else [])) }
 {
     if is_kept(callers, first) {
         ids.push(first.id)?;
@@ -180,7 +185,8 @@ fn push_merged<A: Allocator + Copy>(
     order: &[First],
     callers: &[Caller<A>],
 ) -> Result<(), AllocError>
-    ensures { OnOk result (ids.new.items ≡ ids.old.items ++ ids_of (merge (is_kept_of callers.now) 0 reads.now order.now)) }
+    ensures { OnOk result
+        (ids.new.items ≡ ids.old.items ++ ids_of (merge (is_kept_of callers.now) 0 reads.now order.now)) }
 {
     let mut next = 0;
     for (place, first) in order.iter().enumerate() {

@@ -47,7 +47,10 @@ pub fn shown(alloc: Global, showing: Showing, text: &[u8]) -> (u8, Vec<u8>, Vec<
 pub fn scheduled(alloc: Global, player: Player, text: &[u8]) -> (u8, Vec<u8>, Vec<u8>)
     requires { IsSeed (seed_of player) }
     ensures range { result.0 ≤ 1 }
-    ensures shown { result.0 ≡ 0 → IsOfDocument (λ Wrote work. ShowsSchedule (is_fair player) (start_of work.front) Wrote (reseeded (seed_of player) work)) (Appends (Some []) (Some result.1.items)) text.now }
+    ensures shown { result.0 ≡ 0
+        → IsOfDocument
+        (λ Wrote work. ShowsSchedule (is_fair player) (start_of work.front) Wrote (reseeded (seed_of player) work))
+        (Appends (Some []) (Some result.1.items)) text.now }
     ensures quiet { result.0 ≡ 0 → result.2.items ≡ [] }
 {
     let mut reader = text;

@@ -23,7 +23,8 @@ pub fn call_first(
     op: Op,
 ) -> Result<Option<Reply>, WorldFault>
     requires { world.old.history ≡ [] }
-    ensures history { IfOk result (λ reply. world.new.history ≡ first_entries (length world.old.accepted) process op reply) }
+    ensures history { IfOk result (λ reply. world.new.history
+        ≡ first_entries (length world.old.accepted) process op reply) }
     ensures refused { IfErr result (λ fault. Refuses linear world.old (Call process op) fault world.new) }
 {
     world.step_reply(&Event::Call { process, op })

@@ -4,7 +4,8 @@ ghost use Rattle.std.specs.Fmt.{decimal};
 ghost use Rattle.reg_front.specs.Table.{front_name};
 ghost use Rattle.reg_text.specs.Ops.{op_text};
 ghost use Rattle.reg_text.specs.Writing.{Puts};
-ghost use Rattle.reg_commands.specs.Layout.{between, joined, key_line, load_text, names_array, quoted, script_array, scripts_array};
+ghost use Rattle.reg_commands.specs.Layout.{between, joined, key_line, load_text, names_array, quoted, script_array};
+ghost use Rattle.reg_commands.specs.Layout.{scripts_array};
 
 use reg_base::{Names, Op};
 use reg_front::Front;
@@ -126,7 +127,8 @@ fn put_scripts_joined<A: Allocator + Copy, W: Write>(
     names: &Names<A>,
     scripts: &[Vec<Op, A>],
 )
-    ensures { Puts W.contents sink.old sink.new (joined (map (λ script. script_array names.now script.items) scripts.now)) }
+    ensures { Puts W.contents sink.old sink.new
+        (joined (map (λ script. script_array names.now script.items) scripts.now)) }
 {
     for place in 0..scripts.len() {
         put_script_at(sink, names, scripts[place].as_slice(), place);
@@ -179,7 +181,8 @@ fn put_scripts_line<A: Allocator + Copy, W: Write>(
     names: &Names<A>,
     scripts: &[Vec<Op, A>],
 )
-    ensures { Puts W.contents sink.old sink.new (key_line (codes "scripts") (scripts_array names.now (map (λ script. script.items) scripts.now))) }
+    ensures { Puts W.contents sink.old sink.new
+        (key_line (codes "scripts") (scripts_array names.now (map (λ script. script.items) scripts.now))) }
 {
     sink.put(b"scripts = ");
     put_scripts(sink, names, scripts);

@@ -20,7 +20,8 @@ fn judged<A: Allocator + Copy>(
     as_report: bool,
     text: String<A>,
 ) -> Result<(bool, Answer<A>), RulingFault>
-    ensures ok { IfOk result (λ p. JudgesReport as_report p.0 (λ answer. answer ≡ answer_text p.1) (string_bytes text)) }
+    ensures ok { IfOk result
+        (λ p. JudgesReport as_report p.0 (λ answer. answer ≡ answer_text p.1) (string_bytes text)) }
     ensures why { IfErr result (λ f. BlamesRuling f (string_bytes text)) }
     ensures kind { IfErr result (λ f. f ≢ RulingFault.Command Fault.Output) }
 {
@@ -39,10 +40,14 @@ fn answer<A: Allocator + Copy, W: Write>(
     text: String<A>,
     writer: &mut W,
 ) -> Result<bool, RulingFault>
-    ensures ok { IfOk result (λ found. JudgesReport as_report found (Appends (W.contents writer.old) (W.contents writer.new)) (string_bytes text)) }
+    ensures ok { IfOk result
+        (λ found. JudgesReport as_report found (Appends (W.contents writer.old) (W.contents writer.new))
+        (string_bytes text)) }
     ensures why { IfErr result (λ f. BlamesRuling f (string_bytes text)) }
     ensures silent { IfErr result (λ f. f ≢ RulingFault.Command Fault.Output → writer.new ≡ writer.old) }
-    ensures part { IsErrOf result (RulingFault.Command Fault.Output) → IsEither (JudgesReport as_report) (AppendsPart (W.contents writer.old) (W.contents writer.new)) (string_bytes text) }
+    ensures part { IsErrOf result (RulingFault.Command Fault.Output)
+        → IsEither (JudgesReport as_report) (AppendsPart (W.contents writer.old) (W.contents writer.new))
+        (string_bytes text) }
 {
     let judged = judged(alloc, as_report, text)?;
     write_of(writer, &judged.1)?;

@@ -54,7 +54,9 @@ pub fn judge_report<A: Allocator + Copy>(
     report: &Report<A>,
 ) -> Result<Judgement<A>, RuleFault>
     ensures judged { IfOk result (λ j. IsJudgedReport report.now (found_in j.sought) j.rulings.items j.serial) }
-    ensures instead { IfOk result (λ j. (rows : List AnyRow) × AreRowsOf report.now.entries rows × AreToldOf report.now.shape.processes rows j.rulings.items j.possible.items) }
+    ensures instead { IfOk result
+        (λ j. (rows : List AnyRow) × AreRowsOf report.now.entries rows
+        × AreToldOf report.now.shape.processes rows j.rulings.items j.possible.items) }
 {
     let history = report.history();
     let shape = history.shape();

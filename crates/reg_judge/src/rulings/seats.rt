@@ -1,5 +1,6 @@
 //! A history of rows: each call under a name, and its answer under the same.
-ghost use Rattle.std.specs.Prelude.{◌≡◌, ◌<◌, ◌++◌, ◌∷◌, [], ℕ, IfOk, IfSome, OnOk, Some, length, get_or, None, slice_get, slice_set, replicate};
+ghost use Rattle.std.specs.Prelude.{◌≡◌, ◌<◌, ◌++◌, ◌∷◌, [], ℕ, IfOk, IfSome, OnOk, Some, length, get_or, None};
+ghost use Rattle.std.specs.Prelude.{slice_get, slice_set, replicate};
 ghost use Rattle.reg_judge.specs.Standing.{MayName, Stands, IsStood, OneMore, act_op, no_calls};
 ghost use Rattle.reg_base.specs.declared.memory.OpId.{OpId as AnyId};
 ghost use Rattle.reg_checkers.specs.declared.entries.Entry.TheVariants.{Called, Answered};
@@ -177,7 +178,11 @@ fn add_call<A: Allocator + Copy>(
     op: Op,
 ) -> Result<(), Unseated>
     requires { row.now.process < length seats.old.held.items }
-    ensures call { OnOk result ((id : AnyId) × MayName naming row.now.process id.process × (¬ WasCalled history.old.entries id) × (history.new.entries ≡ history.old.entries ++ Called row.now.at id op ∷ []) × (seats.new.held.items ≡ slice_set seats.old.held.items row.now.process (Some (record { id = id; key = row.now.key })))) }
+    ensures call { OnOk result
+        ((id : AnyId) × MayName naming row.now.process id.process × (¬ WasCalled history.old.entries id)
+        × (history.new.entries ≡ history.old.entries ++ Called row.now.at id op ∷ [])
+        × (seats.new.held.items
+        ≡ slice_set seats.old.held.items row.now.process (Some (record { id = id; key = row.now.key })))) }
     ensures log { OnOk result (IsLog history.old → IsLog history.new) }
     ensures shape { history.new.shape ≡ history.old.shape }
 {
@@ -200,7 +205,11 @@ fn add_answer<A: Allocator + Copy>(
     answer: Answer,
 ) -> Result<(), Unseated>
     requires { row.now.process < length seats.old.held.items }
-    ensures answer { OnOk result ((id : AnyId) × (get_or seats.old.held.items row.now.process None ≡ Some (record { id = id; key = row.now.key })) × (history.new.entries ≡ history.old.entries ++ Answered row.now.at id answer ∷ []) × (seats.new.held.items ≡ seats.old.held.items)) }
+    ensures answer { OnOk result
+        ((id : AnyId)
+        × (get_or seats.old.held.items row.now.process None ≡ Some (record { id = id; key = row.now.key }))
+        × (history.new.entries ≡ history.old.entries ++ Answered row.now.at id answer ∷ [])
+        × (seats.new.held.items ≡ seats.old.held.items)) }
     ensures log { OnOk result (IsLog history.old → IsLog history.new) }
     ensures shape { history.new.shape ≡ history.old.shape }
 {
@@ -228,7 +237,8 @@ fn add_row<A: Allocator + Copy>(
     naming: Naming,
     row: &Row,
 ) -> Result<(), Unseated>
-    ensures more { OnOk result (OneMore naming row.now seats.old.held.items history.old.entries seats.new.held.items history.new.entries) }
+    ensures more { OnOk result
+        (OneMore naming row.now seats.old.held.items history.old.entries seats.new.held.items history.new.entries) }
     ensures log { OnOk result (IsLog history.old → IsLog history.new) }
     ensures shape { history.new.shape ≡ history.old.shape }
 {

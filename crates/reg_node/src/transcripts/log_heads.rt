@@ -34,7 +34,8 @@ impl<A: Allocator + Copy> Model for Head<A> {
 /// What stands behind the first lines, so many; nothing where there are fewer.
 fn behind_lines(bytes: &[u8], count: u64) -> &[u8]
     ensures part { (front : List ℕ) × (bytes.now ≡ front ++ result.now) }
-    ensures whole { (c : ℕ) (lines : List (List ℕ)) (behind : List ℕ) → AreLines lines → length lines ≡ count → bytes.now ≡ sealed c lines ++ behind → result.now ≡ behind }
+    ensures whole { (c : ℕ) (lines : List (List ℕ)) (behind : List ℕ) → AreLines lines → length lines ≡ count
+        → bytes.now ≡ sealed c lines ++ behind → result.now ≡ behind }
 {
     let mut rest = bytes;
     for _line in 0..count {
@@ -49,7 +50,8 @@ fn behind_lines(bytes: &[u8], count: u64) -> &[u8]
 /// The head of the log that the bytes begin with, and its first entries, so many, where it has as many.
 pub fn first_part(bytes: &[u8], entries: u64) -> &[u8]
     ensures part { (behind : List ℕ) × (bytes.now ≡ result.now ++ behind) }
-    ensures whole { (j : Journal) → IsJournal j → BeginsWith bytes.now j → entries ≤ length j.entries → result.now ≡ log_text (first_entries j entries) }
+    ensures whole { (j : Journal) → IsJournal j → BeginsWith bytes.now j → entries ≤ length j.entries
+        → result.now ≡ log_text (first_entries j entries) }
 {
     let rest = behind_lines(behind_lines(bytes, HEAD_LINES), entries);
     &bytes[..bytes.len() - rest.len()]
@@ -62,7 +64,8 @@ pub fn first_part(bytes: &[u8], entries: u64) -> &[u8]
 /// But for `OutOfMemory` the bytes begin with the head of no log.
 pub fn read_head<A: Allocator + Copy>(alloc: A, bytes: &[u8]) -> Result<Head<A>, LogFault>
     ensures read { IfOk result (λ h. BeginsWith bytes.now h × IsJournal h) }
-    ensures whole { (j : Journal) → IsJournal j → BeginsWith bytes.now j → MatchResult result (λ h. h ≡ head_of j) (λ f. f ≡ LogFault.OutOfMemory) }
+    ensures whole { (j : Journal) → IsJournal j → BeginsWith bytes.now j
+        → MatchResult result (λ h. h ≡ head_of j) (λ f. f ≡ LogFault.OutOfMemory) }
     ensures fault { IfErr result (λ f. (f ≡ LogFault.OutOfMemory) ⊎ BeginsWithNone bytes.now) }
 {
     let log = match read_log(alloc, first_part(bytes, 0), 0) {

@@ -3,7 +3,8 @@ ghost use Rattle.std.specs.Prelude.{◌≡◌, ◌≢◌, ◌<◌, ◌≤◌, �
 ghost use Rattle.reg_base.specs.declared.limits.TheConstants.{MOST_PROCESSES};
 ghost use Rattle.reg_node.specs.declared.transcripts.logs.LogId.{LogId as AnyId};
 ghost use Rattle.reg_node.specs.LogFaults.{IsLogFault};
-ghost use Rattle.reg_node.specs.LogTexts.{IsJournal, Journal, SpellsLog, id_lines, log_crc, log_lines, log_text, recorded_by};
+ghost use Rattle.reg_node.specs.LogTexts.{IsJournal, Journal, SpellsLog, id_lines, log_crc, log_lines, log_text};
+ghost use Rattle.reg_node.specs.LogTexts.{recorded_by};
 
 use crate::transcripts::record_text::{Record, read_record};
 use crate::transcripts::recorded::Recorded;
@@ -66,7 +67,8 @@ impl<A: Allocator + Copy> Model for Log<A> {
 
     ghost Value = { Journal };
 
-    ghost view = { λ l. record { id = l.id; front = l.front; shape = l.shape; names = l.names; entries = l.entries.items } };
+    ghost view = { λ l.
+        record { id = l.id; front = l.front; shape = l.shape; names = l.names; entries = l.entries.items } };
 }
 
 /// A log that was read, and where it goes on.
@@ -97,7 +99,8 @@ impl From<TextFault> for LogFault {
 fn read_id(lines: &mut Lines<'_>) -> Result<LogId, TextFault>
     ensures read { IfOk result (λ id. lines.old.left ≡ id_lines id lines.new.left) }
     ensures within { IfOk result (λ id. (id.cluster < 2 ^ 64) × (id.chapter < 2 ^ 64) × (id.begun < 2 ^ 64)) }
-    ensures whole { (id : AnyId) (rest : List (List ℕ)) → id.cluster < 2 ^ 64 → id.process < MOST_PROCESSES → id.chapter < 2 ^ 64 → id.begun < 2 ^ 64 → lines.old.left ≡ id_lines id rest
+    ensures whole { (id : AnyId) (rest : List (List ℕ)) → id.cluster < 2 ^ 64 → id.process < MOST_PROCESSES
+        → id.chapter < 2 ^ 64 → id.begun < 2 ^ 64 → lines.old.left ≡ id_lines id rest
         → MatchResult result (λ i. (i ≡ id) × (lines.new.left ≡ rest)) (λ _. ⊥) }
 {
     expect_line(lines, b"tellwydar log 1")?;
@@ -120,7 +123,8 @@ fn own_entries<A: Allocator + Copy>(
     steps: &[Recorded],
 ) -> Result<Vec<LogEntry, A>, LogFault>
     ensures read { IfOk result (λ v. steps.now ≡ map (recorded_by process) v.items) }
-    ensures whole { (es : List LogEntry) → steps.now ≡ map (recorded_by process) es → MatchResult result (λ v. v.items ≡ es) (λ f. f ≡ LogFault.OutOfMemory) }
+    ensures whole { (es : List LogEntry) → steps.now ≡ map (recorded_by process) es
+        → MatchResult result (λ v. v.items ≡ es) (λ f. f ≡ LogFault.OutOfMemory) }
     ensures kind { IfErr result (λ f. (place : ℕ) → f ≢ LogFault.Damaged place) }
 {
     let mut entries = Vec::new(alloc);
@@ -141,7 +145,8 @@ fn own_entries<A: Allocator + Copy>(
 /// The log of these lines.
 fn read_lines<A: Allocator + Copy>(alloc: A, lines: &mut Lines<'_>) -> Result<Log<A>, LogFault>
     ensures read { IfOk result (λ l. (lines.old.left ≡ log_lines l) × IsJournal l) }
-    ensures whole { (j : Journal) → IsJournal j → lines.old.left ≡ log_lines j → MatchResult result (λ l. l ≡ j) (λ f. f ≡ LogFault.OutOfMemory) }
+    ensures whole { (j : Journal) → IsJournal j → lines.old.left ≡ log_lines j
+        → MatchResult result (λ l. l ≡ j) (λ f. f ≡ LogFault.OutOfMemory) }
     ensures kind { IfErr result (λ f. (place : ℕ) → f ≢ LogFault.Damaged place) }
 {
     let id = read_id(lines)?;
@@ -172,9 +177,12 @@ pub fn read_log<A: Allocator + Copy>(
     bytes: &[u8],
     durable: u64,
 ) -> Result<ReadLog<A>, LogFault>
-    ensures read { IfOk result (λ r. (tail : List ℕ) × SpellsLog bytes.now r.log tail × (r.whole ≡ length (log_text r.log)) × (r.crc ≡ log_crc r.log)) }
+    ensures read { IfOk result
+        (λ r. (tail : List ℕ) × SpellsLog bytes.now r.log tail × (r.whole ≡ length (log_text r.log))
+        × (r.crc ≡ log_crc r.log)) }
     ensures good { IfOk result (λ r. IsJournal r.log × (durable ≤ length r.log.entries)) }
-    ensures whole { (j : Journal) (tail : List ℕ) → IsJournal j → SpellsLog bytes.now j tail → durable ≤ length j.entries → MatchResult result (λ r. r.log ≡ j) (λ f. f ≡ LogFault.OutOfMemory) }
+    ensures whole { (j : Journal) (tail : List ℕ) → IsJournal j → SpellsLog bytes.now j tail
+        → durable ≤ length j.entries → MatchResult result (λ r. r.log ≡ j) (λ f. f ≡ LogFault.OutOfMemory) }
     ensures fault { IfErr result (IsLogFault bytes.now durable) }
 {
     let Ok(unsealed) = unseal(alloc, bytes) else {

@@ -1,5 +1,6 @@
 //! Lines behind their seals.
-ghost use Rattle.std.specs.Prelude.{◌≡◌, ◌<◌, ◌↔◌, ℕ, List, ◌∷◌, ◌++◌, [], length, IfOk, IfSome, IsSomeAnd, IsTrue, OnOk};
+ghost use Rattle.std.specs.Prelude.{◌≡◌, ◌<◌, ◌↔◌, ℕ, List, ◌∷◌, ◌++◌, [], length, IfOk, IfSome, IsSomeAnd, IsTrue};
+ghost use Rattle.std.specs.Prelude.{OnOk};
 ghost use Rattle.reg_text.specs.Parts.{Lacks};
 ghost use Rattle.reg_node.specs.Seals.{IsSealed, crc_behind, seal_text, sealed_line};
 ghost use Rattle.reg_node.specs.Unsealing.{IsUnsealed};
@@ -20,7 +21,8 @@ fn next_sealed(crc: u32, bytes: &[u8]) -> Option<(&[u8], u32, &[u8])>
     ensures read { IfSome result (λ p. (bytes.now ≡ sealed_line crc p.0.now ++ p.2.now) × Lacks 10 p.0.now) }
     ensures crc { IfSome result (λ p. p.1 ≡ crc_behind crc p.0.now) }
     ensures shorter { IfSome result (λ p. length p.2.now < length bytes.now) }
-    ensures whole { (line rest : List ℕ) → Lacks 10 line → bytes.now ≡ sealed_line crc line ++ rest → IsSomeAnd result (λ p. (p.0.now ≡ line) × (p.2.now ≡ rest)) }
+    ensures whole { (line rest : List ℕ) → Lacks 10 line → bytes.now ≡ sealed_line crc line ++ rest
+        → IsSomeAnd result (λ p. (p.0.now ≡ line) × (p.2.now ≡ rest)) }
 {
     let (front, rest) = cut_at(bytes, b'\n')?;
     let (seal, behind) = cut(front, 8)?;
@@ -85,7 +87,8 @@ pub(crate) fn seal<A: Allocator + Copy>(
 ) -> Result<u32, AllocError>
     ensures crc { IfOk result (λ c. c ≡ crc_behind crc line.now) }
     ensures added { OnOk result (text.new.items ≡ text.old.items ++ sealed_line crc line.now) }
-    ensures grows { (lines : List (List ℕ)) → IsSealed text.old.items crc lines → IfOk result (λ c. IsSealed text.new.items c (lines ++ line.now ∷ [])) }
+    ensures grows { (lines : List (List ℕ)) → IsSealed text.old.items crc lines
+        → IfOk result (λ c. IsSealed text.new.items c (lines ++ line.now ∷ [])) }
 {
     let behind = put_sealed(text, crc, line)?;
     Ok(behind)

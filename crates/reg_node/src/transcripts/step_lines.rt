@@ -8,7 +8,8 @@ ghost use Rattle.reg_process.specs.declared.steps.Reply.{Reply as AnyReply};
 ghost use Rattle.reg_process.specs.declared.steps.Step.{Step as AnyStep};
 ghost use Rattle.reg_records.specs.declared.entries.LogEntry.{LogEntry as AnyEntry};
 ghost use Rattle.reg_node.specs.declared.transcripts.recorded.Recorded.{Recorded as AnyRecorded};
-ghost use Rattle.reg_node.specs.RecordLines.{EntryFits, RecordedFits, ReplyFits, StepFits, entry_text, frame_text, recorded_text, reply_text, step_text};
+ghost use Rattle.reg_node.specs.RecordLines.{EntryFits, RecordedFits, ReplyFits, StepFits, entry_text, frame_text};
+ghost use Rattle.reg_node.specs.RecordLines.{recorded_text, reply_text, step_text};
 ghost use Rattle.reg_node.specs.Refusals.{IsStepLine};
 
 use crate::transcripts::frame_text::read_frame;
@@ -25,7 +26,8 @@ const LAST_PROCESS: u64 = 255;
 /// The sender and the frame of a take.
 fn read_take(text: &[u8]) -> Option<(u8, Frame)>
     ensures read { IfSome result (λ p. (text.now ≡ decimal p.0 ++ 32 ∷ frame_text p.1) × (p.0 ≤ 255) × Fits p.1) }
-    ensures whole { (from : ℕ) (frame : AnyFrame) → from ≤ 255 → Fits frame → text.now ≡ decimal from ++ 32 ∷ frame_text frame → result ≡ Some (from, frame) }
+    ensures whole { (from : ℕ) (frame : AnyFrame) → from ≤ 255 → Fits frame
+        → text.now ≡ decimal from ++ 32 ∷ frame_text frame → result ≡ Some (from, frame) }
 {
     let (from, digits) = field_within(text, LAST_PROCESS, b' ')?;
     let frame = read_frame(digits)?;
@@ -57,7 +59,8 @@ fn read_step<A: Allocator + Copy>(text: &[u8], names: &Names<A>) -> Option<Step>
 /// The value and the place of an answer that is a value.
 fn read_value(text: &[u8]) -> Option<(u64, u64)>
     ensures read { IfSome result (λ p. (text.now ≡ decimal p.0 ++ 32 ∷ decimal p.1) × (p.0 < 2 ^ 64) × (p.1 < 2 ^ 64)) }
-    ensures whole { (value place : ℕ) → value < 2 ^ 64 → place < 2 ^ 64 → text.now ≡ decimal value ++ 32 ∷ decimal place → result ≡ Some (value, place) }
+    ensures whole { (value place : ℕ) → value < 2 ^ 64 → place < 2 ^ 64 → text.now ≡ decimal value ++ 32 ∷ decimal place
+        → result ≡ Some (value, place) }
 {
     let (value, digits) = field_within(text, u64::MAX, b' ')?;
     let place = numeral(digits)?;
@@ -93,7 +96,8 @@ fn read_reply(text: &[u8]) -> Option<Reply>
 
 /// What stands before the last space, where that is the last byte.
 fn before_space(text: &[u8]) -> Option<&[u8]>
-    ensures { MatchOption result ((front : List ℕ) → ¬ (text.now ≡ front ++ 32 ∷ [])) (λ front. text.now ≡ front.now ++ 32 ∷ []) }
+    ensures { MatchOption result ((front : List ℕ) → ¬ (text.now ≡ front ++ 32 ∷ []))
+        (λ front. text.now ≡ front.now ++ 32 ∷ []) }
 {
     text.strip_suffix(b" ")
 }
@@ -105,8 +109,11 @@ fn read_answered<A: Allocator + Copy>(
     names: &Names<A>,
 ) -> Option<(Step, Reply)>
     requires { names_fault names.now ≡ None }
-    ensures read { IfSome result (λ p. (front.now ≡ step_text names.now p.0 ++ 32 ∷ []) × (behind.now ≡ 32 ∷ reply_text p.1) × StepFits names.now p.0 × ReplyFits p.1) }
-    ensures whole { (s : AnyStep) (r : AnyReply) → StepFits names.now s → ReplyFits r → front.now ≡ step_text names.now s ++ 32 ∷ [] → behind.now ≡ 32 ∷ reply_text r → result ≡ Some (s, r) }
+    ensures read { IfSome result
+        (λ p. (front.now ≡ step_text names.now p.0 ++ 32 ∷ []) × (behind.now ≡ 32 ∷ reply_text p.1)
+        × StepFits names.now p.0 × ReplyFits p.1) }
+    ensures whole { (s : AnyStep) (r : AnyReply) → StepFits names.now s → ReplyFits r
+        → front.now ≡ step_text names.now s ++ 32 ∷ [] → behind.now ≡ 32 ∷ reply_text r → result ≡ Some (s, r) }
 {
     let text = before_space(front)?;
     let step = read_step(text, names)?;
@@ -140,7 +147,8 @@ fn read_entry<A: Allocator + Copy>(text: &[u8], names: &Names<A>) -> Option<LogE
 pub(crate) fn read_recorded<A: Allocator + Copy>(line: &[u8], names: &Names<A>) -> Option<Recorded>
     requires { names_fault names.now ≡ None }
     ensures read { IfSome result (λ r. (line.now ≡ recorded_text names.now r) × RecordedFits names.now r) }
-    ensures whole { (r : AnyRecorded) → RecordedFits names.now r → line.now ≡ recorded_text names.now r → result ≡ Some r }
+    ensures whole { (r : AnyRecorded) → RecordedFits names.now r → line.now ≡ recorded_text names.now r
+        → result ≡ Some r }
 {
     let (process, text) = field_within(line, LAST_PROCESS, b' ')?;
     let entry = read_entry(text, names)?;

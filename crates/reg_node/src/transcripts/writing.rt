@@ -5,7 +5,8 @@ ghost use Rattle.reg_frames.specs.Spelling.{Fits};
 ghost use Rattle.reg_text.specs.Ops.{OpFits};
 ghost use Rattle.reg_process.specs.declared.steps.Step.TheVariants.{Call};
 ghost use Rattle.reg_node.specs.LineFaults.{IsEntryFault, IsFrameFault, IsStepFault};
-ghost use Rattle.reg_node.specs.RecordLines.{IsFitting, RecordedFits, ReplyFits, StepFits, frame_text, recorded_text, reply_text, step_text, told_text};
+ghost use Rattle.reg_node.specs.RecordLines.{IsFitting, RecordedFits, ReplyFits, StepFits, frame_text, recorded_text};
+ghost use Rattle.reg_node.specs.RecordLines.{reply_text, step_text, told_text};
 ghost use Rattle.reg_node.specs.Seals.{crc_behind, sealed_line};
 
 use crate::transcripts::recorded::Recorded;
@@ -143,7 +144,8 @@ pub fn recorded_line<A: Allocator + Copy>(
     names: &Names<A>,
     recorded: &Recorded,
 ) -> Result<String<A>, LineFault>
-    ensures line { IfOk result (λ s. (string_bytes s ≡ recorded_text names.now recorded.now) × RecordedFits names.now recorded.now) }
+    ensures line { IfOk result
+        (λ s. (string_bytes s ≡ recorded_text names.now recorded.now) × RecordedFits names.now recorded.now) }
     ensures fault { IfErr result (IsEntryFault names.now recorded.now) }
 {
     let entry = recorded.entry;
@@ -159,7 +161,9 @@ pub fn sealed_entry<A: Allocator + Copy>(
     crc: u32,
     recorded: &Recorded,
 ) -> Result<(Vec<u8, A>, u32), LineFault>
-    ensures line { IfOk result (λ p. (p.0.items ≡ sealed_line crc (recorded_text names.now recorded.now)) × (p.1 ≡ crc_behind crc (recorded_text names.now recorded.now))) }
+    ensures line { IfOk result
+        (λ p. (p.0.items ≡ sealed_line crc (recorded_text names.now recorded.now))
+        × (p.1 ≡ crc_behind crc (recorded_text names.now recorded.now))) }
     ensures fits { OnOk result (RecordedFits names.now recorded.now) }
     ensures fault { IfErr result (IsEntryFault names.now recorded.now) }
 {

@@ -19,7 +19,8 @@ fn few_layers<A: Allocator + Copy>(
 ) -> Result<LastLayer<A>, InterleavingFault>
     requires playable { ArePlayable (lists scripts.now) registers }
     requires some { 0 < most }
-    ensures layer { IfOk result (λ last. IsLayer (lists scripts.now) registers (operation_count (lists scripts.now)) (entries_of last.layer)) }
+    ensures layer { IfOk result
+        (λ last. IsLayer (lists scripts.now) registers (operation_count (lists scripts.now)) (entries_of last.layer)) }
     ensures stages { IfOk result (λ last. CountsStages (lists scripts.now) registers last.stages) }
     ensures few { IfOk result (λ last. last.stages ≤ most) }
     ensures refused { IfErr result (IsFewFault (lists scripts.now) registers most) }

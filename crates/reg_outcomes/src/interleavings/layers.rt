@@ -4,8 +4,10 @@ ghost use Rattle.std.specs.List.{sum_by};
 ghost use Rattle.reg_base.specs.Lists.{lists};
 ghost use Rattle.reg_base.specs.declared.limits.TheConstants.{MOST_PROCESSES};
 ghost use Rattle.reg_base.specs.Order.{In};
-ghost use Rattle.reg_outcomes.specs.Interleavings.{ArePlayable, CountsStages, IsFault, IsWider, Stage as AnyStage, first_stage};
-ghost use Rattle.reg_outcomes.specs.Layers.{Adds, IsLayer, IsNext, IsNextOf, IsReady, IsStep, Refuses, entries_of, operation_count, stage_of};
+ghost use Rattle.reg_outcomes.specs.Interleavings.{ArePlayable, CountsStages, IsFault, IsWider, Stage as AnyStage};
+ghost use Rattle.reg_outcomes.specs.Interleavings.{first_stage};
+ghost use Rattle.reg_outcomes.specs.Layers.{Adds, IsLayer, IsNext, IsNextOf, IsReady, IsStep, Refuses, entries_of};
+ghost use Rattle.reg_outcomes.specs.Layers.{operation_count, stage_of};
 
 use crate::faults::InterleavingFault;
 use crate::interleavings::stages::Stage;
@@ -58,10 +60,15 @@ impl<A: Allocator + Copy> GrowingLayer<A> {
         turns: &[u8],
         process: u8,
     ) -> Result<(), InterleavingFault>
-        ensures adds { OnOk result (Adds (λ f. f ≡ (stage_of stage, turns.now ++ process ∷ [])) (entries_of self.old.layer) (entries_of self.new.layer)) }
-        ensures narrow { OnOk result (length self.old.layer.entries ≤ self.old.limit → length self.new.layer.entries ≤ self.old.limit) }
+        ensures adds { OnOk result
+            (Adds (λ f. f
+            ≡ (stage_of stage, turns.now ++ process ∷ [])) (entries_of self.old.layer) (entries_of self.new.layer)) }
+        ensures narrow { OnOk result
+            (length self.old.layer.entries ≤ self.old.limit → length self.new.layer.entries ≤ self.old.limit) }
         ensures limit { self.new.limit ≡ self.old.limit }
-        ensures refused { IfErr result (Refuses self.old.limit (λ f. f ≡ (stage_of stage, turns.now ++ process ∷ [])) (entries_of self.old.layer)) }
+        ensures refused { IfErr result
+            (Refuses self.old.limit (λ f. f
+            ≡ (stage_of stage, turns.now ++ process ∷ [])) (entries_of self.old.layer)) }
     {
         if self.layer.contains_key(&stage) {
             return Ok(());
@@ -84,10 +91,15 @@ impl<A: Allocator + Copy> GrowingLayer<A> {
     ) -> Result<(), InterleavingFault>
         requires process { process < length scripts.now }
         requires ready { IsReady (lists scripts.now) (stage_of stage.now) }
-        ensures adds { OnOk result (Adds (IsStep (lists scripts.now) process (stage_of stage.now, turns.now)) (entries_of self.old.layer) (entries_of self.new.layer)) }
-        ensures narrow { OnOk result (length self.old.layer.entries ≤ self.old.limit → length self.new.layer.entries ≤ self.old.limit) }
+        ensures adds { OnOk result
+            (Adds (IsStep (lists scripts.now) process (stage_of stage.now, turns.now)) (entries_of self.old.layer)
+            (entries_of self.new.layer)) }
+        ensures narrow { OnOk result
+            (length self.old.layer.entries ≤ self.old.limit → length self.new.layer.entries ≤ self.old.limit) }
         ensures limit { self.new.limit ≡ self.old.limit }
-        ensures refused { IfErr result (Refuses self.old.limit (IsStep (lists scripts.now) process (stage_of stage.now, turns.now)) (entries_of self.old.layer)) }
+        ensures refused { IfErr result
+            (Refuses self.old.limit (IsStep (lists scripts.now) process (stage_of stage.now, turns.now))
+            (entries_of self.old.layer)) }
     {
         match stage.next_op(scripts, process) {
             Some(op) => {
@@ -107,10 +119,15 @@ impl<A: Allocator + Copy> GrowingLayer<A> {
     ) -> Result<(), InterleavingFault>
         requires few { length scripts.now ≤ MOST_PROCESSES }
         requires ready { IsReady (lists scripts.now) (stage_of stage.now) }
-        ensures adds { OnOk result (Adds (IsNext (lists scripts.now) (stage_of stage.now, turns.now)) (entries_of self.old.layer) (entries_of self.new.layer)) }
-        ensures narrow { OnOk result (length self.old.layer.entries ≤ self.old.limit → length self.new.layer.entries ≤ self.old.limit) }
+        ensures adds { OnOk result
+            (Adds (IsNext (lists scripts.now) (stage_of stage.now, turns.now)) (entries_of self.old.layer)
+            (entries_of self.new.layer)) }
+        ensures narrow { OnOk result
+            (length self.old.layer.entries ≤ self.old.limit → length self.new.layer.entries ≤ self.old.limit) }
         ensures limit { self.new.limit ≡ self.old.limit }
-        ensures refused { IfErr result (Refuses self.old.limit (IsNext (lists scripts.now) (stage_of stage.now, turns.now)) (entries_of self.old.layer)) }
+        ensures refused { IfErr result
+            (Refuses self.old.limit (IsNext (lists scripts.now) (stage_of stage.now, turns.now))
+            (entries_of self.old.layer)) }
     {
         let processes = scripts.len() as u8;
         for process in 0..processes {
@@ -182,7 +199,8 @@ pub(crate) fn last_layer<A: Allocator + Copy>(
 ) -> Result<LastLayer<A>, InterleavingFault>
     requires playable { ArePlayable (lists scripts.now) registers }
     requires some { 0 < limit }
-    ensures layer { IfOk result (λ last. IsLayer (lists scripts.now) registers (operation_count (lists scripts.now)) (entries_of last.layer)) }
+    ensures layer { IfOk result
+        (λ last. IsLayer (lists scripts.now) registers (operation_count (lists scripts.now)) (entries_of last.layer)) }
     ensures stages { IfOk result (λ last. CountsStages (lists scripts.now) registers last.stages) }
     ensures narrow { OnOk result (¬ IsWider (lists scripts.now) registers limit) }
     ensures refused { IfErr result (IsFault (lists scripts.now) registers limit) }

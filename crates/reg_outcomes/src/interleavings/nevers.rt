@@ -47,7 +47,8 @@ fn add_longer<A: Allocator + Copy>(
     values: &[ToldAnswer],
     combinations: &mut Combinations<A>,
 ) -> Result<(), AllocError>
-    ensures { OnOk result (Grows (IsLonger values.now combination.now) (lists_of combinations.old) (lists_of combinations.new)) }
+    ensures { OnOk result
+        (Grows (IsLonger values.now combination.now) (lists_of combinations.old) (lists_of combinations.new)) }
 {
     for value in values {
         let mut longer = Vec::with_capacity(alloc, combination.len() + 1)?;
@@ -67,7 +68,9 @@ fn next_combinations<A: Allocator + Copy>(
 ) -> Result<Option<Combinations<A>>, AllocError>
     requires whole { (first : List AnyAnswer) × IsAt (tells outcomes.now) 0 first × (place < length first) }
     requires all { AreCombinations (tells outcomes.now) place (lists_of combinations) }
-    ensures { IfOk result (λ found. MatchOption found (AreOver (tells outcomes.now) MOST_NEVERS) (λ next. AreCombinations (tells outcomes.now) (place + 1) (lists_of next))) }
+    ensures { IfOk result
+        (λ found. MatchOption found (AreOver (tells outcomes.now) MOST_NEVERS)
+        (λ next. AreCombinations (tells outcomes.now) (place + 1) (lists_of next))) }
 {
     let values = values_at(alloc, outcomes, place)?;
     let most = outcomes.len() + MOST_NEVERS as usize;
@@ -88,7 +91,9 @@ fn all_combinations<A: Allocator + Copy>(
     places: usize,
 ) -> Result<Option<Combinations<A>>, AllocError>
     requires { (first : List AnyAnswer) × IsAt (tells outcomes.now) 0 first × (places ≡ length first) }
-    ensures { IfOk result (λ found. MatchOption found (AreOver (tells outcomes.now) MOST_NEVERS) (λ all. AreCombinations (tells outcomes.now) places (lists_of all))) }
+    ensures { IfOk result
+        (λ found. MatchOption found (AreOver (tells outcomes.now) MOST_NEVERS)
+        (λ all. AreCombinations (tells outcomes.now) places (lists_of all))) }
 {
     let mut combinations = BTreeSet::new(alloc);
     combinations.insert(Vec::new(alloc))?;
@@ -115,7 +120,9 @@ fn listed_within<A: Allocator + Copy>(
     alloc: A,
     combinations: Combinations<A>,
 ) -> Result<Option<Vec<Vec<ToldAnswer, A>, A>>, AllocError>
-    ensures list { IfOk result (λ found. MatchOption found (MOST_NEVERS < length combinations.keys) (λ list. (list.items ≡ combinations.keys) × (length combinations.keys ≤ MOST_NEVERS))) }
+    ensures list { IfOk result
+        (λ found. MatchOption found (MOST_NEVERS < length combinations.keys)
+        (λ list. (list.items ≡ combinations.keys) × (length combinations.keys ≤ MOST_NEVERS))) }
     ensures ordered { OnOk result (IsOrdered (λ a b. slice_cmp told_cmp a.items b.items) combinations) }
 {
     if combinations.len() > MOST_NEVERS as usize {
@@ -138,7 +145,8 @@ pub fn nevers_of<A: Allocator + Copy>(
     alloc: A,
     outcomes: &[Outcome<A>],
 ) -> Result<Option<Vec<Vec<ToldAnswer, A>, A>>, AllocError>
-    ensures { IfOk result (λ found. TellsNevers (tells outcomes.now) MOST_NEVERS (option_map (λ list. lists list.items) found)) }
+    ensures { IfOk result
+        (λ found. TellsNevers (tells outcomes.now) MOST_NEVERS (option_map (λ list. lists list.items) found)) }
 {
     let Some(first) = outcomes.first() else {
         return Ok(Some(Vec::new(alloc)));

@@ -6,7 +6,8 @@ ghost use Rattle.reg_base.specs.Lists.{lists};
 ghost use Rattle.reg_outcomes.specs.Told.{told_cmp};
 ghost use Rattle.reg_base.specs.declared.memory.Op.{Op as AnyOp};
 ghost use Rattle.reg_outcomes.specs.Interleavings.{AreAll, ArePlayable, CountsStages, IsFault, IsWider};
-ghost use Rattle.reg_outcomes.specs.Layers.{Adds, IsLayer, IsToldIn, entries_of, interleaving_of, operation_count, told_entries};
+ghost use Rattle.reg_outcomes.specs.Layers.{Adds, IsLayer, IsToldIn, entries_of, interleaving_of, operation_count};
+ghost use Rattle.reg_outcomes.specs.Layers.{told_entries};
 
 use crate::faults::InterleavingFault;
 use crate::interleavings::layers::{LastLayer, Layer, last_layer};
@@ -46,7 +47,8 @@ fn add_outcome<A: Allocator + Copy>(
     turns: Vec<u8, A>,
     outcomes: &mut TurnsByOutcome<A>,
 ) -> Result<(), AllocError>
-    ensures { OnOk result (Adds (λ o. o ≡ (told.items, turns.items)) (told_entries outcomes.old) (told_entries outcomes.new)) }
+    ensures { OnOk result
+        (Adds (λ o. o ≡ (told.items, turns.items)) (told_entries outcomes.old) (told_entries outcomes.new)) }
 {
     if !outcomes.contains_key(&told) {
         outcomes.insert(told, turns)?;
@@ -100,7 +102,10 @@ pub(crate) fn tell_last<A: Allocator + Copy>(
     alloc: A,
     last: LastLayer<A>,
 ) -> Result<AllOutcomes<A>, AllocError>
-    ensures outcomes { IfOk result (λ all. (scripts : List (List AnyOp)) (registers : ℕ) → IsLayer scripts registers (operation_count scripts) (entries_of last.layer) → AreAll scripts registers all.list.items) }
+    ensures outcomes { IfOk result
+        (λ all. (scripts : List (List AnyOp)) (registers : ℕ)
+        → IsLayer scripts registers (operation_count scripts) (entries_of last.layer)
+        → AreAll scripts registers all.list.items) }
     ensures stages { IfOk result (λ all. all.stages ≡ last.stages) }
 {
     let LastLayer { layer, stages } = last;

@@ -109,7 +109,8 @@ impl<A: Allocator + Copy> Stage<A> {
         requires process { process < length self.now.next.items }
         requires register { register_of op < length self.now.memory.items }
         requires number { slice_index self.now.next.items process < u32.MAX }
-        ensures next { IfOk result (λ s. s.next.items ≡ slice_set self.now.next.items process (slice_index self.now.next.items process + 1)) }
+        ensures next { IfOk result (λ s. s.next.items
+            ≡ slice_set self.now.next.items process (slice_index self.now.next.items process + 1)) }
         ensures memory { IfOk result (λ s. s.memory.items ≡ after op self.now.memory.items) }
         ensures told { IfOk result (λ s. s.told.items ≡ told.items) }
     {

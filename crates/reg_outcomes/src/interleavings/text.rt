@@ -85,7 +85,8 @@ fn put_nevers<A: Allocator + Copy, W: Write>(
     sink: &mut Sink<'_, W>,
     nevers: &Option<Vec<Vec<ToldAnswer, A>, A>>,
 )
-    ensures { Puts W.contents sink.old sink.new (text_of (never_lines (option_map (λ list. lists list.items) nevers.now))) }
+    ensures { Puts W.contents sink.old sink.new
+        (text_of (never_lines (option_map (λ list. lists list.items) nevers.now))) }
 {
     match nevers {
         None => put_count(sink, "never over ", MOST_NEVERS as u64),
@@ -103,7 +104,8 @@ fn put_all<A: Allocator + Copy, W: Write>(
     all: &AllOutcomes<A>,
     nevers: &Option<Vec<Vec<ToldAnswer, A>, A>>,
 )
-    ensures { Puts W.contents sink.old sink.new (all_text operations all.now.stages all.now.list.items (option_map (λ list. lists list.items) nevers.now)) }
+    ensures { Puts W.contents sink.old sink.new
+        (all_text operations all.now.stages all.now.list.items (option_map (λ list. lists list.items) nevers.now)) }
 {
     put_count(sink, "operations ", operations);
     put_count(sink, "stages ", all.stages);
@@ -120,7 +122,8 @@ pub fn write_all<A: Allocator + Copy, W: Write>(
     all: &AllOutcomes<A>,
     nevers: &Option<Vec<Vec<ToldAnswer, A>, A>>,
 ) -> Result<(), Unwritten>
-    ensures { IsWritten result (W.contents writer.old) (W.contents writer.new) (all_text operations all.now.stages all.now.list.items (option_map (λ list. lists list.items) nevers.now)) }
+    ensures { IsWritten result (W.contents writer.old) (W.contents writer.new)
+        (all_text operations all.now.stages all.now.list.items (option_map (λ list. lists list.items) nevers.now)) }
 {
     let mut sink = Sink::new(writer);
     put_all(&mut sink, operations, all, nevers);

@@ -3,7 +3,8 @@ ghost use Rattle.std.specs.Prelude.{◌≡◌, ◌<◌, ◌+◌, ◌*◌, ◌⊎
 ghost use Rattle.reg_base.specs.declared.memory.OpId.{OpId as AnyId};
 ghost use Rattle.reg_checkers.specs.History.{IsFinished};
 ghost use Rattle.reg_checkers.specs.Progress.{op_of};
-ghost use Rattle.reg_outcomes.specs.Forced.{AreForced, AreNone, AreRaised, Comes, IsCount, IsNoneRow, count_at, count_in};
+ghost use Rattle.reg_outcomes.specs.Forced.{AreForced, AreNone, AreRaised, Comes, IsCount, IsNoneRow, count_at};
+ghost use Rattle.reg_outcomes.specs.Forced.{count_in};
 ghost use Rattle.reg_outcomes.specs.Sought.{Sought as AnySought};
 
 use crate::orders::finder::Finder;
@@ -54,7 +55,9 @@ fn word_at(row: &[u32], place: usize) -> Option<u32>
 
 /// The counts of an operation, by process, None where it has none.
 fn counts_of<A: Allocator + Copy>(counts: &Counts<A>, processes: u8, id: OpId) -> Option<&[u32]>
-    ensures { IfSome result (λ own. (p k : ℕ) → slice_get own.now p ≡ Some k → (p < processes) × (count_at (id.number * processes + p) id.process counts.now.items ≡ Some k)) }
+    ensures { IfSome result
+        (λ own. (p k : ℕ) → slice_get own.now p ≡ Some k
+        → (p < processes) × (count_at (id.number * processes + p) id.process counts.now.items ≡ Some k)) }
 {
     let Some(row) = counts.get(usize::from(id.process)) else {
         return None;
@@ -136,7 +139,8 @@ impl<A: Allocator + Copy> Before<A> {
     fn set(&mut self, id: OpId, process: u8, count: u32)
         requires process { process < self.old.processes }
         requires there { IsSome (count_in self.old id process) }
-        ensures { (x : AnyId) (p k : ℕ) → IsCount self.new x p k → IsCount self.old x p k ⊎ ((x ≡ id) × (p ≡ process) × (k ≡ count)) }
+        ensures { (x : AnyId) (p k : ℕ) → IsCount self.new x p k
+            → IsCount self.old x p k ⊎ ((x ≡ id) × (p ≡ process) × (k ≡ count)) }
     {
         let place = place_of(self.processes, id.number, process);
         self.counts[usize::from(id.process)][place] = count;
@@ -162,7 +166,8 @@ impl<A: Allocator + Copy> Before<A> {
 
     /// Notes that so many first operations of a process come before an operation. Whether that are more than before.
     pub(crate) fn raise(&mut self, id: OpId, process: u8, count: u32) -> bool
-        ensures { (s : AnySought) → AreForced s self.old → ((m : ℕ) → m < count → Comes s (op_of process m) id) → AreForced s self.new }
+        ensures { (s : AnySought) → AreForced s self.old → ((m : ℕ) → m < count → Comes s (op_of process m) id)
+            → AreForced s self.new }
     {
         match self.count(id, process) {
             Some(known) if known < count => {
@@ -178,7 +183,8 @@ impl<A: Allocator + Copy> Before<A> {
     fn copy(&mut self, id: OpId) -> bool
         ensures processes { self.new.processes ≡ self.old.processes }
         ensures counts { self.new.counts ≡ self.old.counts }
-        ensures copied { IsTrue result → (p k : ℕ) → slice_get self.new.copied.items p ≡ Some k → IsCount self.old id p k }
+        ensures copied { IsTrue result → (p k : ℕ) → slice_get self.new.copied.items p ≡ Some k
+            → IsCount self.old id p k }
     {
         let Some(counts) = counts_of(&self.counts, self.processes, id) else {
             return false;
@@ -192,7 +198,8 @@ impl<A: Allocator + Copy> Before<A> {
 
     /// Raises the counts of an operation to those that were copied. Whether one was less.
     fn raise_to_copied(&mut self, id: OpId) -> bool
-        ensures { (x : AnyId) (p k : ℕ) → IsCount self.new x p k → IsCount self.old x p k ⊎ ((x ≡ id) × (slice_get self.old.copied.items p ≡ Some k)) }
+        ensures { (x : AnyId) (p k : ℕ) → IsCount self.new x p k
+            → IsCount self.old x p k ⊎ ((x ≡ id) × (slice_get self.old.copied.items p ≡ Some k)) }
     {
         let process = usize::from(id.process);
         if process >= self.counts.len() {
@@ -210,7 +217,8 @@ impl<A: Allocator + Copy> Before<A> {
     /// Raises the counts of an operation to those of another, whose counts tell what comes before it. Whether one was
     /// less.
     fn raise_all(&mut self, id: OpId, other: OpId) -> bool
-        ensures { (x : AnyId) (p k : ℕ) → IsCount self.new x p k → IsCount self.old x p k ⊎ ((x ≡ id) × IsCount self.old other p k) }
+        ensures { (x : AnyId) (p k : ℕ) → IsCount self.new x p k
+            → IsCount self.old x p k ⊎ ((x ≡ id) × IsCount self.old other p k) }
     {
         if !self.copy(other) {
             return false;

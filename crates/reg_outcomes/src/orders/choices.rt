@@ -32,7 +32,8 @@ pub(crate) struct Choice {
 
 /// Whether an operation may come where the memory gives it this answer.
 fn may_come(fact: Fact, answer: Answer) -> bool
-    ensures { (n registers : ℕ) (h : List Entry) (id : AnyId) → IsHistory n registers h → IsFactOf h id fact → (IsTrue result ↔ MayCome h id fact.op answer) }
+    ensures { (n registers : ℕ) (h : List Entry) (id : AnyId) → IsHistory n registers h → IsFactOf h id fact
+        → (IsTrue result ↔ MayCome h id fact.op answer) }
 {
     match fact.answered {
         Some(given) => given.answer == answer,
@@ -65,8 +66,12 @@ fn placeable<A: Allocator + Copy>(
 ) -> Option<Fact>
     requires process { process < finder.now.shape.processes }
     requires room { HasRoomFor finder.now.shape.processes finder.now.shape.registers (stage_of stage.now) }
-    ensures placed { MatchOption result ((to : AnyStage) → ¬ IsPlaced finder.now.kind finder.now.entries process (stage_of stage.now) to) (λ fact. IsPlaced finder.now.kind finder.now.entries process (stage_of stage.now) (placed_after process fact.op (stage_of stage.now))) }
-    ensures fact { IfSome result (IsFactOf finder.now.entries (op_of process (slice_index stage.now.next.items process))) }
+    ensures placed { MatchOption result
+        ((to : AnyStage) → ¬ IsPlaced finder.now.kind finder.now.entries process (stage_of stage.now) to)
+        (λ fact. IsPlaced finder.now.kind finder.now.entries process (stage_of stage.now)
+        (placed_after process fact.op (stage_of stage.now))) }
+    ensures fact { IfSome result
+        (IsFactOf finder.now.entries (op_of process (slice_index stage.now.next.items process))) }
 {
     let number = next_number(&stage.next, process);
     let id = OpId { process, number };
@@ -134,7 +139,9 @@ fn offer<A: Allocator + Copy>(
     requires few { finder.now.shape.processes ≤ 64 }
     requires history { IsHistory finder.now.shape.processes finder.now.shape.registers finder.now.entries }
     requires room { HasRoomFor finder.now.shape.processes finder.now.shape.registers (stage_of stage.now) }
-    ensures { MatchOption result (IsPastBy finder.now.kind finder.now.entries tried (stage_of stage.now) process) (IsChoice finder.now.kind finder.now.shape.processes finder.now.shape.registers finder.now.entries tried (stage_of stage.now)) }
+    ensures { MatchOption result (IsPastBy finder.now.kind finder.now.entries tried (stage_of stage.now) process)
+        (IsChoice finder.now.kind finder.now.shape.processes finder.now.shape.registers finder.now.entries tried
+        (stage_of stage.now)) }
 {
     if has(tried, process) {
         return None;
@@ -166,7 +173,10 @@ pub(crate) fn choose<A: Allocator + Copy>(
     requires few { finder.now.shape.processes ≤ 64 }
     requires history { IsHistory finder.now.shape.processes finder.now.shape.registers finder.now.entries }
     requires room { HasRoomFor finder.now.shape.processes finder.now.shape.registers (stage_of stage.now) }
-    ensures { MatchOption result (IsPast finder.now.kind finder.now.entries tried (stage_of stage.now) finder.now.shape.processes) (IsChoice finder.now.kind finder.now.shape.processes finder.now.shape.registers finder.now.entries tried (stage_of stage.now)) }
+    ensures { MatchOption result
+        (IsPast finder.now.kind finder.now.entries tried (stage_of stage.now) finder.now.shape.processes)
+        (IsChoice finder.now.kind finder.now.shape.processes finder.now.shape.registers finder.now.entries tried
+        (stage_of stage.now)) }
 {
     let mut best = None;
     let processes = finder.shape().processes() as u8;

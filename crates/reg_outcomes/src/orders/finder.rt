@@ -40,7 +40,8 @@ impl<'a, A: Allocator + Copy> Model for Finder<'a, A> {
 
     ghost Value = { Sought };
 
-    ghost view = { λ f. record { shape = f.history.now.shape; entries = f.history.now.entries; kind = f.kind; limit = f.limit } };
+    ghost view = { λ f.
+        record { shape = f.history.now.shape; entries = f.history.now.entries; kind = f.kind; limit = f.limit } };
 
     ghost invariant = { λ f. IsLog f.history.now × IsTable f.history.now.entries f.facts.items };
 }
@@ -116,7 +117,8 @@ impl<'a, A: Allocator + Copy> Finder<'a, A> {
     /// The answer to a process's next operation, once these numbers of operations are placed, by process. None where it
     /// has no answer.
     fn next_answer(&self, next: &[u32], process: u8) -> Option<Given>
-        ensures { MatchOption result (¬ IsFinished self.now.entries (op_of process (slice_index next.now process))) (λ r. IsAnswered self.now.entries (op_of process (slice_index next.now process)) r.at r.answer) }
+        ensures { MatchOption result (¬ IsFinished self.now.entries (op_of process (slice_index next.now process)))
+            (λ r. IsAnswered self.now.entries (op_of process (slice_index next.now process)) r.at r.answer) }
     {
         let number = next_number(next, process);
         match self.fact(OpId { process, number }) {

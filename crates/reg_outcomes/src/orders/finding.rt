@@ -54,10 +54,12 @@ fn free_choice<A: Allocator + Copy>(
     requires few { finder.now.shape.processes ≤ 64 }
     requires history { IsHistory finder.now.shape.processes finder.now.shape.registers finder.now.entries }
     requires guide { IsGuide finder.now guide.now }
-    requires path { IsPath finder.now.kind finder.now.shape.processes finder.now.shape.registers finder.now.entries walk.now.path.items (stage_of walk.now.stage) }
+    requires path { IsPath finder.now.kind finder.now.shape.processes finder.now.shape.registers finder.now.entries
+        walk.now.path.items (stage_of walk.now.stage) }
     requires tried { AreTried finder.now.kind finder.now.entries (stage_of walk.now.stage) walk.now.tried }
     requires open { ¬ IsComplete finder.now.entries walk.now.stage.next.items }
-    ensures { MatchOption result (¬ Goes finder.now.kind finder.now.entries (stage_of walk.now.stage)) (IsNextChoice finder.now walk.now) }
+    ensures { MatchOption result (¬ Goes finder.now.kind finder.now.entries (stage_of walk.now.stage))
+        (IsNextChoice finder.now walk.now) }
 {
     let mut tried = walk.tried;
     'choices: loop {
@@ -81,7 +83,8 @@ fn next_choice<A: Allocator + Copy>(
     requires guide { IsGuide finder.now guide.now }
     requires search { IsSearch finder.now walk.now failed.now }
     requires open { ¬ IsComplete finder.now.entries walk.now.stage.next.items }
-    ensures { MatchOption result (¬ Goes finder.now.kind finder.now.entries (stage_of walk.now.stage)) (IsNextChoice finder.now walk.now) }
+    ensures { MatchOption result (¬ Goes finder.now.kind finder.now.entries (stage_of walk.now.stage))
+        (IsNextChoice finder.now walk.now) }
 {
     if walk.tried == 0 && loses_value(finder, &guide.uses, walk) {
         return None;
@@ -114,7 +117,9 @@ fn go_back<A: Allocator + Copy>(
     requires search { IsSearch finder.now walk.old failed.old }
     requires fails { ¬ Goes finder.now.kind finder.now.entries (stage_of walk.old.stage) }
     ensures turned { IfOk result (IsTurned finder.now walk.old walk.new failed.new) }
-    ensures refused { IfErr result (IsFindFault finder.now.kind finder.now.shape.processes finder.now.shape.registers finder.now.entries finder.now.limit) }
+    ensures refused { IfErr result
+        (IsFindFault finder.now.kind finder.now.shape.processes finder.now.shape.registers finder.now.entries
+        finder.now.limit) }
 {
     failed.note(walk.path.len(), walk.stage.copied(alloc)?)?;
     if walk.back() {
@@ -137,7 +142,9 @@ fn go_on<A: Allocator + Copy>(
     requires guide { IsGuide finder.now guide.now }
     requires search { IsSearch finder.now walk.old failed.old }
     ensures turned { IfOk result (IsTurned finder.now walk.old walk.new failed.new) }
-    ensures refused { IfErr result (IsFindFault finder.now.kind finder.now.shape.processes finder.now.shape.registers finder.now.entries finder.now.limit) }
+    ensures refused { IfErr result
+        (IsFindFault finder.now.kind finder.now.shape.processes finder.now.shape.registers finder.now.entries
+        finder.now.limit) }
 {
     failed.make_room(alloc, walk.path.len())?;
     if finder.is_complete(&walk.stage.next) {
@@ -165,8 +172,14 @@ fn walk_on<A: Allocator + Copy>(
     requires history { IsHistory finder.now.shape.processes finder.now.shape.registers finder.now.entries }
     requires guide { IsGuide finder.now guide.now }
     requires search { IsSearch finder.now walk.old failed.old }
-    ensures placed { IfOk result (λ all. MatchBool all (IsSearch finder.now walk.new failed.new × IsComplete finder.now.entries walk.new.stage.next.items) (¬ Goes finder.now.kind finder.now.entries (first_stage finder.now.shape.processes finder.now.shape.registers))) }
-    ensures refused { IfErr result (IsFindFault finder.now.kind finder.now.shape.processes finder.now.shape.registers finder.now.entries finder.now.limit) }
+    ensures placed { IfOk result
+        (λ all. MatchBool all
+        (IsSearch finder.now walk.new failed.new × IsComplete finder.now.entries walk.new.stage.next.items)
+        (¬ Goes finder.now.kind finder.now.entries
+        (first_stage finder.now.shape.processes finder.now.shape.registers))) }
+    ensures refused { IfErr result
+        (IsFindFault finder.now.kind finder.now.shape.processes finder.now.shape.registers finder.now.entries
+        finder.now.limit) }
 {
     'turns: loop {
         match go_on(alloc, finder, guide, walk, failed)? {
@@ -185,8 +198,13 @@ fn ids_guided<A: Allocator + Copy>(
 ) -> Result<Option<Vec<OpId, A>>, InterleavingFault>
     requires history { IsHistory finder.now.shape.processes finder.now.shape.registers finder.now.entries }
     requires guide { IsGuide finder.now guide.now }
-    ensures found { IfOk result (λ o. MatchOption o ((ids : List AnyId) → ¬ IsOrder finder.now.kind finder.now.shape.registers finder.now.entries ids) (λ v. IsOrder finder.now.kind finder.now.shape.registers finder.now.entries v.items)) }
-    ensures refused { IfErr result (IsFindFault finder.now.kind finder.now.shape.processes finder.now.shape.registers finder.now.entries finder.now.limit) }
+    ensures found { IfOk result
+        (λ o. MatchOption o
+        ((ids : List AnyId) → ¬ IsOrder finder.now.kind finder.now.shape.registers finder.now.entries ids)
+        (λ v. IsOrder finder.now.kind finder.now.shape.registers finder.now.entries v.items)) }
+    ensures refused { IfErr result
+        (IsFindFault finder.now.kind finder.now.shape.processes finder.now.shape.registers finder.now.entries
+        finder.now.limit) }
 {
     let shape = finder.shape();
     let mut walk = Walk::new(alloc, shape.processes() as usize, shape.registers() as u16)?;
@@ -206,8 +224,13 @@ fn ids_found<A: Allocator + Copy>(
 ) -> Result<Option<Vec<OpId, A>>, InterleavingFault>
     requires history { IsHistory finder.now.shape.processes finder.now.shape.registers finder.now.entries }
     requires before { IfSome before (λ b. AreForced finder.now b) }
-    ensures found { IfOk result (λ o. MatchOption o ((ids : List AnyId) → ¬ IsOrder finder.now.kind finder.now.shape.registers finder.now.entries ids) (λ v. IsOrder finder.now.kind finder.now.shape.registers finder.now.entries v.items)) }
-    ensures refused { IfErr result (IsFindFault finder.now.kind finder.now.shape.processes finder.now.shape.registers finder.now.entries finder.now.limit) }
+    ensures found { IfOk result
+        (λ o. MatchOption o
+        ((ids : List AnyId) → ¬ IsOrder finder.now.kind finder.now.shape.registers finder.now.entries ids)
+        (λ v. IsOrder finder.now.kind finder.now.shape.registers finder.now.entries v.items)) }
+    ensures refused { IfErr result
+        (IsFindFault finder.now.kind finder.now.shape.processes finder.now.shape.registers finder.now.entries
+        finder.now.limit) }
 {
     let uses = Uses::new(alloc, finder)?;
     let guide = Guide { uses, before };
@@ -220,8 +243,13 @@ fn ids_by_points<A: Allocator + Copy>(
     history: &History<A>,
     limit: u32,
 ) -> Result<Option<Vec<OpId, A>>, InterleavingFault>
-    ensures found { IfOk result (λ o. MatchOption o ((ids : List AnyId) → ¬ IsOrder OrderKind.Points history.now.shape.registers history.now.entries ids) (λ v. IsOrder OrderKind.Points history.now.shape.registers history.now.entries v.items)) }
-    ensures refused { IfErr result (IsFindFault OrderKind.Points history.now.shape.processes history.now.shape.registers history.now.entries limit) }
+    ensures found { IfOk result
+        (λ o. MatchOption o
+        ((ids : List AnyId) → ¬ IsOrder OrderKind.Points history.now.shape.registers history.now.entries ids)
+        (λ v. IsOrder OrderKind.Points history.now.shape.registers history.now.entries v.items)) }
+    ensures refused { IfErr result
+        (IsFindFault OrderKind.Points history.now.shape.processes history.now.shape.registers history.now.entries
+        limit) }
 {
     let points = Finder::new(alloc, history, OrderKind::Points, limit)?;
     ids_found(alloc, &points, None)
@@ -237,8 +265,11 @@ fn serial_found<A: Allocator + Copy>(
     requires shape { finder.now.shape ≡ history.now.shape }
     requires entries { finder.now.entries ≡ history.now.entries }
     requires in_place { IsHistory finder.now.shape.processes finder.now.shape.registers finder.now.entries }
-    ensures found { IfOk result (λ o. MatchOption o ((ids : List AnyId) → ¬ IsSerial history.now.shape.registers history.now.entries ids) (λ v. IsSerial history.now.shape.registers history.now.entries v.items)) }
-    ensures refused { IfErr result (IsSearchFault history.now.shape.processes history.now.shape.registers history.now.entries finder.now.limit) }
+    ensures found { IfOk result
+        (λ o. MatchOption o ((ids : List AnyId) → ¬ IsSerial history.now.shape.registers history.now.entries ids)
+        (λ v. IsSerial history.now.shape.registers history.now.entries v.items)) }
+    ensures refused { IfErr result
+        (IsSearchFault history.now.shape.processes history.now.shape.registers history.now.entries finder.now.limit) }
 {
     match outlook_of(alloc, finder)? {
         Outlook::Torn => Ok(None),
@@ -265,8 +296,11 @@ pub fn find_serial<A: Allocator + Copy>(
     history: &History<A>,
     limit: u32,
 ) -> Result<Option<Vec<OpId, A>>, InterleavingFault>
-    ensures found { IfOk result (λ o. MatchOption o ((ids : List AnyId) → ¬ IsSerial history.now.shape.registers history.now.entries ids) (λ v. IsSerial history.now.shape.registers history.now.entries v.items)) }
-    ensures refused { IfErr result (IsSearchFault history.now.shape.processes history.now.shape.registers history.now.entries limit) }
+    ensures found { IfOk result
+        (λ o. MatchOption o ((ids : List AnyId) → ¬ IsSerial history.now.shape.registers history.now.entries ids)
+        (λ v. IsSerial history.now.shape.registers history.now.entries v.items)) }
+    ensures refused { IfErr result
+        (IsSearchFault history.now.shape.processes history.now.shape.registers history.now.entries limit) }
 {
     let finder = Finder::new(alloc, history, OrderKind::Serial, limit)?;
     serial_found(alloc, history, &finder)
@@ -309,9 +343,14 @@ fn points_found<A: Allocator + Copy>(
 ) -> Result<Option<Vec<Point, A>>, InterleavingFault>
     requires kind { finder.now.kind ≡ OrderKind.Points }
     requires history { IsHistory finder.now.shape.processes finder.now.shape.registers finder.now.entries }
-    ensures found { IfOk result (λ o. MatchOption o ((points : List AnyPoint) → ¬ IsPointOrder finder.now.shape.registers finder.now.entries points) (λ v. IsPointOrder finder.now.shape.registers finder.now.entries v.items)) }
+    ensures found { IfOk result
+        (λ o. MatchOption o
+        ((points : List AnyPoint) → ¬ IsPointOrder finder.now.shape.registers finder.now.entries points)
+        (λ v. IsPointOrder finder.now.shape.registers finder.now.entries v.items)) }
     ensures events { IfOk result (λ o. IfSome o (λ v. (k : ℕ) (p : AnyPoint) → IsAt v.items k p → p.at ≤ LAST_EVENT)) }
-    ensures refused { IfErr result (IsFindFault finder.now.kind finder.now.shape.processes finder.now.shape.registers finder.now.entries finder.now.limit) }
+    ensures refused { IfErr result
+        (IsFindFault finder.now.kind finder.now.shape.processes finder.now.shape.registers finder.now.entries
+        finder.now.limit) }
 {
     match ids_found(alloc, finder, None)? {
         Some(ids) => Ok(Some(points_of(alloc, finder, &ids)?)),
@@ -331,9 +370,14 @@ pub fn find_points<A: Allocator + Copy>(
     history: &History<A>,
     limit: u32,
 ) -> Result<Option<Vec<Point, A>>, InterleavingFault>
-    ensures found { IfOk result (λ o. MatchOption o ((points : List AnyPoint) → ¬ IsPointOrder history.now.shape.registers history.now.entries points) (λ v. IsPointOrder history.now.shape.registers history.now.entries v.items)) }
+    ensures found { IfOk result
+        (λ o. MatchOption o
+        ((points : List AnyPoint) → ¬ IsPointOrder history.now.shape.registers history.now.entries points)
+        (λ v. IsPointOrder history.now.shape.registers history.now.entries v.items)) }
     ensures events { IfOk result (λ o. IfSome o (λ v. (k : ℕ) (p : AnyPoint) → IsAt v.items k p → p.at ≤ LAST_EVENT)) }
-    ensures refused { IfErr result (IsFindFault OrderKind.Points history.now.shape.processes history.now.shape.registers history.now.entries limit) }
+    ensures refused { IfErr result
+        (IsFindFault OrderKind.Points history.now.shape.processes history.now.shape.registers history.now.entries
+        limit) }
 {
     let finder = Finder::new(alloc, history, OrderKind::Points, limit)?;
     points_found(alloc, &finder)

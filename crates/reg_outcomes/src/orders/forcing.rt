@@ -116,7 +116,8 @@ pub(crate) fn put_before_source<A: Allocator + Copy>(
 
 /// Whether all these makers come before an operation.
 fn is_behind<A: Allocator + Copy>(before: &Before<A>, maker: Maker, other: OpId) -> bool
-    ensures { (s : AnySought) → IsTrue result → AreForced s before.now → (x : AnyId) → Covers maker x → Comes s x other }
+    ensures { (s : AnySought) → IsTrue result → AreForced s before.now → (x : AnyId) → Covers maker x
+        → Comes s x other }
 {
     match maker {
         Maker::Only(source) => before.has(source, other),
@@ -126,7 +127,8 @@ fn is_behind<A: Allocator + Copy>(before: &Before<A>, maker: Maker, other: OpId)
 
 /// Whether all that may leave what a reader finds comes before an operation.
 fn is_behind_source<A: Allocator + Copy>(before: &Before<A>, reader: Reader, other: OpId) -> bool
-    ensures { (s : AnySought) → IsTrue result → IsReader s.entries reader → AreForced s before.now → (x : AnyId) → IsMaker s.entries reader.value x → Comes s x other }
+    ensures { (s : AnySought) → IsTrue result → IsReader s.entries reader → AreForced s before.now → (x : AnyId)
+        → IsMaker s.entries reader.value x → Comes s x other }
 {
     match reader.source {
         Some(maker) => is_behind(before, maker, other),

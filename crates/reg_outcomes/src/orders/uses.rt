@@ -1,10 +1,12 @@
 //! The values of registers that operations make, and those that they need: where a value is needed still that no
 //! operation makes any more, there is no order.
-ghost use Rattle.std.specs.Prelude.{◌≡◌, ◌≢◌, ◌<◌, ◌≤◌, ◌⊎◌, ℕ, IfOk, IfSome, IsTrue, MatchBool, OnOk, Some, length, slice_index};
+ghost use Rattle.std.specs.Prelude.{◌≡◌, ◌≢◌, ◌<◌, ◌≤◌, ◌⊎◌, ℕ, IfOk, IfSome, IsTrue, MatchBool, OnOk, Some, length};
+ghost use Rattle.std.specs.Prelude.{slice_index};
 ghost use Rattle.std.specs.BTreeMap.{get};
 ghost use Rattle.reg_base.specs.Memory.{Memory, after, answer_of, register_of};
 ghost use Rattle.reg_outcomes.specs.Layers.{stage_of};
-ghost use Rattle.reg_outcomes.specs.Losing.{AreUses, Asks, HasLater, HasNoLater, IsAsker, IsAtLeast, IsLost, IsMakerNoted, made_of, use_cmp};
+ghost use Rattle.reg_outcomes.specs.Losing.{AreUses, Asks, HasLater, HasNoLater, IsAsker, IsAtLeast, IsLost};
+ghost use Rattle.reg_outcomes.specs.Losing.{IsMakerNoted, made_of, use_cmp};
 
 use crate::interleavings::stages::Stage;
 use crate::orders::finder::{Finder, next_number};
@@ -31,7 +33,10 @@ pub(crate) fn made(op: Op) -> Option<u64>
 /// The value that an operation surely leaves in its register, None where it leaves all as it is, or may. A
 /// compare-and-swap leaves one where it found what it expects.
 pub(crate) fn left_by(fact: Fact) -> Option<u64>
-    ensures { IfSome result (λ v. (m : Memory) → register_of fact.op < length m → IfSome fact.answered (λ given. given.answer ≡ answer_of fact.op m) → slice_index (after fact.op m) (register_of fact.op) ≡ v) }
+    ensures { IfSome result
+        (λ v. (m : Memory) → register_of fact.op < length m
+        → IfSome fact.answered (λ given. given.answer ≡ answer_of fact.op m)
+        → slice_index (after fact.op m) (register_of fact.op) ≡ v) }
 {
     match fact.op {
         Op::Read { .. } => None,
@@ -85,7 +90,9 @@ fn note_last<A: Allocator + Copy>(
 ) -> Result<(), AllocError>
     ensures noted { OnOk result (IsAtLeast lasts.new key number) }
     ensures kept { OnOk result ((q : ℕ × (ℕ × ℕ)) (v : ℕ) → IsAtLeast lasts.old q v → IsAtLeast lasts.new q v) }
-    ensures only { OnOk result ((q : ℕ × (ℕ × ℕ)) (v : ℕ) → get use_cmp lasts.new q ≡ Some v → (get use_cmp lasts.old q ≡ Some v) ⊎ ((q ≡ key) × (v ≡ number))) }
+    ensures only { OnOk result
+        ((q : ℕ × (ℕ × ℕ)) (v : ℕ) → get use_cmp lasts.new q ≡ Some v
+        → (get use_cmp lasts.old q ≡ Some v) ⊎ ((q ≡ key) × (v ≡ number))) }
 {
     let later = later_of(last_of(lasts, key), number);
     lasts.insert(key, later)?;
@@ -129,7 +136,9 @@ fn note_asker<A: Allocator + Copy>(
     finder: &Finder<'_, A>,
     entry: Entry,
 ) -> Result<(), AllocError>
-    ensures { OnOk result ((q : ℕ × (ℕ × ℕ)) (v : ℕ) → get use_cmp askers.new q ≡ Some v → (get use_cmp askers.old q ≡ Some v) ⊎ IsAsker finder.now.entries q v) }
+    ensures { OnOk result
+        ((q : ℕ × (ℕ × ℕ)) (v : ℕ) → get use_cmp askers.new q ≡ Some v
+        → (get use_cmp askers.old q ≡ Some v) ⊎ IsAsker finder.now.entries q v) }
 {
     let Entry::Answered { id, .. } = entry else {
         return Ok(());

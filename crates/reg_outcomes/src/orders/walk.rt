@@ -1,5 +1,6 @@
 //! A walk from stage to stage, each time by one operation that is placed, or is taken back.
-ghost use Rattle.std.specs.Prelude.{◌≡◌, ◌++◌, ◌∷◌, [], ◌<◌, ℕ, List, length, replicate, slice_index, slice_set, IfOk, IsTrue, OnOk};
+ghost use Rattle.std.specs.Prelude.{◌≡◌, ◌++◌, ◌∷◌, [], ◌<◌, ℕ, List, length, replicate, slice_index, slice_set, IfOk};
+ghost use Rattle.std.specs.Prelude.{IsTrue, OnOk};
 ghost use Rattle.std.specs.Prelude.{false, true};
 ghost use Rattle.reg_base.specs.Memory.{register_of};
 ghost use Rattle.reg_outcomes.specs.Interleavings.{first_stage};
@@ -54,9 +55,11 @@ impl<A: Allocator + Copy> Walk<A> {
         requires register { register_of choice.op < length self.old.stage.memory.items }
         requires number { slice_index self.old.stage.next.items choice.process < u32.MAX }
         requires told { self.old.stage.told.items ≡ [] }
-        ensures stage { OnOk result (stage_of self.new.stage ≡ placed_after choice.process choice.op (stage_of self.old.stage)) }
+        ensures stage { OnOk result
+            (stage_of self.new.stage ≡ placed_after choice.process choice.op (stage_of self.old.stage)) }
         ensures tried { OnOk result (self.new.tried ≡ 0) }
-        ensures path { OnOk result (self.new.path.items ≡ self.old.path.items ++ step_of choice (stage_of self.old.stage) ∷ []) }
+        ensures path { OnOk result
+            (self.new.path.items ≡ self.old.path.items ++ step_of choice (stage_of self.old.stage) ∷ []) }
     {
         let process = usize::from(choice.process);
         let register = choice.op.register();
@@ -78,9 +81,12 @@ impl<A: Allocator + Copy> Walk<A> {
 
     /// Takes the last operation back, false where there is none.
     pub(crate) fn back(&mut self) -> bool
-        requires { (steps : List AnyStep) (x : AnyStep) → self.old.path.items ≡ steps ++ x ∷ [] → FitsIn x (stage_of self.old.stage) }
+        requires { (steps : List AnyStep) (x : AnyStep) → self.old.path.items ≡ steps ++ x ∷ []
+            → FitsIn x (stage_of self.old.stage) }
         ensures none { result ≡ false → self.old.path.items ≡ [] }
-        ensures back { result ≡ true → (x : AnyStep) × (self.old.path.items ≡ self.new.path.items ++ x ∷ []) × (stage_of self.new.stage ≡ stage_before x (stage_of self.old.stage)) × (self.new.tried ≡ x.tried) }
+        ensures back { result ≡ true
+            → (x : AnyStep) × (self.old.path.items ≡ self.new.path.items ++ x ∷ [])
+            × (stage_of self.new.stage ≡ stage_before x (stage_of self.old.stage)) × (self.new.tried ≡ x.tried) }
     {
         let Some(step) = self.path.pop() else {
             return false;

@@ -42,8 +42,13 @@ fn count_finished<F: FrontEnd, A: Allocator + Copy>(
     tallies: &mut Tallies<A>,
 ) -> Result<(), InterleavingFault>
     requires { HasRoom (λ v. v.items) tallies.old.told }
-    ensures counted { OnOk result ((s : Seen) × IsSeenIn world.now seed s × ((plays : List Seen) → IsCounted (λ v. v.items) plays tallies.old.told tallies.old.unfinished → IsCounted (λ v. v.items) (plays ++ s ∷ []) tallies.new.told tallies.new.unfinished)) }
-    ensures refused { IfErr result (λ f. IsFindFault Points world.now.processes world.now.registers world.now.history MOST_STAGES f × (f ≡ InterleavingFault.TooManyStages → HasLateWitness F.start world.now)) }
+    ensures counted { OnOk result
+        ((s : Seen) × IsSeenIn world.now seed s
+        × ((plays : List Seen) → IsCounted (λ v. v.items) plays tallies.old.told tallies.old.unfinished
+        → IsCounted (λ v. v.items) (plays ++ s ∷ []) tallies.new.told tallies.new.unfinished)) }
+    ensures refused { IfErr result
+        (λ f. IsFindFault Points world.now.processes world.now.registers world.now.history MOST_STAGES f
+        × (f ≡ InterleavingFault.TooManyStages → HasLateWitness F.start world.now)) }
 {
     let (history, order) = world.serial_order()?;
     let linearizable = is_linearizable(alloc, history, order.as_slice())?;
@@ -68,7 +73,10 @@ fn count_play<F: FrontEnd, A: Allocator + Copy>(
     requires scripts { work.now.shape.processes ≡ length work.now.scripts }
     requires told { HasRoom (λ v. v.items) tallies.old.told }
     requires unfinished { tallies.old.unfinished < u32.MAX }
-    ensures counted { OnOk result ((s : Seen) × IsSeen F.start work.now seed s × ((plays : List Seen) → IsCounted (λ v. v.items) plays tallies.old.told tallies.old.unfinished → IsCounted (λ v. v.items) (plays ++ s ∷ []) tallies.new.told tallies.new.unfinished)) }
+    ensures counted { OnOk result
+        ((s : Seen) × IsSeen F.start work.now seed s
+        × ((plays : List Seen) → IsCounted (λ v. v.items) plays tallies.old.told tallies.old.unfinished
+        → IsCounted (λ v. v.items) (plays ++ s ∷ []) tallies.new.told tallies.new.unfinished)) }
     ensures refused { IfErr result (IsPlayFault F.start work.now seed) }
 {
     let words = SeedWords::new(seed);
@@ -91,7 +99,9 @@ fn count_plays<F: FrontEnd, A: Allocator + Copy>(
     plays: u32,
 ) -> Result<Tallies<A>, InterleavingFault>
     requires { plays ≤ MOST_PLAYS }
-    ensures counted { IfOk result (λ t. (seen : List Seen) × AreSeen F.start work.now plays seen × IsCounted (λ v. v.items) seen t.told t.unfinished) }
+    ensures counted { IfOk result
+        (λ t. (seen : List Seen) × AreSeen F.start work.now plays seen
+        × IsCounted (λ v. v.items) seen t.told t.unfinished) }
     ensures refused { IfErr result (IsPlaysFault F.start work.now plays) }
 {
     let mut tallies = Tallies::new(alloc);

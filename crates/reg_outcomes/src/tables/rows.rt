@@ -68,7 +68,9 @@ pub fn table_of<A: Allocator + Copy>(
     alloc: A,
     told: BTreeMap<Vec<ToldAnswer, A>, Tally, A>,
 ) -> Result<Vec<Row<A>, A>, AllocError>
-    ensures { IfOk result (λ v. (plays : List Seen) (unfinished : ℕ) → IsCounted (λ k. k.items) plays told unfinished → IsTable plays v.items) }
+    ensures { IfOk result
+        (λ v. (plays : List Seen) (unfinished : ℕ) → IsCounted (λ k. k.items) plays told unfinished
+        → IsTable plays v.items) }
 {
     let mut rows = listed(alloc, told)?;
     sort(&mut rows);

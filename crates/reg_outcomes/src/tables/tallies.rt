@@ -47,7 +47,9 @@ pub struct Tallies<A: Allocator + Copy = Global> {
 /// The seed of the first play of a kind, linearizable or not, among some plays and one more. `is_such` says whether
 /// that one is of the kind.
 fn first_of(seed: Option<u64>, glance: Glance, is_such: bool) -> Option<u64>
-    ensures { (kind : Bool) (plays : List Seen) (outcome : List ToldAnswer) → (is_such ≡ true) ↔ (glance.linearizable ≡ kind) → IsFirst kind plays seed → IsFirst kind (plays ++ finished_play outcome glance ∷ []) result }
+    ensures { (kind : Bool) (plays : List Seen) (outcome : List ToldAnswer)
+        → (is_such ≡ true) ↔ (glance.linearizable ≡ kind) → IsFirst kind plays seed
+        → IsFirst kind (plays ++ finished_play outcome glance ∷ []) result }
 {
     seed.or(is_such.then_some(glance.seed))
 }
@@ -81,7 +83,8 @@ fn shortest(tally: Tally, glance: Glance) -> (u32, u64)
 /// What is told of these plays and one more.
 fn joined(tally: Tally, glance: Glance) -> Tally
     requires { tally.count < u32.MAX }
-    ensures { (plays : List Seen) (outcome : List ToldAnswer) → IsTally plays tally → IsTally (plays ++ finished_play outcome glance ∷ []) result }
+    ensures { (plays : List Seen) (outcome : List ToldAnswer) → IsTally plays tally
+        → IsTally (plays ++ finished_play outcome glance ∷ []) result }
 {
     let (events, seed) = shortest(tally, glance);
     Tally {
@@ -100,7 +103,8 @@ fn next<A: Allocator + Copy>(
     glance: Glance,
 ) -> Tally
     requires { HasRoom (λ v. v.items) told.now }
-    ensures { (plays : List Seen) → TellsOf plays outcome.now.items (get (key_cmp (λ v. v.items)) told.now outcome.now) → IsTallyOf (plays ++ finished_play outcome.now.items glance ∷ []) outcome.now.items result }
+    ensures { (plays : List Seen) → TellsOf plays outcome.now.items (get (key_cmp (λ v. v.items)) told.now outcome.now)
+        → IsTallyOf (plays ++ finished_play outcome.now.items glance ∷ []) outcome.now.items result }
 {
     match told.get(outcome) {
         Some(tally) => joined(*tally, glance),
@@ -126,7 +130,10 @@ impl<A: Allocator + Copy> Tallies<A> {
     /// Memory was refused.
     pub fn add(&mut self, outcome: Vec<ToldAnswer, A>, glance: Glance) -> Result<(), AllocError>
         requires { HasRoom (λ v. v.items) self.old.told }
-        ensures { OnOk result ((plays : List Seen) → IsCounted (λ v. v.items) plays self.old.told self.old.unfinished → IsCounted (λ v. v.items) (plays ++ finished_play outcome.items glance ∷ []) self.new.told self.new.unfinished) }
+        ensures { OnOk result
+            ((plays : List Seen) → IsCounted (λ v. v.items) plays self.old.told self.old.unfinished
+            → IsCounted (λ v. v.items) (plays ++ finished_play outcome.items glance ∷ []) self.new.told
+            self.new.unfinished) }
     {
         let tally = next(&self.told, &outcome, glance);
         self.told.insert(outcome, tally)?;
@@ -136,7 +143,9 @@ impl<A: Allocator + Copy> Tallies<A> {
     /// Counts a play that is not finished.
     pub fn add_unfinished(&mut self)
         requires { self.old.unfinished < u32.MAX }
-        ensures { (plays : List Seen) (s : Seen) → s.is_finished ≡ false → IsCounted (λ v. v.items) plays self.old.told self.old.unfinished → IsCounted (λ v. v.items) (plays ++ s ∷ []) self.new.told self.new.unfinished }
+        ensures { (plays : List Seen) (s : Seen) → s.is_finished ≡ false
+            → IsCounted (λ v. v.items) plays self.old.told self.old.unfinished
+            → IsCounted (λ v. v.items) (plays ++ s ∷ []) self.new.told self.new.unfinished }
     {
         self.unfinished += 1;
     }

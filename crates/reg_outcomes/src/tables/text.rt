@@ -4,7 +4,8 @@ ghost use Rattle.std.specs.Fmt.{decimal};
 ghost use Rattle.reg_text.specs.Columns.{to_right};
 ghost use Rattle.reg_text.specs.Lines.{text_of};
 ghost use Rattle.reg_text.specs.Writing.{Puts, IsWritten};
-ghost use Rattle.reg_outcomes.specs.TableText.{firsts_text, line_text, play_text, seed_text, shortest_text, table_text, time_text, undrawn_lines};
+ghost use Rattle.reg_outcomes.specs.TableText.{firsts_text, line_text, play_text, seed_text, shortest_text, table_text};
+ghost use Rattle.reg_outcomes.specs.TableText.{time_text, undrawn_lines};
 
 use crate::tables::plays::Outcomes;
 use crate::tables::rows::Row;
@@ -117,7 +118,8 @@ fn put_table<A: Allocator + Copy, W: Write>(
     plays: u32,
     outcomes: &Outcomes<A>,
 )
-    ensures { Puts W.contents sink.old sink.new (table_text plays outcomes.now.rows.items outcomes.now.unfinished outcomes.now.undrawn) }
+    ensures { Puts W.contents sink.old sink.new
+        (table_text plays outcomes.now.rows.items outcomes.now.unfinished outcomes.now.undrawn) }
 {
     let rows = outcomes.rows.as_slice();
     put_count(sink, "plays ", plays as u64);
@@ -133,7 +135,8 @@ pub fn write_table<A: Allocator + Copy, W: Write>(
     plays: u32,
     outcomes: &Outcomes<A>,
 ) -> Result<(), Unwritten>
-    ensures { IsWritten result (W.contents writer.old) (W.contents writer.new) (table_text plays outcomes.now.rows.items outcomes.now.unfinished outcomes.now.undrawn) }
+    ensures { IsWritten result (W.contents writer.old) (W.contents writer.new)
+        (table_text plays outcomes.now.rows.items outcomes.now.unfinished outcomes.now.undrawn) }
 {
     let mut sink = Sink::new(writer);
     put_table(&mut sink, plays, outcomes);

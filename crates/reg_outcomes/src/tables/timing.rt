@@ -97,8 +97,10 @@ pub(crate) fn is_linearizable<A: Allocator + Copy>(
 ) -> Result<bool, InterleavingFault>
     requires { IsSerial history.now.shape.registers history.now.entries order.now }
     ensures found { IfOk result (λ is. (is ≡ true) ↔ IsLinearizable history.now.shape.registers history.now.entries) }
-    ensures refused { IfErr result (IsFindFault Points history.now.shape.processes history.now.shape.registers history.now.entries MOST_STAGES) }
-    ensures late { IfErr result (λ f. f ≡ InterleavingFault.TooManyStages → ¬ KeepsRealTime history.now.entries order.now) }
+    ensures refused { IfErr result
+        (IsFindFault Points history.now.shape.processes history.now.shape.registers history.now.entries MOST_STAGES) }
+    ensures late { IfErr result (λ f. f ≡ InterleavingFault.TooManyStages
+        → ¬ KeepsRealTime history.now.entries order.now) }
 {
     if keeps_real_time(alloc, history.entries(), order)? {
         return Ok(true);

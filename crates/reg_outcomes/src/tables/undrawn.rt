@@ -24,7 +24,9 @@ fn undrawn_with<A: Allocator + Copy>(
     undrawn: usize,
 ) -> usize
     requires { undrawn < 2 ^ 64 - 1 }
-    ensures counted { (plays : List Seen) (unfinished : ℕ) (others : List Interleaving) → IsCounted (λ v. v.items) plays told.now unfinished → CountsUndrawn plays others undrawn → CountsUndrawn plays (others ++ outcome.now ∷ []) result }
+    ensures counted { (plays : List Seen) (unfinished : ℕ) (others : List Interleaving)
+        → IsCounted (λ v. v.items) plays told.now unfinished → CountsUndrawn plays others undrawn
+        → CountsUndrawn plays (others ++ outcome.now ∷ []) result }
     ensures one { result ≤ undrawn + 1 }
 {
     if told.contains_key(&outcome.told) {
@@ -39,7 +41,8 @@ fn undrawn_of<A: Allocator + Copy>(
     told: &BTreeMap<Vec<ToldAnswer, A>, Tally, A>,
     outcomes: &[Outcome<A>],
 ) -> usize
-    ensures { (plays : List Seen) (unfinished : ℕ) → IsCounted (λ v. v.items) plays told.now unfinished → CountsUndrawn plays outcomes.now result }
+    ensures { (plays : List Seen) (unfinished : ℕ) → IsCounted (λ v. v.items) plays told.now unfinished
+        → CountsUndrawn plays outcomes.now result }
 {
     let mut undrawn = 0;
     for outcome in outcomes {
@@ -59,7 +62,9 @@ pub(crate) fn count_undrawn<A: Allocator + Copy>(
     work: &Workload<A>,
     told: &BTreeMap<Vec<ToldAnswer, A>, Tally, A>,
 ) -> Result<Option<usize>, AllocError>
-    ensures { IfOk result (λ o. (plays : List Seen) (unfinished : ℕ) → IsCounted (λ v. v.items) plays told.now unfinished → TellsUndrawn work.now.scripts work.now.shape.registers plays o) }
+    ensures { IfOk result
+        (λ o. (plays : List Seen) (unfinished : ℕ) → IsCounted (λ v. v.items) plays told.now unfinished
+        → TellsUndrawn work.now.scripts work.now.shape.registers plays o) }
 {
     let scripts = work.scripts.as_slice();
     let registers = work.shape.registers() as u16;

@@ -1,5 +1,6 @@
 //! The calls of a process: how operations start.
-ghost use Rattle.std.specs.Prelude.{◌≡◌, ◌<◌, ◌+◌, [], length, MatchResult, IfOk, OnOk, IfErr, cond, nat_le, Some, None, true, if◌then◌else◌};
+ghost use Rattle.std.specs.Prelude.{◌≡◌, ◌<◌, ◌+◌, [], length, MatchResult, IfOk, OnOk, IfErr, cond, nat_le, Some};
+ghost use Rattle.std.specs.Prelude.{None, true, if◌then◌else◌};
 ghost use Rattle.reg_base.specs.Memory.{after, register_of};
 ghost use Rattle.reg_process.specs.Process.{unsettled, look as look_of, called, Held};
 ghost use Rattle.reg_process.specs.Steps.{Stops, StopsAt, Goes, cast_start, own_running, MakesCast};
@@ -76,7 +77,9 @@ impl<A: Allocator + Copy> Core<A> {
         requires register { register_of op < length self.old.copy }
         requires calls { self.old.calls < MOST_OPERATIONS }
         requires may { MayStart op (unsettled self.old) start }
-        ensures goes { OnOk result (Goes (length self.old.peers) (called self.old op start) (puts_of brief.new.sends) brief.new.effect.cast brief.new.effect.delivered.items brief.new.effect.reply self.new) }
+        ensures goes { OnOk result
+            (Goes (length self.old.peers) (called self.old op start) (puts_of brief.new.sends) brief.new.effect.cast
+            brief.new.effect.delivered.items brief.new.effect.reply self.new) }
         ensures room { OnOk result (full_at self.old.clock start ≡ None) }
         ensures fault { IfErr result (λ fault. StopsAt (full_at self.old.clock start) fault) }
         ensures memory { IfErr result (λ _. is_cast start ≡ true) }
@@ -128,7 +131,9 @@ impl<A: Allocator + Copy> Core<A> {
     fn broadcast(&mut self, op: Op, runs: bool, brief: &mut Brief<A>) -> Result<(), ProcessFault>
         requires register { register_of op < length self.old.copy }
         requires calls { self.old.calls < MOST_OPERATIONS }
-        ensures goes { OnOk result (Goes (length self.old.peers) (called self.old op (cast_start runs)) (puts_of brief.new.sends) brief.new.effect.cast brief.new.effect.delivered.items brief.new.effect.reply self.new) }
+        ensures goes { OnOk result
+            (Goes (length self.old.peers) (called self.old op (cast_start runs)) (puts_of brief.new.sends)
+            brief.new.effect.cast brief.new.effect.delivered.items brief.new.effect.reply self.new) }
         ensures room { OnOk result (self.old.clock < LAST_TIME) }
         ensures fault { IfErr result (λ fault. Stops (nat_le LAST_TIME self.old.clock) fault) }
     {
@@ -143,7 +148,8 @@ impl<A: Allocator + Copy> Core<A> {
     fn cast(&mut self, op: Op, runs: bool, sends: &mut Sends) -> Result<Stamp, ProcessFault>
         requires register { register_of op < length self.old.copy }
         requires calls { self.old.calls < MOST_OPERATIONS }
-        ensures { MatchResult result (λ stamp. MakesCast self.old op runs stamp (puts_of sends.new) self.new) (λ fault. Stops (nat_le LAST_TIME self.old.clock) fault) }
+        ensures { MatchResult result (λ stamp. MakesCast self.old op runs stamp (puts_of sends.new) self.new)
+            (λ fault. Stops (nat_le LAST_TIME self.old.clock) fault) }
     {
         let Ok(time) = self.clock.tick() else {
             return Err(ProcessFault::ClockFull);

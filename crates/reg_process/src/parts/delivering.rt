@@ -72,7 +72,8 @@ fn end_answered(running: &mut Option<Current>, reply: Option<Reply>)
 impl<A: Allocator + Copy> Core<A> {
     /// Delivers the first held cast, if it is clear.
     fn deliver_one(&mut self) -> Option<(Delivered, Option<Reply>)>
-        ensures { MatchOption result (DeliversNone self.old × (self.new ≡ self.old)) (λ r. DeliversOne self.old r.0 r.1 self.new) }
+        ensures { MatchOption result (DeliversNone self.old × (self.new ≡ self.old))
+            (λ r. DeliversOne self.old r.0 r.1 self.new) }
     {
         let Some((stamp, op)) = self.waiting.pop() else {
             return None;

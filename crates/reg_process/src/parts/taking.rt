@@ -1,9 +1,13 @@
 //! The frames that a process takes.
-ghost use Rattle.std.specs.Prelude.{◌≡◌, ◌<◌, ◌+◌, [], length, MatchResult, IfOk, OnOk, OnErr, IfErr, max, not, nat_le, nat_lt, slice_index, slice_set, Some, None, false, true, IsErrOf, if◌then◌else◌, vec_capacity};
+ghost use Rattle.std.specs.Prelude.{◌≡◌, ◌<◌, ◌+◌, [], length, MatchResult, IfOk, OnOk, OnErr, IfErr, max, not, nat_le};
+ghost use Rattle.std.specs.Prelude.{nat_lt, slice_index, slice_set, Some, None, false, true, IsErrOf, if◌then◌else◌};
+ghost use Rattle.std.specs.Prelude.{vec_capacity};
 ghost use Rattle.reg_base.specs.Memory.{after, register_of};
 ghost use Rattle.reg_process.specs.Process.{peer_at, seen_at, next_of, acknowledged, accepted, taken, time_of};
-ghost use Rattle.reg_process.specs.Steps.{Stops, StopsAt, is_peer as is_peer_of, FrameRefused, Goes, TakesCast, TakesAck, TakesBody};
-ghost use Rattle.reg_process.specs.Faults.{early_body, full_by, is_out as is_out_of, frame_fault, takes_memory, body_memory};
+ghost use Rattle.reg_process.specs.Steps.{Stops, StopsAt, is_peer as is_peer_of, FrameRefused, Goes, TakesCast};
+ghost use Rattle.reg_process.specs.Steps.{TakesAck, TakesBody};
+ghost use Rattle.reg_process.specs.Faults.{early_body, full_by, is_out as is_out_of, frame_fault, takes_memory};
+ghost use Rattle.reg_process.specs.Faults.{body_memory};
 ghost use Rattle.reg_process.specs.Sending.{puts_of};
 ghost use Rattle.reg_frames.specs.declared.bodies.Body.TheVariants.{Cast, Ack};
 ghost use Rattle.reg_frames.specs.declared.bodies.Frame.TheVariants.{Numbered, Got};
@@ -98,9 +102,12 @@ impl<A: Allocator + Copy> Core<A> {
     ) -> Result<(), ProcessFault>
         requires peer { from < length self.old.peers }
         requires other { from ≡ self.old.me → ⊥ }
-        ensures goes { OnOk result (Goes (length self.old.peers) (taken self.old from frame.now) (puts_of brief.new.sends) brief.new.effect.cast brief.new.effect.delivered.items brief.new.effect.reply self.new) }
+        ensures goes { OnOk result
+            (Goes (length self.old.peers) (taken self.old from frame.now) (puts_of brief.new.sends)
+            brief.new.effect.cast brief.new.effect.delivered.items brief.new.effect.reply self.new) }
         ensures room { OnOk result (frame_fault self.old from frame.now ≡ None) }
-        ensures fault { IfErr result (λ fault. FrameRefused (frame_fault self.old from frame.now) self.old fault self.new) }
+        ensures fault { IfErr result
+            (λ fault. FrameRefused (frame_fault self.old from frame.now) self.old fault self.new) }
         ensures memory { IsErrOf result ProcessFault.OutOfMemory → takes_memory self.old 1 from frame.now ≡ true }
     {
         match *frame {
@@ -113,9 +120,12 @@ impl<A: Allocator + Copy> Core<A> {
     fn take_got(&mut self, from: u8, count: u64, brief: &mut Brief<A>) -> Result<(), ProcessFault>
         requires peer { from < length self.old.peers }
         requires other { from ≡ self.old.me → ⊥ }
-        ensures goes { OnOk result (Goes (length self.old.peers) (taken self.old from (Got count)) (puts_of brief.new.sends) brief.new.effect.cast brief.new.effect.delivered.items brief.new.effect.reply self.new) }
+        ensures goes { OnOk result
+            (Goes (length self.old.peers) (taken self.old from (Got count)) (puts_of brief.new.sends)
+            brief.new.effect.cast brief.new.effect.delivered.items brief.new.effect.reply self.new) }
         ensures room { OnOk result (frame_fault self.old from (Got count) ≡ None) }
-        ensures fault { IfErr result (λ fault. FrameRefused (frame_fault self.old from (Got count)) self.old fault self.new) }
+        ensures fault { IfErr result
+            (λ fault. FrameRefused (frame_fault self.old from (Got count)) self.old fault self.new) }
         ensures ahead { IfErr result (λ fault. fault ≡ ProcessFault.Ahead) }
     {
         if !self.acknowledge(from, count) {
@@ -147,10 +157,14 @@ impl<A: Allocator + Copy> Core<A> {
     ) -> Result<(), ProcessFault>
         requires peer { from < length self.old.peers }
         requires other { from ≡ self.old.me → ⊥ }
-        ensures goes { OnOk result (Goes (length self.old.peers) (taken self.old from (Numbered number body)) (puts_of brief.new.sends) brief.new.effect.cast brief.new.effect.delivered.items brief.new.effect.reply self.new) }
+        ensures goes { OnOk result
+            (Goes (length self.old.peers) (taken self.old from (Numbered number body)) (puts_of brief.new.sends)
+            brief.new.effect.cast brief.new.effect.delivered.items brief.new.effect.reply self.new) }
         ensures room { OnOk result (frame_fault self.old from (Numbered number body) ≡ None) }
-        ensures fault { IfErr result (λ fault. FrameRefused (frame_fault self.old from (Numbered number body)) self.old fault self.new) }
-        ensures memory { IsErrOf result ProcessFault.OutOfMemory → takes_memory self.old 1 from (Numbered number body) ≡ true }
+        ensures fault { IfErr result
+            (λ fault. FrameRefused (frame_fault self.old from (Numbered number body)) self.old fault self.new) }
+        ensures memory { IsErrOf result ProcessFault.OutOfMemory
+            → takes_memory self.old 1 from (Numbered number body) ≡ true }
     {
         let expected = self.expected(from);
         if number != expected {
@@ -201,7 +215,9 @@ impl<A: Allocator + Copy> Core<A> {
         requires peer { from < length self.old.peers }
         requires other { from ≡ self.old.me → ⊥ }
         requires early { early_body self.old from body.now ≡ None }
-        ensures goes { OnOk result (Goes (length self.old.peers) (accepted self.old from body.now) (puts_of brief.new.sends) brief.new.effect.cast brief.new.effect.delivered.items brief.new.effect.reply self.new) }
+        ensures goes { OnOk result
+            (Goes (length self.old.peers) (accepted self.old from body.now) (puts_of brief.new.sends)
+            brief.new.effect.cast brief.new.effect.delivered.items brief.new.effect.reply self.new) }
         ensures room { OnOk result (full_by self.old body.now ≡ None) }
         ensures fault { IfErr result (λ fault. StopsAt (full_by self.old body.now) fault) }
         ensures memory { IsErrOf result ProcessFault.OutOfMemory → body_memory self.old 1 from body.now ≡ true }
@@ -215,7 +231,8 @@ impl<A: Allocator + Copy> Core<A> {
         requires peer { from < length self.old.peers }
         requires other { from ≡ self.old.me → ⊥ }
         requires early { early_body self.old from body.now ≡ None }
-        ensures taken { MatchResult result (λ _. TakesBody self.old from body.now (puts_of sends.new) self.new) (λ fault. StopsAt (full_by self.old body.now) fault) }
+        ensures taken { MatchResult result (λ _. TakesBody self.old from body.now (puts_of sends.new) self.new)
+            (λ fault. StopsAt (full_by self.old body.now) fault) }
         ensures memory { IsErrOf result ProcessFault.OutOfMemory → body_memory self.old 1 from body.now ≡ true }
     {
         match *body {
@@ -236,7 +253,8 @@ impl<A: Allocator + Copy> Core<A> {
         requires other { from ≡ self.old.me → ⊥ }
         requires register { register_of op < length self.old.copy }
         requires fresh { seen_at self.old from < time }
-        ensures { MatchResult result (λ _. TakesCast self.old from time op (puts_of sends.new) self.new) (λ fault. Stops (nat_le LAST_TIME (max self.old.clock time)) fault) }
+        ensures { MatchResult result (λ _. TakesCast self.old from time op (puts_of sends.new) self.new)
+            (λ fault. Stops (nat_le LAST_TIME (max self.old.clock time)) fault) }
     {
         let Ok(now) = self.clock.receive(time) else {
             return Err(ProcessFault::ClockFull);
@@ -263,7 +281,8 @@ impl<A: Allocator + Copy> Core<A> {
         requires peer { from < length self.old.peers }
         requires other { from ≡ self.old.me → ⊥ }
         requires fresh { seen_at self.old from < time }
-        ensures taken { MatchResult result (λ _. TakesAck self.old from time (puts_of sends.new) self.new) (λ fault. Stops (nat_le LAST_TIME (max self.old.clock time)) fault) }
+        ensures taken { MatchResult result (λ _. TakesAck self.old from time (puts_of sends.new) self.new)
+            (λ fault. Stops (nat_le LAST_TIME (max self.old.clock time)) fault) }
         ensures memory { IfErr result (λ fault. fault ≡ ProcessFault.ClockFull) }
     {
         let Ok(_) = self.clock.receive(time) else {

@@ -46,5 +46,19 @@ impl<A: Allocator + Copy> Model for Data<A> {
 
     ghost Value = { AnyData };
 
-    ghost view = { λ d. record { notes = d.notes; processes = d.processes; names = d.names; front = d.front; facts = d.moments.items; looks = d.looks.items; arrows = d.arrows.items; bars = d.bars.items; order = d.order.items; reads = d.reads.items; witness = d.witness.items; points = option_map (λ v. v.items) d.points } };
+    ghost view = { λ d.
+        record {
+          notes = d.notes;
+          processes = d.processes;
+          names = d.names;
+          front = d.front;
+          facts = d.moments.items;
+          looks = d.looks.items;
+          arrows = d.arrows.items;
+          bars = d.bars.items;
+          order = d.order.items;
+          reads = d.reads.items;
+          witness = d.witness.items;
+          points = option_map (λ v. v.items) d.points;
+        } };
 }

@@ -20,7 +20,8 @@ pub fn put_events<A: Allocator + Copy, W: Write>(
     moments: &[Moment<A>],
     notes: &Notes<A>,
 )
-    ensures { Puts W.contents sink.old sink.new (lines_text (moment_part names.now) (noted moments.now notes.now.notes)) }
+    ensures { Puts W.contents sink.old sink.new
+        (lines_text (moment_part names.now) (noted moments.now notes.now.notes)) }
 {
     sink.put(b"[\n");
     for (place, moment) in moments.iter().enumerate() {

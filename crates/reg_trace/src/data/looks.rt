@@ -39,7 +39,14 @@ impl<A: Allocator + Copy> Model for Look<A> {
 
     ghost Value = { AnyLook };
 
-    ghost view = { λ l. record { peers = l.peers.items; held = l.held.items; copy = l.copy.items; delivered = l.delivered; running = option_map running_of l.awaited } };
+    ghost view = { λ l.
+        record {
+          peers = l.peers.items;
+          held = l.held.items;
+          copy = l.copy.items;
+          delivered = l.delivered;
+          running = option_map running_of l.awaited;
+        } };
 }
 
 /// What a process knows of each of the first `processes` processes, and keeps for it.
@@ -113,7 +120,9 @@ pub(crate) fn look_in<F: FrontEnd, A: Allocator + Copy>(
 ) -> Result<Look<A>, AllocError>
     requires going { world.now.failed ≡ false }
     requires process { process < world.now.processes }
-    ensures { IfOk result (λ l. l ≡ look_of (record { processes = world.now.processes; registers = world.now.registers }) ((run_in F.start world.now).nodes process).state) }
+    ensures { IfOk result (λ l. l
+        ≡ look_of (record { processes = world.now.processes; registers = world.now.registers })
+        ((run_in F.start world.now).nodes process).state) }
 {
     match world.process(process) {
         Some(found) => look_at(alloc, world.shape(), found, process),

@@ -5,7 +5,8 @@ ghost use Rattle.reg_trace.specs.Json.{quoted};
 ghost use Rattle.reg_text.specs.Ops.{answer_text, op_text};
 ghost use Rattle.reg_inputs.specs.Schedules.{event_text};
 ghost use Rattle.reg_process.specs.Waits.{running_of};
-ghost use Rattle.reg_trace.specs.Parts.{bar_part, body_part, end_part, frame_part, kept_part, look_part, moment_part, peer_part, reply_part, running_part, sent_part, taken_part};
+ghost use Rattle.reg_trace.specs.Parts.{bar_part, body_part, end_part, frame_part, kept_part, look_part, moment_part};
+ghost use Rattle.reg_trace.specs.Parts.{peer_part, reply_part, running_part, sent_part, taken_part};
 
 use crate::data::json::{Part, put_list, put_numbers};
 use crate::data::looks::{Kept, Look};
@@ -199,7 +200,8 @@ pub fn put_moment<A: Allocator + Copy, B: Allocator + Copy, W: Write>(
     moment: &Moment<B>,
     note: &str,
 )
-    ensures { Puts W.contents sink.old sink.new (moment_part names.now (record { fact = moment.now; note = note.now })) }
+    ensures { Puts W.contents sink.old sink.new
+        (moment_part names.now (record { fact = moment.now; note = note.now })) }
 {
     sink.put(b"{\"event\":");
     put_quoted_event(sink, names, moment.event);

@@ -41,7 +41,8 @@ fn whole_of<F: FrontEnd, A: Allocator + Copy>(
     ensures bars { IfOk result (λ r. r.bars.items ≡ bars_of (run_in F.start world.now).history) }
     ensures order { IfOk result (λ r. r.order.items ≡ (run_in F.start world.now).order) }
     ensures reads { IfOk result (λ r. r.reads.items ≡ (run_in F.start world.now).reads) }
-    ensures witness { IfOk result (λ r. IsWitness (run_of world.now.registers (run_in F.start world.now)) r.witness.items) }
+    ensures witness { IfOk result
+        (λ r. IsWitness (run_of world.now.registers (run_in F.start world.now)) r.witness.items) }
 {
     Ok(Whole {
         arrows: arrows(alloc, moments)?,
@@ -61,9 +62,21 @@ fn data_of<F: FrontEnd, A: Allocator + Copy>(
     watched: WatchedStates<F, A>,
 ) -> Result<(Data<A>, World<F, A>), AllocError>
     requires accepted { (run_in F.start watched.world).accepted ≡ watched.world.accepted }
-    requires told { watched.moments.items ≡ moments_of F.start (record { processes = watched.world.processes; registers = watched.world.registers }) watched.world.accepted }
-    requires states { watched.looks.items ≡ looks_of F.start (record { processes = watched.world.processes; registers = watched.world.registers }) watched.world.accepted }
-    ensures data { let plan : Plan = record { shape = record { processes = watched.world.processes; registers = watched.world.registers }; names = names; front = front; events = watched.world.accepted } in
+    requires told { watched.moments.items
+        ≡ moments_of F.start (record { processes = watched.world.processes; registers = watched.world.registers })
+        watched.world.accepted }
+    requires states { watched.looks.items
+        ≡ looks_of F.start (record { processes = watched.world.processes; registers = watched.world.registers })
+        watched.world.accepted }
+    ensures data { let plan : Plan = record {
+      shape = record {
+        processes = watched.world.processes;
+        registers = watched.world.registers;
+      };
+      names = names;
+      front = front;
+      events = watched.world.accepted;
+    } in
         IfOk result (λ r. IsDataOf F.start plan notes None r.0) }
     ensures world { IfOk result (λ r. r.1 ≡ watched.world) }
 {
@@ -98,8 +111,11 @@ fn tell_run<F: FrontEnd, A: Allocator + Copy>(
 ) -> Result<(Data<A>, World<F, A>), RunFault>
     ensures data { IfOk result (λ r. IsDataOf F.start schedule notes None r.0) }
     ensures world { IfOk result (λ r. r.1 ≡ after_events F.start schedule.shape schedule.events) }
-    ensures refused { IfErr result (λ f. f.fault ≢ WorldFault.OutOfMemory → RunRefuses F.start schedule.shape schedule.events f.at f.fault) }
-    ensures before { IfErr result (λ f. f.fault ≢ WorldFault.OutOfMemory → (run_in F.start (after_events F.start schedule.shape (take f.at schedule.events))).accepted ≡ take f.at schedule.events) }
+    ensures refused { IfErr result (λ f. f.fault ≢ WorldFault.OutOfMemory
+        → RunRefuses F.start schedule.shape schedule.events f.at f.fault) }
+    ensures before { IfErr result (λ f. f.fault ≢ WorldFault.OutOfMemory
+        → (run_in F.start (after_events F.start schedule.shape (take f.at schedule.events))).accepted
+        ≡ take f.at schedule.events) }
 {
     let Schedule {
         shape,
@@ -129,8 +145,11 @@ pub fn tell_data_under<F: FrontEnd, A: Allocator + Copy>(
     notes: Notes<A>,
 ) -> Result<Data<A>, RunFault>
     ensures data { IfOk result (λ d. IsDataOf F.start schedule notes None d) }
-    ensures refused { IfErr result (λ f. f.fault ≢ WorldFault.OutOfMemory → RunRefuses F.start schedule.shape schedule.events f.at f.fault) }
-    ensures before { IfErr result (λ f. f.fault ≢ WorldFault.OutOfMemory → (run_in F.start (after_events F.start schedule.shape (take f.at schedule.events))).accepted ≡ take f.at schedule.events) }
+    ensures refused { IfErr result (λ f. f.fault ≢ WorldFault.OutOfMemory
+        → RunRefuses F.start schedule.shape schedule.events f.at f.fault) }
+    ensures before { IfErr result (λ f. f.fault ≢ WorldFault.OutOfMemory
+        → (run_in F.start (after_events F.start schedule.shape (take f.at schedule.events))).accepted
+        ≡ take f.at schedule.events) }
 {
     match tell_run::<F, A>(alloc, schedule, notes) {
         Ok((data, _world)) => Ok(data),
@@ -149,9 +168,13 @@ pub fn tell_data<F: NamedFront, A: Allocator + Copy>(
     notes: Notes<A>,
 ) -> Result<Data<A>, RunFault>
     ensures data { IfOk result (λ d. IsDataOf F.start schedule notes d.points d) }
-    ensures points { IfOk result (λ d. HasPoints F.front (after_events F.start schedule.shape schedule.events) d.points) }
-    ensures refused { IfErr result (λ f. f.fault ≢ WorldFault.OutOfMemory → RunRefuses F.start schedule.shape schedule.events f.at f.fault) }
-    ensures before { IfErr result (λ f. f.fault ≢ WorldFault.OutOfMemory → (run_in F.start (after_events F.start schedule.shape (take f.at schedule.events))).accepted ≡ take f.at schedule.events) }
+    ensures points { IfOk result
+        (λ d. HasPoints F.front (after_events F.start schedule.shape schedule.events) d.points) }
+    ensures refused { IfErr result (λ f. f.fault ≢ WorldFault.OutOfMemory
+        → RunRefuses F.start schedule.shape schedule.events f.at f.fault) }
+    ensures before { IfErr result (λ f. f.fault ≢ WorldFault.OutOfMemory
+        → (run_in F.start (after_events F.start schedule.shape (take f.at schedule.events))).accepted
+        ≡ take f.at schedule.events) }
 {
     let (mut data, world) = tell_run::<F, A>(alloc, schedule, notes)?;
     let Ok(points) = F::points_of(&world) else {

@@ -101,7 +101,8 @@ pub fn write_data<A: Allocator + Copy, W: Write>(
     run: &Data<A>,
     tail: &str,
 ) -> Result<(), Unwritten>
-    ensures { IsWritten result (W.contents writer.old) (W.contents writer.new) (head.now ++ (data_text run.now ++ tail.now)) }
+    ensures { IsWritten result (W.contents writer.old) (W.contents writer.new)
+        (head.now ++ (data_text run.now ++ tail.now)) }
 {
     let mut sink = Sink::new(writer);
     put_between(&mut sink, head, run, tail);

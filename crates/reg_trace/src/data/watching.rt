@@ -28,9 +28,12 @@ impl<F: FrontEnd, A: Allocator + Copy> WatchedStates<F, A> {
     fn make(&mut self, alloc: A, event: &Event) -> Result<(), WorldFault>
         requires { self.old.world.failed ≡ false }
         ensures made { OnOk result (Accepts F.start self.old.world event.now self.new.world) }
-        ensures told { OnOk result (self.new.moments.items ≡ self.old.moments.items ++ moment_of F.start self.old.world event.now ∷ []) }
-        ensures state { OnOk result (self.new.looks.items ≡ self.old.looks.items ++ look_behind F.start self.old.world event.now ∷ []) }
-        ensures refused { IfErr result (λ f. f ≢ WorldFault.OutOfMemory → refusal F.start self.old.world event.now ≡ Some f) }
+        ensures told { OnOk result
+            (self.new.moments.items ≡ self.old.moments.items ++ moment_of F.start self.old.world event.now ∷ []) }
+        ensures state { OnOk result
+            (self.new.looks.items ≡ self.old.looks.items ++ look_behind F.start self.old.world event.now ∷ []) }
+        ensures refused { IfErr result (λ f. f ≢ WorldFault.OutOfMemory
+            → refusal F.start self.old.world event.now ≡ Some f) }
     {
         let moment = watch(alloc, &mut self.world, event)?;
         let Ok(look) = look_in(alloc, &self.world, moment.process) else {
@@ -53,8 +56,12 @@ pub(crate) fn watch_states<F: FrontEnd, A: Allocator + Copy>(
     ensures world { IfOk result (λ w. w.world ≡ after_events F.start shape events.now) }
     ensures told { IfOk result (λ w. w.moments.items ≡ moments_of F.start shape events.now) }
     ensures states { IfOk result (λ w. w.looks.items ≡ looks_of F.start shape events.now) }
-    ensures refused { IfErr result (λ f. f.fault ≢ WorldFault.OutOfMemory → RunRefuses F.start shape events.now f.at f.fault) }
-    ensures accepted { MatchResult result (λ _. (run_in F.start (after_events F.start shape events.now)).accepted ≡ events.now) (λ f. f.fault ≢ WorldFault.OutOfMemory → (run_in F.start (after_events F.start shape (take f.at events.now))).accepted ≡ take f.at events.now) }
+    ensures refused { IfErr result (λ f. f.fault ≢ WorldFault.OutOfMemory
+        → RunRefuses F.start shape events.now f.at f.fault) }
+    ensures accepted { MatchResult result
+        (λ _. (run_in F.start (after_events F.start shape events.now)).accepted ≡ events.now)
+        (λ f. f.fault ≢ WorldFault.OutOfMemory
+        → (run_in F.start (after_events F.start shape (take f.at events.now))).accepted ≡ take f.at events.now) }
 {
     let Ok(world) = World::new(alloc, shape) else {
         return Err(RunFault {

@@ -3,7 +3,8 @@ ghost use Rattle.std.specs.Prelude.{◌≡◌, ◌<◌, ℕ, true, Some, IfOk, M
 ghost use Rattle.reg_checkers.specs.History.{IsAt};
 ghost use Rattle.reg_history.specs.Reports.{Contents};
 ghost use Rattle.reg_commands.specs.Verdicts.{is_yes_or_none};
-ghost use Rattle.reg_verify.specs.Stories.{AreAlike, DiffersFirst, Follows, GoesOn, IsBreach, IsBreachBehind, IsRefused, IsRuling, Passes};
+ghost use Rattle.reg_verify.specs.Stories.{AreAlike, DiffersFirst, Follows, GoesOn, IsBreach, IsBreachBehind};
+ghost use Rattle.reg_verify.specs.Stories.{IsRefused, IsRuling, Passes};
 
 use crate::gathering::have_same_names;
 use crate::stories::breaches::{Breach, ChapterPart, Ruling};
@@ -75,7 +76,9 @@ fn breach_behind<A: Allocator + Copy>(
     last: bool,
 ) -> Result<Option<Breach>, AllocError>
     requires { Passes before.now }
-    ensures { IfOk result (λ o. MatchOption o (Follows last before.now report.now) (λ breach. IsBreachBehind last before.now report.now breach)) }
+    ensures { IfOk result
+        (λ o. MatchOption o (Follows last before.now report.now)
+        (λ breach. IsBreachBehind last before.now report.now breach)) }
 {
     if let Some(part) = other_part(before, report) {
         return Ok(Some(Breach::Other { part }));
@@ -93,7 +96,8 @@ fn breach_at<A: Allocator + Copy>(
 ) -> Result<Option<Breach>, AllocError>
     requires within { place < length reports.now }
     requires before { (k : ℕ) (r : Contents) → k < place → IsAt reports.now k r → Passes r }
-    ensures { IfOk result (λ o. MatchOption o (GoesOn reports.now place) (λ breach. IsBreach reports.now place breach)) }
+    ensures { IfOk result
+        (λ o. MatchOption o (GoesOn reports.now place) (λ breach. IsBreach reports.now place breach)) }
 {
     let report = &reports[place];
     if let Some(breach) = refused(alloc, report)? {

@@ -125,7 +125,8 @@ pub(crate) fn write_ruling<A: Allocator + Copy, W: Write>(
     names: &Names<A>,
     ruling: Ruling,
 ) -> Result<(), Fault>
-    ensures { IsWrittenOr Fault.Output result (W.contents writer.old) (W.contents writer.new) (ruling_text names.now ruling) }
+    ensures { IsWrittenOr Fault.Output result (W.contents writer.old) (W.contents writer.new)
+        (ruling_text names.now ruling) }
 {
     if write_line(writer, names, ruling).is_err() || writer.flush().is_err() {
         return Err(Fault::Output);

@@ -165,7 +165,9 @@ pub(crate) fn unopened<A: Allocator + Copy>(
     last: bool,
 ) -> Result<Option<Breach>, AllocError>
     requires { length writes.now ≤ MOST_REGISTERS }
-    ensures { IfOk result (λ o. MatchOption o (IsOpened last writes.now report.now) (λ breach. IsUnopened writes.now report.now breach × ¬ IsOpened last writes.now report.now)) }
+    ensures { IfOk result
+        (λ o. MatchOption o (IsOpened last writes.now report.now)
+        (λ breach. IsUnopened writes.now report.now breach × ¬ IsOpened last writes.now report.now)) }
 {
     if ended_opening(report, writes, last) {
         return Ok(None);

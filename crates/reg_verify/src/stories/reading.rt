@@ -1,5 +1,6 @@
 //! Reports in a row, as one text.
-ghost use Rattle.std.specs.Prelude.{◌≡◌, ◌≤◌, ◌<◌, ◌-◌, ◌^◌, ◌∷◌, [], List, ℕ, IfOk, IfErr, drop, take, length, slice_index};
+ghost use Rattle.std.specs.Prelude.{◌≡◌, ◌≤◌, ◌<◌, ◌-◌, ◌^◌, ◌∷◌, [], List, ℕ, IfOk, IfErr, drop, take, length};
+ghost use Rattle.std.specs.Prelude.{slice_index};
 ghost use Rattle.std.specs.Str.{IsCharBoundary};
 ghost use Rattle.reg_history.specs.Reports.{Contents};
 ghost use Rattle.reg_verify.specs.StoryTexts.{IsUnreadText, SpellsReports, line_feeds as line_feeds_of, parts_of};
@@ -21,7 +22,9 @@ fn end_of_report(text: &[u8]) -> usize
     ensures within { result ≤ length text.now }
     ensures first { (rest : List (List ℕ)) × (parts_of text.now ≡ take result text.now ∷ rest) }
     ensures last { result ≡ length text.now → parts_of text.now ≡ text.now ∷ [] }
-    ensures more { result < length text.now → (0 < result) × (slice_index text.now (result - 1) ≡ 10) × (parts_of text.now ≡ take result text.now ∷ parts_of (drop result text.now)) }
+    ensures more { result < length text.now
+        → (0 < result) × (slice_index text.now (result - 1) ≡ 10)
+        × (parts_of text.now ≡ take result text.now ∷ parts_of (drop result text.now)) }
 {
     for place in 0..text.len() {
         if begins_report(text, place) {
@@ -71,9 +74,13 @@ fn end_behind(text: &str, from: usize) -> usize
     ensures after { from ≤ result }
     ensures within { result ≤ length text.now }
     ensures boundary { IsCharBoundary text.now result }
-    ensures first { (rest : List (List ℕ)) × (parts_of (drop from text.now) ≡ take (result - from) (drop from text.now) ∷ rest) }
+    ensures first { (rest : List (List ℕ))
+        × (parts_of (drop from text.now) ≡ take (result - from) (drop from text.now) ∷ rest) }
     ensures last { result ≡ length text.now → parts_of (drop from text.now) ≡ drop from text.now ∷ [] }
-    ensures more { result < length text.now → (from < result) × (parts_of (drop from text.now) ≡ take (result - from) (drop from text.now) ∷ parts_of (drop result text.now)) }
+    ensures more { result < length text.now
+        → (from < result)
+        × (parts_of (drop from text.now)
+        ≡ take (result - from) (drop from text.now) ∷ parts_of (drop result text.now)) }
 {
     let rest = &text.as_bytes()[from..];
     from + end_of_report(rest)

@@ -1,5 +1,6 @@
 -- What a world answers, from its parts.
-use Rattle.std.proofs.Common.{◌≡◌, ℕ, ◌+◌, ◌<◌, ◌≤◌, Bool, true, false, not, List, [], ◌∷◌, ◌++◌, map, length, take, get_or, Option, Some, None, Result, Ok, Err, IfOk, refl, sym, ap, ◌∙◌, subst, inr, arith}
+use Rattle.std.proofs.Common.{◌≡◌, ℕ, ◌+◌, ◌<◌, ◌≤◌, Bool, true, false, not, List, [], ◌∷◌, ◌++◌, map, length, take}
+use Rattle.std.proofs.Common.{get_or, Option, Some, None, Result, Ok, Err, IfOk, refl, sym, ap, ◌∙◌, subst, inr, arith}
 use Rattle.std.specs.List.{filter}
 use Rattle.std.proofs.lemmas.List.{get_or_default, take_more}
 use Rattle.std.specs.Option.{is_some}
@@ -18,7 +19,8 @@ use Rattle.reg_checkers.specs.declared.entries.Point.{Point}
 use Rattle.reg_checkers.specs.History.{IsAt}
 use Rattle.reg_process.specs.declared.events.Event.{Event}
 use Rattle.reg_world.specs.declared.faults.WorldFault.{WorldFault}
-use Rattle.reg_world.specs.declared.faults.WorldFault.TheVariants.{Failed, TooManyEvents, NoProcess, Busy, NoRegister, TooManyOperations, NoFrame, OutOfMemory}
+use Rattle.reg_world.specs.declared.faults.WorldFault.TheVariants.{Failed, TooManyEvents, NoProcess, Busy, NoRegister}
+use Rattle.reg_world.specs.declared.faults.WorldFault.TheVariants.{TooManyOperations, NoFrame, OutOfMemory}
 use Rattle.reg_world.specs.declared.order.First.{First}
 use Rattle.reg_world.specs.declared.order.CopyRead.{CopyRead}
 use Rattle.reg_world.specs.Keys.{IsWitness, ArePoints}
@@ -27,7 +29,8 @@ use Rattle.reg_world.specs.Tallies.{Tally}
 use Rattle.reg_world.specs.Witnesses.{is_kept, point_of, IsMerged}
 use Rattle.reg_world.specs.Pages.{Pages}
 use Rattle.reg_world.specs.Members.{Standing, listed}
-use Rattle.reg_world.specs.Worlds.{Made, run_in, refusal, with_event, Accepts, Refuses, after_events, RunRefuses, IsProcess, IsWire}
+use Rattle.reg_world.specs.Worlds.{Made, run_in, refusal, with_event, Accepts, Refuses, after_events, RunRefuses}
+use Rattle.reg_world.specs.Worlds.{IsProcess, IsWire}
 use Rattle.reg_world.specs.WorldParts.{IsWorld, made_of, standing_of}
 use Rattle.reg_world.proofs.code.Noted.{at_index}
 use Rattle.reg_world.proofs.code.Tallied.{at_or, points_are, witness_is}
@@ -82,7 +85,10 @@ module _ (start : Op → ℕ → Start) (laws : KeepsLaws start) (failed : Bool)
           λ f. is_wire ∙ (ap (λ (z : Standing). get_or z.wires to []) (stands from s place (omega (arith, same, l)) f) ∙ at_or (listed (w.nodes from).wire b.shape.processes) to ((w.nodes from).wire to) [] (at_listed (w.nodes from).wire b.shape.processes to (omega (arith, lt, size)))),
         )
 
-refused_by : (start : Op → ℕ → Start) (shape : Extent) (events : List Event) (at : ℕ) (e : Event) (fault : WorldFault) (new : Made) → IsAt events at e → at < length events → Refuses start (after_events start shape (take at events)) e fault new → RunRefuses start shape events at fault
+refused_by : (start : Op → ℕ → Start) (shape : Extent) (events : List Event) (at : ℕ) (e : Event) (fault : WorldFault)
+    (new : Made)
+    → IsAt events at e → at < length events → Refuses start (after_events start shape (take at events)) e fault new
+    → RunRefuses start shape events at fault
 refused_by start shape events at e Failed new here l h = (e, here, h.0)
 refused_by start shape events at e TooManyEvents new here l h = (e, here, h.0)
 refused_by start shape events at e NoProcess new here l h = (e, here, h.0)
@@ -92,12 +98,16 @@ refused_by start shape events at e TooManyOperations new here l h = (e, here, h.
 refused_by start shape events at e NoFrame new here l h = (e, here, h.0)
 refused_by start shape events at e OutOfMemory new here l h = inr (e, here, h.0)
 
-pub run_refuses : (start : Op → ℕ → Start) (shape : Extent) (events : List Event) (at : ℕ) (d : Event) (fault : WorldFault) (old new : Made) → at < length events → old ≡ after_events start shape (take at events) → Refuses start old (get_or events at d) fault new → RunRefuses start shape events at fault
+pub run_refuses : (start : Op → ℕ → Start) (shape : Extent) (events : List Event) (at : ℕ) (d : Event)
+    (fault : WorldFault) (old new : Made)
+    → at < length events → old ≡ after_events start shape (take at events)
+    → Refuses start old (get_or events at d) fault new → RunRefuses start shape events at fault
 run_refuses start shape events at d fault old new l is h =
     refused_by start shape events at (get_or events at d) fault new (at_index events at (get_or events at d) l (get_or_default events at d (get_or events at d) l)) l (subst (λ (z : Made). Refuses start z (get_or events at d) fault new) is h)
 
 -- an accepted event makes a run whose events are all accepted
-accepted_more : (start : Op → ℕ → Start) (old : Made) (e : Event) → (run_in start old).accepted ≡ old.accepted → refusal start old e ≡ None → (run_in start (with_event start old e)).accepted ≡ old.accepted ++ e ∷ []
+accepted_more : (start : Op → ℕ → Start) (old : Made) (e : Event) → (run_in start old).accepted ≡ old.accepted
+    → refusal start old e ≡ None → (run_in start (with_event start old e)).accepted ≡ old.accepted ++ e ∷ []
 accepted_more start old e so none = go (move_of old.processes old.registers (run_in start old) e) refl
   where
     no_fault : world_fault old.processes old.registers (run_in start old) e ≡ None
@@ -107,7 +117,9 @@ accepted_more start old e so none = go (move_of old.processes old.registers (run
     go None is = let bad : false ≡ true = sym (ap is_some is) ∙ (refused_by_fault old.processes old.registers (run_in start old) e ∙ ap (λ o. not (is_some o)) no_fault) in cc
     go (Some m) is = ap (λ (w : World). w.accepted) (one_more start old.processes old.registers old.accepted e ∙ ap (moved start (run_in start old) e) is) ∙ ap (λ (l : List Event). l ++ e ∷ []) so
 
-run_more : (start : Op → ℕ → Start) (shape : Extent) (events : List Event) (at : ℕ) (d : Event) (old new : Made) → at < length events → old ≡ after_events start shape (take at events) → Accepts start old (get_or events at d) new → new ≡ after_events start shape (take (at + 1) events)
+run_more : (start : Op → ℕ → Start) (shape : Extent) (events : List Event) (at : ℕ) (d : Event) (old new : Made)
+    → at < length events → old ≡ after_events start shape (take at events) → Accepts start old (get_or events at d) new
+    → new ≡ after_events start shape (take (at + 1) events)
 run_more start shape events at d old new l is A =
     A.after ∙ (ap (λ (z : Made). with_event start z (get_or events at d)) is ∙ ap (after_events start shape) (sym (take_more events at d l)))
 
@@ -116,7 +128,9 @@ pub record IsRunSoFar (start : Op → ℕ → Start) (shape : Extent) (events : 
   pub made : world ≡ after_events start shape (take at events)
   pub all : (run_in start (after_events start shape (take at events))).accepted ≡ take at events
 
-pub run_goes_on : (start : Op → ℕ → Start) (shape : Extent) (events : List Event) (at : ℕ) (d : Event) (old new : Made) → at < length events → IsRunSoFar start shape events at old → Accepts start old (get_or events at d) new → IsRunSoFar start shape events (at + 1) new
+pub run_goes_on : (start : Op → ℕ → Start) (shape : Extent) (events : List Event) (at : ℕ) (d : Event) (old new : Made)
+    → at < length events → IsRunSoFar start shape events at old → Accepts start old (get_or events at d) new
+    → IsRunSoFar start shape events (at + 1) new
 run_goes_on start shape events at d old new l S A =
     let more = take_more events at d l in
     record {

@@ -1,5 +1,6 @@
 -- A world in which nothing happened yet.
-use Rattle.std.proofs.Common.{◌≡◌, ℕ, zero, suc, ◌<◌, ◌≤◌, false, List, [], ◌∷◌, replicate, Some, refl, sym, ap, ◌∙◌, subst, arith}
+use Rattle.std.proofs.Common.{◌≡◌, ℕ, zero, suc, ◌<◌, ◌≤◌, false, List, [], ◌∷◌, replicate, Some, refl, sym, ap, ◌∙◌}
+use Rattle.std.proofs.Common.{subst, arith}
 use Rattle.std.proofs.lemmas.List.{length-replicate}
 use Rattle.reg_base.specs.declared.limits.TheConstants.{MOST_PROCESSES}
 use Rattle.reg_base.specs.declared.memory.Op.{Op}
@@ -32,7 +33,9 @@ at_replicate (suc n) (suc p) x l = at_replicate n p x (omega arith)
 abbrev pub blank_book : Extent → Pages
 blank_book shape = record { shape = shape; accepted = []; ahead = []; entries = []; order = []; reads = []; tallies = replicate shape.processes no_calls }
 
-pub new_is : (start : Op → ℕ → Start) (shape : Extent) (members : List Standing) (b : Pages) → shape.processes ≤ MOST_PROCESSES → members ≡ listed (first_standing shape) shape.processes → b ≡ blank_book shape → IsWorld start false members b
+pub new_is : (start : Op → ℕ → Start) (shape : Extent) (members : List Standing) (b : Pages)
+    → shape.processes ≤ MOST_PROCESSES → members ≡ listed (first_standing shape) shape.processes → b ≡ blank_book shape
+    → IsWorld start false members b
 new_is start shape members b few stand is =
     subst (λ z. IsWorld start false members z) (sym is) (subst (λ z. IsWorld start false z (blank_book shape)) (sym stand) (record {
       few = few;

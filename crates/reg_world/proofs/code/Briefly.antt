@@ -1,5 +1,6 @@
 -- A step of a member, from the brief of its process.
-use Rattle.std.proofs.Common.{◌≡◌, ℕ, ◌<◌, List, length, Option, Some, None, Result, Ok, Err, refl, sym, ap, subst, ◌∙◌, arith}
+use Rattle.std.proofs.Common.{◌≡◌, ℕ, ◌<◌, List, length, Option, Some, None, Result, Ok, Err, refl, sym, ap, subst, ◌∙◌}
+use Rattle.std.proofs.Common.{arith}
 use Rattle.std.specs.Prelude.{MatchResult, IfErr, OnOk, cond}
 use Rattle.reg_base.specs.Order.{In}
 use Rattle.reg_base.specs.declared.stamps.Stamp.{Stamp}
@@ -9,7 +10,9 @@ use Rattle.reg_frames.specs.declared.bodies.Frame.{Frame}
 use Rattle.reg_frames.specs.declared.puts.Put.{Put}
 use Rattle.reg_front.specs.declared.starts.Start.{Start}
 use Rattle.reg_process.specs.declared.faults.ProcessFault.{ProcessFault}
-use Rattle.reg_process.specs.declared.faults.ProcessFault.TheVariants.{Failed, NoProcess, Busy, NoRegister, TooManyOperations, Ahead, Stale, ClockFull, OutOfMemory}
+use Rattle.reg_process.specs.declared.faults.ProcessFault.TheVariants.{Failed, NoProcess, Busy, NoRegister}
+use Rattle.reg_process.specs.declared.faults.ProcessFault.TheVariants.{TooManyOperations, Ahead, Stale, ClockFull}
+use Rattle.reg_process.specs.declared.faults.ProcessFault.TheVariants.{OutOfMemory}
 use Rattle.reg_process.specs.declared.steps.Reply.{Reply}
 use Rattle.reg_process.specs.declared.steps.Step.{Step}
 use Rattle.reg_process.specs.Process.{step}
@@ -20,7 +23,8 @@ use Rattle.reg_world.specs.Members.{Standing, MayAct, Acts}
 use Rattle.reg_world.proofs.code.Sending.{puts_within}
 
 -- what a result is says of it what is said of all
-pub brief_is : {T E : Type 0} (r : Result T E) (x : T) (P : T → Type 0) (Q : E → Type 0) → r ≡ Ok x → MatchResult r P Q → P x
+pub brief_is : {T E : Type 0} (r : Result T E) (x : T) (P : T → Type 0) (Q : E → Type 0) → r ≡ Ok x → MatchResult r P Q
+    → P x
 brief_is r x P Q is h = subst (λ s. MatchResult s P Q) is h
 
 module _ (start : Op → ℕ → Start) (k : Kept) (wires : List (List Frame)) (old : Standing) (e : Step) (view : record { failed = k.failed; state = k.state; wires = wires } ≡ old) (may : MayAct start old e) where
@@ -42,7 +46,8 @@ module _ (start : Op → ℕ → Start) (k : Kept) (wires : List (List Frame)) (
   refused_by OutOfMemory new h = refl
 
   -- memory alone can be refused
-  pub only_memory : {T : Type 0} (r : Result T ProcessFault) (P : T → Type 0) (new : Kept) → MatchResult r P (λ f. Refused start k e f new) → IfErr r (λ f. f ≡ OutOfMemory)
+  pub only_memory : {T : Type 0} (r : Result T ProcessFault) (P : T → Type 0) (new : Kept)
+      → MatchResult r P (λ f. Refused start k e f new) → IfErr r (λ f. f ≡ OutOfMemory)
   only_memory (Ok x) P new h = tt
   only_memory (Err f) P new h = refused_by f new h
 

@@ -1,5 +1,7 @@
 -- What an event adds to what a world tells.
-use Rattle.std.proofs.Common.{◌≡◌, ℕ, ◌+◌, ◌-◌, ◌<◌, ◌≤◌, Bool, true, false, cond, List, [], ◌∷◌, ◌++◌, map, length, drop, get_or, Option, refl, sym, ap, ◌∙◌, subst, arith, Vec, Some, None, slice_set, append-nil}
+use Rattle.std.proofs.Common.{◌≡◌, ℕ, ◌+◌, ◌-◌, ◌<◌, ◌≤◌, Bool, true, false, cond, List, [], ◌∷◌, ◌++◌, map, length}
+use Rattle.std.proofs.Common.{drop, get_or, Option, refl, sym, ap, ◌∙◌, subst, arith, Vec, Some, None, slice_set}
+use Rattle.std.proofs.Common.{append-nil}
 use Rattle.std.specs.Prelude.{vec_len, vec_capacity}
 use Rattle.std.specs.List.{filter}
 use Rattle.std.proofs.lemmas.List.{append_assoc, drop_more, take_at, take-append-le, get_or_default}
@@ -24,11 +26,13 @@ use Rattle.reg_world.specs.declared.callers.Note.{Note}
 use Rattle.reg_world.specs.declared.order.CopyRead.{CopyRead}
 use Rattle.reg_process.specs.declared.steps.Reply.{Reply}
 use Rattle.reg_world.specs.World.{op_id, calls_in, answers_in}
-use Rattle.reg_world.specs.Pages.{Pages, calls_after, entries_after, entered, passed, CallsNothing, first_in, firsts_in, tally_at, TimesDiffer}
+use Rattle.reg_world.specs.Pages.{Pages, calls_after, entries_after, entered, passed, CallsNothing, first_in, firsts_in}
+use Rattle.reg_world.specs.Pages.{tally_at, TimesDiffer}
 use Rattle.reg_world.proofs.lists.Bodies.{place_last, place_first, place_within}
 use Rattle.reg_world.proofs.code.Noted.{at_index}
 
-pub not_refused : (h : Log) (e : Entry) (fault : HistoryFault) → 1 ≤ h.room → IsHistory h.shape.processes h.shape.registers (h.entries ++ e ∷ []) → Refuses h e fault → ⊥
+pub not_refused : (h : Log) (e : Entry) (fault : HistoryFault) → 1 ≤ h.room
+    → IsHistory h.shape.processes h.shape.registers (h.entries ++ e ∷ []) → Refuses h e fault → ⊥
 not_refused h e OutOfPlace room good no_place =
     no_place (subst (λ l. IsInPlace h.shape.processes h.shape.registers l e) (take_at h.entries (e ∷ []) (length h.entries) refl) (good (length h.entries) e (place_last h.entries e)))
 not_refused h e OutOfMemory room good none = let z = none.1 in omega (arith, room, z)
@@ -46,17 +50,24 @@ pub record IsSoFar {A : Type 0} (at : ℕ) (last : Option Stamp) (ds : List Deli
   pub left : order.items ++ firsts_in ts at last (drop i ds) ≡ before ++ firsts_in ts at last ds
   pub room : vec_len order + (length ds - i) ≤ vec_capacity order
 
-pub caster_at : (ds : List Delivered) (i : ℕ) (d : Delivered) (now ts : List Tally) → ((d : Delivered) → In d ds → d.stamp.process < length ts) → now ≡ ts → i < length ds → (get_or ds i d).stamp.process < length now
+pub caster_at : (ds : List Delivered) (i : ℕ) (d : Delivered) (now ts : List Tally)
+    → ((d : Delivered) → In d ds → d.stamp.process < length ts) → now ≡ ts → i < length ds
+    → (get_or ds i d).stamp.process < length now
 caster_at ds i d now ts all same l =
     let h = all (get_or ds i d) (in_drop i ds (get_or ds i d) d l refl) in let e = ap length same in omega (arith, h, e)
 
-pub differ_at : (ds : List Delivered) (i : ℕ) (d : Delivered) (now ts : List Tally) → ((d : Delivered) → In d ds → d.stamp.process < length ts) → ((p : ℕ) (t : Tally) → IsAt ts p t → TimesDiffer t.casts) → now ≡ ts → i < length ds → TimesDiffer (tally_at now (get_or ds i d).stamp.process).casts
+pub differ_at : (ds : List Delivered) (i : ℕ) (d : Delivered) (now ts : List Tally)
+    → ((d : Delivered) → In d ds → d.stamp.process < length ts)
+    → ((p : ℕ) (t : Tally) → IsAt ts p t → TimesDiffer t.casts) → now ≡ ts → i < length ds
+    → TimesDiffer (tally_at now (get_or ds i d).stamp.process).casts
 differ_at ds i d now ts all differ same l =
     let p = (get_or ds i d).stamp.process in
     let h = all (get_or ds i d) (in_drop i ds (get_or ds i d) d l refl) in
     subst (λ z. TimesDiffer (tally_at z p).casts) (sym same) (differ p (tally_at ts p) (tally_in ts p h))
 
-pub first_more : {A : Type 0} (at : ℕ) (last : Option Stamp) (ds : List Delivered) (before : List First) (ts now now1 : List Tally) (i : ℕ) (d : Delivered) (order order1 : Vec First A) → i < length ds → IsSoFar at last ds before ts now i order
+pub first_more : {A : Type 0} (at : ℕ) (last : Option Stamp) (ds : List Delivered) (before : List First)
+    (ts now now1 : List Tally) (i : ℕ) (d : Delivered) (order order1 : Vec First A)
+    → i < length ds → IsSoFar at last ds before ts now i order
     → now1 ≡ ts → order1.items ≡ order.items ++ cond (is_after last (get_or ds i d).stamp) (first_in now at (get_or ds i d) ∷ []) [] → vec_len order1 + (length ds - (i + 1)) ≤ vec_capacity order1 → IsSoFar at last ds before ts now1 (i + 1) order1
 first_more at last ds before ts now now1 i d order order1 l S same more room =
     let x = get_or ds i d in
@@ -82,7 +93,9 @@ history_front n registers xs ys good k e at =
     subst (λ z. IsInPlace n registers z e) (take-append-le k xs ys (omega (arith, l))) (good k e (place_first xs ys k e at))
 
 module _ (b : Pages) (p : ℕ) (step : Step) (reply : Option Reply) (good : IsHistory b.shape.processes b.shape.registers (entries_after b.entries (length b.accepted) p (tally_at b.tallies p) step reply)) where
-  pub call_good : (shape : Extent) (entries : List Entry) (at : ℕ) (id : OpId) → shape ≡ b.shape → entries ≡ b.entries → at ≡ length b.accepted → id ≡ op_id p (tally_at b.tallies p).calls → IsHistory shape.processes shape.registers (entries ++ calls_in at id step)
+  pub call_good : (shape : Extent) (entries : List Entry) (at : ℕ) (id : OpId) → shape ≡ b.shape → entries ≡ b.entries
+      → at ≡ length b.accepted → id ≡ op_id p (tally_at b.tallies p).calls
+      → IsHistory shape.processes shape.registers (entries ++ calls_in at id step)
   call_good shape entries at id es ee ea ei =
       let at0 = length b.accepted in
       let id0 = op_id p (tally_at b.tallies p).calls in
@@ -92,7 +105,10 @@ module _ (b : Pages) (p : ℕ) (step : Step) (reply : Option Reply) (good : IsHi
       (subst (λ z. IsHistory b.shape.processes b.shape.registers (b.entries ++ calls_in z id step)) (sym ea)
       (subst (λ z. IsHistory b.shape.processes b.shape.registers (b.entries ++ calls_in at0 z step)) (sym ei) deliveries)))
 
-  pub answer_good : (shape : Extent) (entries : List Entry) (at : ℕ) (called answered : OpId) → shape ≡ b.shape → entries ≡ b.entries ++ calls_in at called step → at ≡ length b.accepted → called ≡ op_id p (tally_at b.tallies p).calls → answered ≡ op_id p (calls_after step (tally_at b.tallies p).calls - 1)
+  pub answer_good : (shape : Extent) (entries : List Entry) (at : ℕ) (called answered : OpId) → shape ≡ b.shape
+      → entries ≡ b.entries ++ calls_in at called step → at ≡ length b.accepted
+      → called ≡ op_id p (tally_at b.tallies p).calls
+      → answered ≡ op_id p (calls_after step (tally_at b.tallies p).calls - 1)
       → IsHistory shape.processes shape.registers (entries ++ answers_in at answered reply)
   answer_good shape entries at called answered es ee ea ec ei =
       let at0 = length b.accepted in
@@ -112,7 +128,10 @@ pages_with b e p runs entries order reads casts = record (passed b e p runs) {
   tallies = slice_set b.tallies p (record (tally_at b.tallies p) { runs = runs; casts = casts });
 }
 
-silent_pages : (b : Pages) (e : Event) (p : ℕ) (runs : Bool) → pages_with b e p runs ((b.entries ++ []) ++ []) (b.order ++ []) (b.reads ++ []) ((tally_at b.tallies p).casts ++ []) ≡ passed b e p runs
+silent_pages : (b : Pages) (e : Event) (p : ℕ) (runs : Bool)
+    → pages_with b e p runs ((b.entries ++ []) ++ []) (b.order ++ []) (b.reads ++ [])
+    ((tally_at b.tallies p).casts ++ [])
+    ≡ passed b e p runs
 silent_pages b e p runs =
     let casts = (tally_at b.tallies p).casts in
     ap (λ (l : List Entry). pages_with b e p runs l (b.order ++ []) (b.reads ++ []) (casts ++ [])) (append-nil (b.entries ++ []) ∙ append-nil b.entries)
@@ -121,7 +140,8 @@ silent_pages b e p runs =
     ∙ ap (λ (l : List Note). pages_with b e p runs b.entries b.order b.reads l) (append-nil casts)))
 
 -- what an event adds in which nothing is told
-pub passed_is_entered : (b : Pages) (e : Event) (p : ℕ) (step : Step) (runs : Bool) (cast : Option Stamp) → CallsNothing step → entered b e p step runs cast [] None ≡ passed b e p runs
+pub passed_is_entered : (b : Pages) (e : Event) (p : ℕ) (step : Step) (runs : Bool) (cast : Option Stamp)
+    → CallsNothing step → entered b e p step runs cast [] None ≡ passed b e p runs
 passed_is_entered b e p (Call op) runs cast calls = absurd calls
 passed_is_entered b e p (Take from frame) runs cast calls = silent_pages b e p runs
 passed_is_entered b e p Tick runs cast calls = silent_pages b e p runs

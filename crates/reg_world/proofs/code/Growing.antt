@@ -1,5 +1,6 @@
 -- What one more event adds to a run is what the book of the world enters.
-use Rattle.std.proofs.Common.{◌≡◌, ℕ, zero, suc, ◌+◌, ◌-◌, ◌<◌, ◌≤◌, Bool, true, false, not, cond, List, [], ◌∷◌, ◌++◌, map, length, Option, Some, None, refl, sym, ap, ◌∙◌, subst, inl, inr, arith, length-set}
+use Rattle.std.proofs.Common.{◌≡◌, ℕ, zero, suc, ◌+◌, ◌-◌, ◌<◌, ◌≤◌, Bool, true, false, not, cond, List, [], ◌∷◌, ◌++◌}
+use Rattle.std.proofs.Common.{map, length, Option, Some, None, refl, sym, ap, ◌∙◌, subst, inl, inr, arith, length-set}
 use Rattle.std.specs.Prelude.{slice_get, ◌==◌, ◌&&◌}
 use Rattle.std.specs.Option.{is_some}
 use Rattle.std.specs.List.{filter, list_any}
@@ -24,11 +25,13 @@ use Rattle.reg_world.specs.declared.order.CopyRead.{CopyRead}
 use Rattle.reg_world.specs.declared.callers.Note.{Note}
 use Rattle.reg_world.specs.Runs.{Cast}
 use Rattle.reg_world.specs.Nodes.{Node, after_step, unseen}
-use Rattle.reg_world.specs.World.{World, op_id, cast_in, casts_in, has_cast, reads_in, id_of, first_of, delivered_of, move_of, moved, whole}
+use Rattle.reg_world.specs.World.{World, op_id, cast_in, casts_in, has_cast, reads_in, id_of, first_of, delivered_of}
+use Rattle.reg_world.specs.World.{move_of, moved, whole}
 use Rattle.reg_world.specs.Tallies.{Tally, no_calls}
 use Rattle.reg_world.specs.Books.{note_of, notes_of, tally_of, AreTallies}
 use Rattle.reg_world.specs.Witnesses.{stamp_in, last_stamp, is_after}
-use Rattle.reg_world.specs.Pages.{calls_after, note_in, notes_in, tally_after, tally_at, tallies_after, is_number, last_casts, read_in, number_at, first_in, firsts_in, TimesDiffer}
+use Rattle.reg_world.specs.Pages.{calls_after, note_in, notes_in, tally_after, tally_at, tallies_after, is_number}
+use Rattle.reg_world.specs.Pages.{last_casts, read_in, number_at, first_in, firsts_in, TimesDiffer}
 use Rattle.reg_world.proofs.lists.Changes.{at_set_same, at_set_other, filter_append, filter_same, map_same}
 use Rattle.reg_world.proofs.lists.Rises.{RisesBy, rises_at, rises_filter, rises_map, in_kept, kept_in}
 use Rattle.reg_base.proofs.Lists.{in_right}
@@ -59,39 +62,46 @@ calls_are start s Tick = calls_made start s Tick
 abbrev own : ℕ → Cast → Bool
 own q c = c.id.process == q
 
-notes_own : (p number : ℕ) (op : Op) (cast : Option Stamp) → map note_of (filter (own p) (cast_in (op_id p number) op cast)) ≡ note_in number cast
+notes_own : (p number : ℕ) (op : Op) (cast : Option Stamp)
+    → map note_of (filter (own p) (cast_in (op_id p number) op cast)) ≡ note_in number cast
 notes_own p number op None = refl
 notes_own p number op (Some stamp) =
     let c : Cast = record { stamp = stamp; id = op_id p number; op = op } in
     ap (λ b. map note_of (cond b (c ∷ []) [])) (eq-eqb p p refl)
 
-notes_step : (p number : ℕ) (st : Step) (cast : Option Stamp) → map note_of (filter (own p) (casts_in (op_id p number) st cast)) ≡ notes_in st number cast
+notes_step : (p number : ℕ) (st : Step) (cast : Option Stamp)
+    → map note_of (filter (own p) (casts_in (op_id p number) st cast)) ≡ notes_in st number cast
 notes_step p number (Call op) cast = notes_own p number op cast
 notes_step p number (Take a f) cast = refl
 notes_step p number Tick cast = refl
 
-none_own : (q p number : ℕ) (op : Op) (cast : Option Stamp) → (q ≡ p → ⊥) → filter (own q) (cast_in (op_id p number) op cast) ≡ []
+none_own : (q p number : ℕ) (op : Op) (cast : Option Stamp) → (q ≡ p → ⊥)
+    → filter (own q) (cast_in (op_id p number) op cast) ≡ []
 none_own q p number op None ne = refl
 none_own q p number op (Some stamp) ne =
     let c : Cast = record { stamp = stamp; id = op_id p number; op = op } in
     cond_both (p == q) (c ∷ []) [] (λ l. l ≡ []) (λ e. absurd (ne (sym (eqb-true p q e)))) (λ e. refl)
 
-none_step : (q p number : ℕ) (st : Step) (cast : Option Stamp) → (q ≡ p → ⊥) → filter (own q) (casts_in (op_id p number) st cast) ≡ []
+none_step : (q p number : ℕ) (st : Step) (cast : Option Stamp) → (q ≡ p → ⊥)
+    → filter (own q) (casts_in (op_id p number) st cast) ≡ []
 none_step q p number (Call op) cast ne = none_own q p number op cast ne
 none_step q p number (Take a f) cast ne = refl
 none_step q p number Tick cast ne = refl
 
-pub notes_grow : (p number : ℕ) (st : Step) (cast : Option Stamp) (casts : List Cast) → notes_of p (casts ++ casts_in (op_id p number) st cast) ≡ notes_of p casts ++ notes_in st number cast
+pub notes_grow : (p number : ℕ) (st : Step) (cast : Option Stamp) (casts : List Cast)
+    → notes_of p (casts ++ casts_in (op_id p number) st cast) ≡ notes_of p casts ++ notes_in st number cast
 notes_grow p number st cast casts =
     ap (map note_of) (filter_append (own p) casts (casts_in (op_id p number) st cast))
     ∙ (map-append note_of (filter (own p) casts) (filter (own p) (casts_in (op_id p number) st cast)) ∙ ap (λ l. notes_of p casts ++ l) (notes_step p number st cast))
 
-pub notes_stay : (q p number : ℕ) (st : Step) (cast : Option Stamp) (casts : List Cast) → (q ≡ p → ⊥) → notes_of q (casts ++ casts_in (op_id p number) st cast) ≡ notes_of q casts
+pub notes_stay : (q p number : ℕ) (st : Step) (cast : Option Stamp) (casts : List Cast) → (q ≡ p → ⊥)
+    → notes_of q (casts ++ casts_in (op_id p number) st cast) ≡ notes_of q casts
 notes_stay q p number st cast casts ne =
     ap (map note_of) (filter_append (own q) casts (casts_in (op_id p number) st cast) ∙ (ap (λ l. filter (own q) casts ++ l) (none_step q p number st cast ne) ∙ append-nil (filter (own q) casts)))
 
 -- the id of a stamp, by the notes of its process
-pub id_by_notes : (casts : List Cast) (stamp : Stamp) → ((c : Cast) → In c casts → c.stamp.process ≡ c.id.process) → id_of casts stamp ≡ op_id stamp.process (number_at (notes_of stamp.process casts) stamp.time)
+pub id_by_notes : (casts : List Cast) (stamp : Stamp) → ((c : Cast) → In c casts → c.stamp.process ≡ c.id.process)
+    → id_of casts stamp ≡ op_id stamp.process (number_at (notes_of stamp.process casts) stamp.time)
 id_by_notes [] stamp own_stamps = refl
 id_by_notes (c ∷ cs) stamp own_stamps =
     let rest = id_by_notes cs stamp (λ d i. own_stamps d (inr i)) in

@@ -1,5 +1,6 @@
 -- The merged list is that of the keys.
-use Rattle.std.proofs.Common.{◌≡◌, ℕ, zero, suc, ◌+◌, ◌<◌, ◌≤◌, ◌⊎◌, ◌↔◌, Bool, true, cond, List, [], ◌∷◌, ◌++◌, map, length, refl, sym, ap, ◌∙◌, subst, inl, inr, arith}
+use Rattle.std.proofs.Common.{◌≡◌, ℕ, zero, suc, ◌+◌, ◌<◌, ◌≤◌, ◌⊎◌, ◌↔◌, Bool, true, cond, List, [], ◌∷◌, ◌++◌, map}
+use Rattle.std.proofs.Common.{length, refl, sym, ap, ◌∙◌, subst, inl, inr, arith}
 use Rattle.std.specs.Prelude.{nat_le}
 use Rattle.std.proofs.lemmas.Bool.{cond_both, leb-true, leb-false}
 use Rattle.std.proofs.lemmas.Option.{same_Some}
@@ -68,9 +69,11 @@ upto_rises k (x ∷ xs) r =
 
 later_rises : (k : ℕ) (qs : List Ranked) → RisesBy Lower qs → RisesBy Lower (later k qs)
 later_rises k [] r = tt
-later_rises k (x ∷ xs) r = cond_both (nat_le x.rank k) (later k xs) (x ∷ xs) (RisesBy Lower) (λ e. later_rises k xs r.1) (λ e. r)
+later_rises k (x ∷ xs) r =
+    cond_both (nat_le x.rank k) (later k xs) (x ∷ xs) (RisesBy Lower) (λ e. later_rises k xs r.1) (λ e. r)
 
-in_one : (kept : First → Bool) (k : ℕ) (c : First) (e : Keyed) → In e (kept_one kept k c) → (kept c ≡ true) × (e ≡ keyed_cast k c)
+in_one : (kept : First → Bool) (k : ℕ) (c : First) (e : Keyed) → In e (kept_one kept k c)
+    → (kept c ≡ true) × (e ≡ keyed_cast k c)
 in_one kept k c e h =
     cond_both (kept c) (keyed_cast k c ∷ []) [] (λ l. In e l → (kept c ≡ true) × (e ≡ keyed_cast k c))
     (λ t i. elim i [ inl s ↦ (t, s) | inr f ↦ absurd f ]) (λ t i. absurd i) h
@@ -84,7 +87,8 @@ next_cast k j c = let e : (k + 1) + j ≡ k + suc j = omega arith in ap (λ z. k
 first_cast : (k : ℕ) (c : First) → keyed_cast (k + 0) c ≡ keyed_cast k c
 first_cast k c = let e : k + 0 ≡ k = omega arith in ap (λ z. keyed_cast z c) e
 
-pub in_merge : (kept : First → Bool) (k : ℕ) (reads : List Ranked) (order : List First) (e : Keyed) → In e (merge kept k reads order) → IsReadOf reads e ⊎ IsCastOf kept order k e
+pub in_merge : (kept : First → Bool) (k : ℕ) (reads : List Ranked) (order : List First) (e : Keyed)
+    → In e (merge kept k reads order) → IsReadOf reads e ⊎ IsCastOf kept order k e
 in_merge kept k reads [] e h = inl (map_in keyed_read e reads h)
 in_merge kept k reads (c ∷ cs) e h =
     elim (in_cases e (map keyed_read (upto k reads)) (kept_one kept k c ++ merge kept (k + 1) (later k reads) cs) h) [
@@ -98,7 +102,8 @@ in_merge kept k reads (c ∷ cs) e h =
       ]
     ]
 
-pub read_in_merge : (kept : First → Bool) (k : ℕ) (reads : List Ranked) (order : List First) (q : Ranked) → In q reads → In (keyed_read q) (merge kept k reads order)
+pub read_in_merge : (kept : First → Bool) (k : ℕ) (reads : List Ranked) (order : List First) (q : Ranked) → In q reads
+    → In (keyed_read q) (merge kept k reads order)
 read_in_merge kept k reads [] q h = in_map keyed_read q reads h
 read_in_merge kept k reads (c ∷ cs) q h =
     elim (in_parts k reads q h) [
@@ -107,7 +112,8 @@ read_in_merge kept k reads (c ∷ cs) q h =
           (in_right (keyed_read q) (kept_one kept k c) (merge kept (k + 1) (later k reads) cs) (read_in_merge kept (k + 1) (later k reads) cs q i))
     ]
 
-pub cast_in_merge : (kept : First → Bool) (k : ℕ) (reads : List Ranked) (order : List First) (j : ℕ) (c : First) → IsAt order j c → kept c ≡ true → In (keyed_cast (k + j) c) (merge kept k reads order)
+pub cast_in_merge : (kept : First → Bool) (k : ℕ) (reads : List Ranked) (order : List First) (j : ℕ) (c : First)
+    → IsAt order j c → kept c ≡ true → In (keyed_cast (k + j) c) (merge kept k reads order)
 cast_in_merge kept k reads [] j c at e = absurd cc
 cast_in_merge kept k reads (x ∷ cs) zero c at e =
     let same : x ≡ c = same_Some x c at in
@@ -125,7 +131,9 @@ read_under_cast : (a : Ranked) (k : ℕ) (c : First) → a.rank ≤ k → Under 
 read_under_cast a k c h = grind arith
 
 -- what is under every key from the place k on
-under_rest : (kept : First → Bool) (k : ℕ) (reads : List Ranked) (cs : List First) (x y : Keyed) → ((e : Keyed) → k < e.key.place → Under x e) → RisesBy Lower reads → In y (merge kept (k + 1) (later k reads) cs) → Under x y
+under_rest : (kept : First → Bool) (k : ℕ) (reads : List Ranked) (cs : List First) (x y : Keyed)
+    → ((e : Keyed) → k < e.key.place → Under x e) → RisesBy Lower reads → In y (merge kept (k + 1) (later k reads) cs)
+    → Under x y
 under_rest kept k reads cs x y under r h = elim (in_merge kept (k + 1) (later k reads) cs y h) [
   | inl q ↦ under y (let l = above_later k reads q.0 r q.1 in let z = ap (λ (e : Keyed). e.key.place) q.2 in omega (arith, l, z))
   | inr q ↦ under y (let z = ap (λ (e : Keyed). e.key.place) q.4 in omega (arith, z))
@@ -134,7 +142,8 @@ under_rest kept k reads cs x y under r h = elim (in_merge kept (k + 1) (later k 
 one_rises : (kept : First → Bool) (k : ℕ) (c : First) → RisesBy Under (kept_one kept k c)
 one_rises kept k c = cond_both (kept c) (keyed_cast k c ∷ []) [] (RisesBy Under) (λ e. (λ y i. absurd i, tt)) (λ e. tt)
 
-pub merge_rises : (kept : First → Bool) (k : ℕ) (reads : List Ranked) (order : List First) → RisesBy Lower reads → RisesBy Under (merge kept k reads order)
+pub merge_rises : (kept : First → Bool) (k : ℕ) (reads : List Ranked) (order : List First) → RisesBy Lower reads
+    → RisesBy Under (merge kept k reads order)
 merge_rises kept k reads [] r = rises_map Lower Under keyed_read reads r (λ a b i j h. reads_under a b h)
 merge_rises kept k reads (c ∷ cs) r =
     let rest = merge kept (k + 1) (later k reads) cs in

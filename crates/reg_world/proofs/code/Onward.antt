@@ -1,5 +1,6 @@
 -- The world after an event, from its parts.
-use Rattle.std.proofs.Common.{◌≡◌, ℕ, ◌-◌, ◌<◌, false, List, [], ◌∷◌, ◌++◌, length, set, Option, Some, refl, sym, ap, ◌∙◌, subst, inl, inr, arith, length-set}
+use Rattle.std.proofs.Common.{◌≡◌, ℕ, ◌-◌, ◌<◌, false, List, [], ◌∷◌, ◌++◌, length, set, Option, Some, refl, sym, ap}
+use Rattle.std.proofs.Common.{◌∙◌, subst, inl, inr, arith, length-set}
 use Rattle.std.specs.Option.{is_some}
 use Rattle.std.proofs.lemmas.Bool.{cases_eq}
 use Rattle.reg_base.specs.declared.limits.TheConstants.{MOST_EVENTS}
@@ -23,7 +24,8 @@ use Rattle.reg_world.specs.World.{World, op_id, calls_in, answers_in, move_of, m
 use Rattle.reg_world.specs.Tallies.{Tally}
 use Rattle.reg_world.specs.Books.{tally_of, AreTallies}
 use Rattle.reg_world.specs.Witnesses.{last_stamp}
-use Rattle.reg_world.specs.Pages.{Pages, tally_after, tally_at, tallies_after, read_in, firsts_in, entries_after, entered, CallFits, MayEnter}
+use Rattle.reg_world.specs.Pages.{Pages, tally_after, tally_at, tallies_after, read_in, firsts_in, entries_after}
+use Rattle.reg_world.specs.Pages.{entered, CallFits, MayEnter}
 use Rattle.reg_world.specs.Sent.{sent}
 use Rattle.reg_world.specs.Members.{Standing, listed, Acts}
 use Rattle.reg_world.specs.WorldParts.{Tells, Stand, IsWorld, standing_of}
@@ -33,7 +35,8 @@ use Rattle.reg_world.proofs.code.Recorded.{grows}
 use Rattle.reg_world.proofs.code.Sending.{sent_all}
 use Rattle.reg_world.proofs.one_order.Acting.{sound}
 use Rattle.reg_world.proofs.witness.Promised.{in_place}
-use Rattle.reg_world.proofs.code.Growing.{next_is, node_here, node_there, tally_is, tallies_now, times_differ, reads_now, casters_now, firsts_now, calls_are}
+use Rattle.reg_world.proofs.code.Growing.{next_is, node_here, node_there, tally_is, tallies_now, times_differ}
+use Rattle.reg_world.proofs.code.Growing.{reads_now, casters_now, firsts_now, calls_are}
 use Rattle.reg_world.proofs.lists.Changes.{at_set_same, at_set_other}
 use Rattle.reg_world.proofs.run.Along.{move_is}
 
@@ -97,7 +100,8 @@ module _ (start : Op → ℕ → Start) (laws : KeepsLaws start) (b : Pages) (T 
     once = times_differ start n registers laws b.accepted e p st move b.tallies T.tallies here;
   }
 
-  pub grows_now : Grows (length b.accepted) b.entries e r.1.reply (entries_after b.entries (length b.accepted) p (tally_at b.tallies p) st r.1.reply)
+  pub grows_now : Grows (length b.accepted) b.entries e r.1.reply
+      (entries_after b.entries (length b.accepted) p (tally_at b.tallies p) st r.1.reply)
   grows_now = grows n registers (length b.accepted) b.entries (tally_at b.tallies p) r.1.reply w.nodes e (p, st) moves.1 may_enter.history
 
   abbrev after : Pages
@@ -121,7 +125,8 @@ module _ (start : Op → ℕ → Start) (laws : KeepsLaws start) (b : Pages) (T 
       record { accepted = z.0; entries = z.1; order = z.2; reads = z.3; tallies = z.4 }
 
   -- the process that made the step stands as the run has it now
-  pub acted : (old new : Standing) (made : Option Stamp) (casts : List Delivered) (answer : Option Reply) → old ≡ standing_of n w p → Acts start old st made casts answer new
+  pub acted : (old new : Standing) (made : Option Stamp) (casts : List Delivered) (answer : Option Reply)
+      → old ≡ standing_of n w p → Acts start old st made casts answer new
       → (new ≡ standing_of n v p) × (made ≡ r.1.cast) × (casts ≡ r.1.delivered) × (answer ≡ r.1.reply)
   acted old new made casts answer is A =
       let B : Acts start (standing_of n w p) st made casts answer new = subst (λ (z : Standing). Acts start z st made casts answer new) is A in
@@ -132,7 +137,8 @@ module _ (start : Op → ℕ → Start) (laws : KeepsLaws start) (b : Pages) (T 
       let state : new.state ≡ (v.nodes p).state = B.state ∙ ap (λ (z : Node). z.state) (sym node) in
       (λ i. record { failed = B.runs i; state = state i; wires = wires i }, B.cast, B.delivered, B.reply)
 
-  pub stand_now : (members : List Standing) (new : Standing) → length members ≡ n → Stand start b members → new ≡ standing_of n v p → Stand start after (set members p new)
+  pub stand_now : (members : List Standing) (new : Standing) → length members ≡ n → Stand start b members
+      → new ≡ standing_of n v p → Stand start after (set members p new)
   stand_now members new size S is = record {
     each = λ q l. subst (λ (z : World). IsAt (set members p new) q (standing_of n z q)) (sym next) (elim (cases_eq q p) [
       | inl same ↦ subst (λ k. IsAt (set members p new) k (standing_of n v k)) (sym same) (at_set_same members p new (let h = here in omega (arith, h, size)) ∙ ap Some is)
@@ -141,7 +147,8 @@ module _ (start : Op → ℕ → Start) (laws : KeepsLaws start) (b : Pages) (T 
   }
 
   -- the world after the event
-  pub world_now : (members : List Standing) (new : Standing) (now : Pages) → IsWorld start false members b → new ≡ standing_of n v p → now ≡ after → IsWorld start false (set members p new) now
+  pub world_now : (members : List Standing) (new : Standing) (now : Pages) → IsWorld start false members b
+      → new ≡ standing_of n v p → now ≡ after → IsWorld start false (set members p new) now
   world_now members new now I is same = subst (λ (z : Pages). IsWorld start false (set members p new) z) (sym same) (record {
     few = I.few;
     size = length-set members p new ∙ I.size;

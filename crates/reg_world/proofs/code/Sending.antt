@@ -1,5 +1,6 @@
 -- The frames of an event go to the ends of their wires.
-use Rattle.std.proofs.Common.{◌≡◌, ℕ, zero, suc, ◌<◌, List, [], ◌∷◌, ◌++◌, map, length, get_or, set, replicate, refl, sym, ap, ◌∙◌, inl, inr, arith, length-append}
+use Rattle.std.proofs.Common.{◌≡◌, ℕ, zero, suc, ◌<◌, List, [], ◌∷◌, ◌++◌, map, length, get_or, set, replicate, refl}
+use Rattle.std.proofs.Common.{sym, ap, ◌∙◌, inl, inr, arith, length-append}
 use Rattle.std.proofs.lemmas.List.{append_assoc, append-nil, set_at, get_or_at}
 use Rattle.reg_base.specs.Order.{In}
 use Rattle.reg_frames.specs.declared.bodies.Frame.{Frame}
@@ -15,7 +16,8 @@ sent_both [] ys wires = refl
 sent_both (x ∷ xs) ys wires = sent_both xs ys (set wires x.to (get_or wires x.to [] ++ x.frame ∷ []))
 
 -- frames for one process
-sent_one : (n : ℕ) (fs : List Frame) (xs rest : List (List Frame)) (w : List Frame) → length xs ≡ n → sent (map (put_to n) fs) (xs ++ w ∷ rest) ≡ xs ++ (w ++ fs) ∷ rest
+sent_one : (n : ℕ) (fs : List Frame) (xs rest : List (List Frame)) (w : List Frame) → length xs ≡ n
+    → sent (map (put_to n) fs) (xs ++ w ∷ rest) ≡ xs ++ (w ++ fs) ∷ rest
 sent_one n [] xs rest w e = ap (λ z. xs ++ z ∷ rest) (sym (append-nil w))
 sent_one n (f ∷ fs) xs rest w e =
     let got : get_or (xs ++ w ∷ rest) n [] ≡ w = get_or_at xs w rest [] n e in
@@ -25,9 +27,11 @@ sent_one n (f ∷ fs) xs rest w e =
 
 pub length-listed : {X : Type 0} (f : ℕ → X) (n : ℕ) → length (listed f n) ≡ n
 length-listed f zero = refl
-length-listed f (suc n) = let a = length-append (listed f n) (f n ∷ []) in let b = length-listed f n in omega (arith, a, b)
+length-listed f (suc n) =
+    let a = length-append (listed f n) (f n ∷ []) in let b = length-listed f n in omega (arith, a, b)
 
-sent_listed : (wire frames : ℕ → List Frame) (n : ℕ) (rest : List (List Frame)) → sent (puts frames n) (listed wire n ++ rest) ≡ listed (λ b. wire b ++ frames b) n ++ rest
+sent_listed : (wire frames : ℕ → List Frame) (n : ℕ) (rest : List (List Frame))
+    → sent (puts frames n) (listed wire n ++ rest) ≡ listed (λ b. wire b ++ frames b) n ++ rest
 sent_listed wire frames zero rest = refl
 sent_listed wire frames (suc n) rest =
     let both : ℕ → List Frame = λ b. wire b ++ frames b in
@@ -37,7 +41,8 @@ sent_listed wire frames (suc n) rest =
     ∙ (sent_one n (frames n) (listed both n) rest (wire n) (length-listed both n)
     ∙ sym (append_assoc (listed both n) (both n ∷ []) rest))))
 
-pub sent_all : (wire frames : ℕ → List Frame) (n : ℕ) → sent (puts frames n) (listed wire n) ≡ listed (λ b. wire b ++ frames b) n
+pub sent_all : (wire frames : ℕ → List Frame) (n : ℕ)
+    → sent (puts frames n) (listed wire n) ≡ listed (λ b. wire b ++ frames b) n
 sent_all wire frames n =
     ap (sent (puts frames n)) (sym (append-nil (listed wire n))) ∙ (sent_listed wire frames n [] ∙ append-nil (listed (λ b. wire b ++ frames b) n))
 

@@ -1,5 +1,6 @@
 -- One step of a world, as its functions take it.
-use Rattle.std.proofs.Common.{◌≡◌, ℕ, ◌<◌, Bool, true, false, List, [], ◌∷◌, ◌++◌, length, get_or, set, Option, Some, None, Ok, Err, refl, sym, ap, ◌∙◌, subst, arith}
+use Rattle.std.proofs.Common.{◌≡◌, ℕ, ◌<◌, Bool, true, false, List, [], ◌∷◌, ◌++◌, length, get_or, set, Option, Some}
+use Rattle.std.proofs.Common.{None, Ok, Err, refl, sym, ap, ◌∙◌, subst, arith}
 use Rattle.std.specs.Option.{is_some}
 use Rattle.std.proofs.lemmas.Option.{same_Some}
 use Rattle.reg_base.specs.declared.memory.Op.{Op}
@@ -13,7 +14,8 @@ use Rattle.reg_process.specs.Process.{step}
 use Rattle.reg_checkers.specs.History.{IsAt}
 use Rattle.reg_process.specs.declared.events.Event.{Event}
 use Rattle.reg_world.specs.declared.faults.WorldFault.{WorldFault}
-use Rattle.reg_world.specs.declared.faults.WorldFault.TheVariants.{Failed, TooManyEvents, NoProcess, Busy, NoRegister, TooManyOperations, NoFrame, OutOfMemory}
+use Rattle.reg_world.specs.declared.faults.WorldFault.TheVariants.{Failed, TooManyEvents, NoProcess, Busy, NoRegister}
+use Rattle.reg_world.specs.declared.faults.WorldFault.TheVariants.{TooManyOperations, NoFrame, OutOfMemory}
 use Rattle.reg_world.specs.Nodes.{Node}
 use Rattle.reg_world.specs.World.{World, world_fault, move_of, moved, whole}
 use Rattle.reg_world.specs.Histories.{Grows}
@@ -72,7 +74,8 @@ module _ (start : Op → ℕ → Start) (laws : KeepsLaws start) (b : Pages) (me
         }
 
 -- a fault that applies, and nothing has changed
-refuses_by : (start : Op → ℕ → Start) (m : Made) (e : Event) (fault : WorldFault) → refusal start m e ≡ Some fault → (fault ≡ OutOfMemory → ⊥) → Refuses start m e fault m
+refuses_by : (start : Op → ℕ → Start) (m : Made) (e : Event) (fault : WorldFault) → refusal start m e ≡ Some fault
+    → (fault ≡ OutOfMemory → ⊥) → Refuses start m e fault m
 refuses_by start m e Failed h other = (h, refl)
 refuses_by start m e TooManyEvents h other = (h, refl)
 refuses_by start m e NoProcess h other = (h, refl)
@@ -107,19 +110,23 @@ module _ (start : Op → ℕ → Start) (failed : Bool) (b : Pages) (members : L
   pub none_is : (x : ℕ × Step) → found members b e ≡ Ok x → refusal start m e ≡ None
   none_is x h = subst (λ z. refusal start z e ≡ None) here_false (ok_is x h).0
 
-  pub accepts_is : (x : ℕ × Step) → found members b e ≡ Ok x → (answer : Option Reply) (now : List Standing) (after : Pages) → Advances start b e answer now after → Accepts start m e (made_of failed after) × (answer ≡ reply_in start m e)
+  pub accepts_is : (x : ℕ × Step) → found members b e ≡ Ok x
+      → (answer : Option Reply) (now : List Standing) (after : Pages) → Advances start b e answer now after
+      → Accepts start m e (made_of failed after) × (answer ≡ reply_in start m e)
   accepts_is x h answer now after A = (
     record { no_fault = none_is x h; after = ap (λ f. made_of f after) no_stop ∙ (A.made ∙ ap (λ z. with_event start z e) here_false) },
     A.reply ∙ ap (λ z. reply_in start z e) here_false,
   )
 
-  pub grows_is : (answer : Option Reply) (now : List Standing) (after : Pages) → Advances start b e answer now after → Grows (length m.accepted) m.history e answer (made_of failed after).history
+  pub grows_is : (answer : Option Reply) (now : List Standing) (after : Pages) → Advances start b e answer now after
+      → Grows (length m.accepted) m.history e answer (made_of failed after).history
   grows_is answer now after A = subst (λ (z : Made). Grows (length z.accepted) z.history e answer after.entries) is A.grows
 
   pub stopped_is : (after : Pages) → after ≡ b → made_of true after ≡ stopped m
   stopped_is after same = ap (made_of true) same ∙ ap stopped here_false
 
-pub stopped_world : (start : Op → ℕ → Start) (failed : Bool) (members now : List Standing) (b after : Pages) → IsWorld start failed members b → after ≡ b → length now ≡ length members → IsWorld start true now after
+pub stopped_world : (start : Op → ℕ → Start) (failed : Bool) (members now : List Standing) (b after : Pages)
+    → IsWorld start failed members b → after ≡ b → length now ≡ length members → IsWorld start true now after
 stopped_world start failed members now b after I same size = subst (λ z. IsWorld start true now z) (sym same) (record {
   few = I.few;
   size = size ∙ I.size;

@@ -1,9 +1,11 @@
 -- What is kept of the operations of each process tells which are finished, and which casts were delivered nowhere.
-use Rattle.std.proofs.Common.{◌≡◌, ◌≢◌, ℕ, zero, suc, ◌+◌, ◌-◌, ◌<◌, ◌≤◌, ◌⊎◌, ◌↔◌, Bool, true, false, List, [], ◌∷◌, ◌++◌, map, length, Option, Some, None, refl, sym, ap, ◌∙◌, subst, inl, inr, arith}
+use Rattle.std.proofs.Common.{◌≡◌, ◌≢◌, ℕ, zero, suc, ◌+◌, ◌-◌, ◌<◌, ◌≤◌, ◌⊎◌, ◌↔◌, Bool, true, false, List, [], ◌∷◌}
+use Rattle.std.proofs.Common.{◌++◌, map, length, Option, Some, None, refl, sym, ap, ◌∙◌, subst, inl, inr, arith}
 use Rattle.std.specs.Prelude.{slice_get, slice_index_or, nat_lt, ◌==◌, ◌||◌, if◌then◌else◌}
 use Rattle.std.specs.Option.{is_some}
 use Rattle.std.specs.List.{filter}
-use Rattle.std.proofs.lemmas.Bool.{cond_both, cases_lt, cases_order, ltb-true, eqb-true, eq-eqb, and_parts, and_from, false≢true}
+use Rattle.std.proofs.lemmas.Bool.{cond_both, cases_lt, cases_order, ltb-true, eqb-true, eq-eqb, and_parts, and_from}
+use Rattle.std.proofs.lemmas.Bool.{false≢true}
 use Rattle.std.proofs.lemmas.Bool.Decides.{nat_tests}
 use Rattle.std.proofs.lemmas.List.{get_or_past}
 use Rattle.std.proofs.lemmas.Option.{same_Some}
@@ -29,8 +31,10 @@ use Rattle.reg_world.specs.Keys.{IsKept, Keeps, Nothing, Takes, Leaves, IsWitnes
 use Rattle.reg_world.specs.World.{World, op_id, casts_in, move_of, moved, whole}
 use Rattle.reg_world.specs.Tallies.{Tally, no_calls, finished, is_done}
 use Rattle.reg_world.specs.Books.{note_of, tally_of, AreTallies}
-use Rattle.reg_world.specs.Witnesses.{is_kept, point_of, ranked_read, last_stamp, stamp_in, is_after, ranked_note, is_lost, lost_of, lost_from, IsSortedFrom, IsMerged, all_keyed}
-use Rattle.reg_world.proofs.lists.Rises.{RisesBy, rises_append, rises_map, rises_filter, rises_weaker, rises_from_places, in_kept, kept_in}
+use Rattle.reg_world.specs.Witnesses.{is_kept, point_of, ranked_read, last_stamp, stamp_in, is_after, ranked_note}
+use Rattle.reg_world.specs.Witnesses.{is_lost, lost_of, lost_from, IsSortedFrom, IsMerged, all_keyed}
+use Rattle.reg_world.proofs.lists.Rises.{RisesBy, rises_append, rises_map, rises_filter, rises_weaker}
+use Rattle.reg_world.proofs.lists.Rises.{rises_from_places, in_kept, kept_in}
 use Rattle.reg_world.proofs.witness.Ranking.{Lower, sorted_in, in_sorted, sorted_rises}
 use Rattle.reg_world.proofs.code.Merging.{by_keys}
 use Rattle.reg_base.proofs.Lists.{in_left, in_right, in_cases}
@@ -74,7 +78,9 @@ casts_alone id (Call op) (Some stamp) = (λ y i. absurd i, tt)
 casts_alone id (Take a f) o = tt
 casts_alone id Tick o = tt
 
-grown_casts : (start : Op → ℕ → Start) (w : World) (e : Event) (m : Option (ℕ × Step)) → ((c : Cast) → In c w.casts → c.id.number < (w.nodes c.id.process).state.calls) → RisesBy OwnLater w.casts → RisesBy OwnLater (moved start w e m).casts
+grown_casts : (start : Op → ℕ → Start) (w : World) (e : Event) (m : Option (ℕ × Step))
+    → ((c : Cast) → In c w.casts → c.id.number < (w.nodes c.id.process).state.calls) → RisesBy OwnLater w.casts
+    → RisesBy OwnLater (moved start w e m).casts
 grown_casts start w e None fresh r = r
 grown_casts start w e (Some m) fresh r =
     let s = (w.nodes m.0).state in
@@ -91,7 +97,8 @@ grown_casts start w e (Some m) fresh r =
 abbrev IsLostOf : Option Stamp → List Tally → ℕ → Ranked → Type 0
 IsLostOf last ts k x = (p : ℕ) × (t : Tally) × (note : Note) × IsAt ts p t × In note t.casts × (is_lost last (k + p) t note ≡ true) × (x ≡ ranked_note (k + p) note)
 
-in_lost : (last : Option Stamp) (k : ℕ) (ts : List Tally) (x : Ranked) → In x (lost_from last k ts) → IsLostOf last ts k x
+in_lost : (last : Option Stamp) (k : ℕ) (ts : List Tally) (x : Ranked) → In x (lost_from last k ts)
+    → IsLostOf last ts k x
 in_lost last k [] x h = absurd h
 in_lost last k (t ∷ ts) x h = elim (in_cases x (lost_of last k t) (lost_from last (k + 1) ts) h) [
   | inl i ↦
@@ -105,7 +112,8 @@ in_lost last k (t ∷ ts) x h = elim (in_cases x (lost_of last k t) (lost_from l
       (suc r.0, r.1, r.2, r.3, r.4, subst (λ j. is_lost last j r.1 r.2 ≡ true) z r.5, r.6 ∙ ap (λ j. ranked_note j r.2) z)
 ]
 
-lost_in : (last : Option Stamp) (k : ℕ) (ts : List Tally) (p : ℕ) (t : Tally) (note : Note) → IsAt ts p t → In note t.casts → is_lost last (k + p) t note ≡ true → In (ranked_note (k + p) note) (lost_from last k ts)
+lost_in : (last : Option Stamp) (k : ℕ) (ts : List Tally) (p : ℕ) (t : Tally) (note : Note) → IsAt ts p t
+    → In note t.casts → is_lost last (k + p) t note ≡ true → In (ranked_note (k + p) note) (lost_from last k ts)
 lost_in last k [] p t note at i e = absurd cc
 lost_in last k (u ∷ ts) zero t note at i e =
     let z : k + 0 ≡ k = omega arith in
@@ -128,7 +136,8 @@ Numbered a b = a.number < b.number
 of_rises : (last : Option Stamp) (k : ℕ) (t : Tally) → RisesBy Numbered t.casts → RisesBy ById (lost_of last k t)
 of_rises last k t r = rises_map Numbered ById (ranked_note k) (filter (is_lost last k t) t.casts) (rises_filter Numbered (is_lost last k t) t.casts r) (λ a b i j h. inr (refl, h))
 
-from_rises : (last : Option Stamp) (k : ℕ) (ts : List Tally) → ((p : ℕ) (t : Tally) → IsAt ts p t → RisesBy Numbered t.casts) → RisesBy ById (lost_from last k ts)
+from_rises : (last : Option Stamp) (k : ℕ) (ts : List Tally)
+    → ((p : ℕ) (t : Tally) → IsAt ts p t → RisesBy Numbered t.casts) → RisesBy ById (lost_from last k ts)
 from_rises last k [] h = tt
 from_rises last k (t ∷ ts) h =
     rises_append ById (lost_of last k t) (lost_from last (k + 1) ts) (of_rises last k t (h 0 t refl)) (from_rises last (k + 1) ts (λ p u at. h (suc p) u at))
@@ -142,7 +151,8 @@ from_rises last k (t ∷ ts) h =
 by_id_apart : (a b : Ranked) → ById a b → a ≢ b
 by_id_apart a b h e = grind arith
 
-keeps_filter : {X : Type 0} (P : X → Type 0) (p : X → Bool) → ((x : X) → P x ↔ (p x ≡ true)) → (xs : List X) → Keeps P xs (filter p xs)
+keeps_filter : {X : Type 0} (P : X → Type 0) (p : X → Bool) → ((x : X) → P x ↔ (p x ≡ true)) → (xs : List X)
+    → Keeps P xs (filter p xs)
 keeps_filter P p iff [] = Nothing
 keeps_filter P p iff (x ∷ xs) =
     cond_both (p x) (x ∷ filter p xs) (filter p xs) (Keeps P (x ∷ xs))
@@ -150,7 +160,8 @@ keeps_filter P p iff (x ∷ xs) =
     (λ e. Leaves (λ h. false≢true (sym e ∙ (iff x).0 h)) (keeps_filter P p iff xs))
 
 module _ (start : Op → ℕ → Start) (n registers : ℕ) (laws : KeepsLaws start) where
-  pub fresh : (events : List Event) (c : Cast) → In c (whole start n registers events).casts → c.id.number < ((whole start n registers events).nodes c.id.process).state.calls
+  pub fresh : (events : List Event) (c : Cast) → In c (whole start n registers events).casts
+      → c.id.number < ((whole start n registers events).nodes c.id.process).state.calls
   fresh events c i =
       let v = V start n registers laws events in
       let x = (J start n registers laws events).cast c i in

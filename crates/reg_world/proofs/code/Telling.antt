@@ -1,5 +1,6 @@
 -- One event of a world, from its parts.
-use Rattle.std.proofs.Common.{◌≡◌, ℕ, zero, suc, ◌<◌, Bool, true, false, not, cond, List, [], ◌∷◌, ◌++◌, length, Option, Some, None, Result, Ok, Err, refl, sym, ap, ◌∙◌, subst, inl, inr, arith}
+use Rattle.std.proofs.Common.{◌≡◌, ℕ, zero, suc, ◌<◌, Bool, true, false, not, cond, List, [], ◌∷◌, ◌++◌, length, Option}
+use Rattle.std.proofs.Common.{Some, None, Result, Ok, Err, refl, sym, ap, ◌∙◌, subst, inl, inr, arith}
 use Rattle.std.specs.Prelude.{nat_lt, ◌==◌, ◌&&◌, slice_get, MatchResult}
 use Rattle.std.specs.Option.{is_some}
 use Rattle.std.proofs.lemmas.Bool.{cond_both, cases_lt, cases_eq}
@@ -13,13 +14,15 @@ use Rattle.reg_process.specs.declared.steps.Step.TheVariants.{Call as CallStep, 
 use Rattle.reg_process.specs.declared.events.Event.{Event}
 use Rattle.reg_process.specs.declared.events.Event.TheVariants.{Call, Take, Tick}
 use Rattle.reg_world.specs.declared.faults.WorldFault.{WorldFault}
-use Rattle.reg_world.specs.declared.faults.WorldFault.TheVariants.{Failed, TooManyEvents, NoProcess, Busy, NoRegister, TooManyOperations, NoFrame, OutOfMemory}
+use Rattle.reg_world.specs.declared.faults.WorldFault.TheVariants.{Failed, TooManyEvents, NoProcess, Busy, NoRegister}
+use Rattle.reg_world.specs.declared.faults.WorldFault.TheVariants.{TooManyOperations, NoFrame, OutOfMemory}
 use Rattle.reg_world.specs.Nodes.{Nodes, step_of, take_step}
 use Rattle.reg_world.specs.World.{World, frame_fault, event_fault, world_fault, move_of, whole}
 use Rattle.reg_world.specs.Books.{tally_of}
 use Rattle.reg_world.specs.Pages.{Pages, tally_at}
 use Rattle.reg_world.specs.Members.{Standing, listed}
-use Rattle.reg_world.specs.WorldParts.{Tells, Stand, tally_fault, call_refusal, wire_in, frame_or, frame_in, call_or, take_or, found_step, found}
+use Rattle.reg_world.specs.WorldParts.{Tells, Stand, tally_fault, call_refusal, wire_in, frame_or, frame_in, call_or}
+use Rattle.reg_world.specs.WorldParts.{take_or, found_step, found}
 use Rattle.reg_world.proofs.lists.Bodies.{place_first, place_last}
 use Rattle.reg_world.proofs.code.Tallied.{at_or}
 use Rattle.reg_world.proofs.code.Sending.{length-listed}
@@ -29,7 +32,10 @@ use Rattle.reg_world.proofs.code.Found.{not_less}
 abbrev pub IsFound : Option WorldFault → Option (ℕ × Step) → Result (ℕ × Step) WorldFault → Type 0
 IsFound fault move result = MatchResult result (λ m. (fault ≡ None) × (move ≡ Some m)) (λ f. fault ≡ Some f)
 
-call_found : (a b c d : Bool) (p : ℕ) (op : Op) → IsFound (cond a (cond b (Some Busy) (cond c (cond d None (Some TooManyOperations)) (Some NoRegister))) (Some NoProcess)) (cond (a && (not b && (c && d))) (Some (p, CallStep op)) None)
+call_found : (a b c d : Bool) (p : ℕ) (op : Op)
+    → IsFound
+    (cond a (cond b (Some Busy) (cond c (cond d None (Some TooManyOperations)) (Some NoRegister))) (Some NoProcess))
+    (cond (a && (not b && (c && d))) (Some (p, CallStep op)) None)
     (call_or (cond a (cond b (Some Busy) (cond c (cond d None (Some TooManyOperations)) (Some NoRegister))) (Some NoProcess)) p op)
 call_found false b c d p op = refl
 call_found true true c d p op = refl
@@ -37,7 +43,9 @@ call_found true false false d p op = refl
 call_found true false true false p op = refl
 call_found true false true true p op = (refl, refl)
 
-take_found : (a b c : Bool) (o : Option Frame) (from to : ℕ) → IsFound (cond a (cond b (cond c (Some NoFrame) (frame_fault o)) (Some NoProcess)) (Some NoProcess)) (cond (a && (b && not c)) (take_step from to o) None)
+take_found : (a b c : Bool) (o : Option Frame) (from to : ℕ)
+    → IsFound (cond a (cond b (cond c (Some NoFrame) (frame_fault o)) (Some NoProcess)) (Some NoProcess))
+    (cond (a && (b && not c)) (take_step from to o) None)
     (take_or (cond a (cond b (cond c (Err NoFrame) (frame_or o)) (Err NoProcess)) (Err NoProcess)) from to)
 take_found false b c o from to = refl
 take_found true false c o from to = refl
@@ -45,11 +53,15 @@ take_found true true true o from to = refl
 take_found true true false None from to = refl
 take_found true true false (Some f) from to = (refl, refl)
 
-tick_found : (a : Bool) (p : ℕ) → IsFound (cond a None (Some NoProcess)) (cond a (Some (p, TickStep)) None) (cond a (Ok (p, TickStep)) (Err NoProcess))
+tick_found : (a : Bool) (p : ℕ)
+    → IsFound (cond a None (Some NoProcess)) (cond a (Some (p, TickStep)) None)
+    (cond a (Ok (p, TickStep)) (Err NoProcess))
 tick_found false p = refl
 tick_found true p = (refl, refl)
 
-events_found : (a : Bool) (fault : Option WorldFault) (move : Option (ℕ × Step)) (result : Result (ℕ × Step) WorldFault) → IsFound fault move result → IsFound (cond a fault (Some TooManyEvents)) (cond a move None) (cond a result (Err TooManyEvents))
+events_found : (a : Bool) (fault : Option WorldFault) (move : Option (ℕ × Step)) (result : Result (ℕ × Step) WorldFault)
+    → IsFound fault move result
+    → IsFound (cond a fault (Some TooManyEvents)) (cond a move None) (cond a result (Err TooManyEvents))
 events_found true fault move result h = h
 events_found false fault move result h = refl
 
@@ -116,7 +128,8 @@ module _ (start : Op → ℕ → Start) (b : Pages) (members : List Standing) (s
   step_right (Take from to number) = take_right from to number
   step_right (Tick p) = subst (λ m. IsFound (cond (nat_lt p n) None (Some NoProcess)) (cond (nat_lt p n) (Some (p, TickStep)) None) (cond (nat_lt p m) (Ok (p, TickStep)) (Err NoProcess))) (sym size) (tick_found (nat_lt p n) p)
 
-  pub found_right : (e : Event) → IsFound (world_fault n b.shape.registers w e) (move_of n b.shape.registers w e) (found members b e)
+  pub found_right : (e : Event)
+      → IsFound (world_fault n b.shape.registers w e) (move_of n b.shape.registers w e) (found members b e)
   found_right e =
       subst (λ l. IsFound (world_fault n b.shape.registers w e) (move_of n b.shape.registers w e) (cond (nat_lt (length l) MOST_EVENTS) (found_step members b e) (Err TooManyEvents))) T.accepted
       (events_found (nat_lt (length w.accepted) MOST_EVENTS) (event_fault n b.shape.registers w.nodes e) (step_of n b.shape.registers w.nodes e) (found_step members b e) (step_right e))
@@ -125,14 +138,17 @@ module _ (start : Op → ℕ → Start) (b : Pages) (members : List Standing) (s
 abbrev IsOrdinary : Option WorldFault → Type 0
 IsOrdinary o = (o ≡ Some OutOfMemory → ⊥) × (o ≡ Some Failed → ⊥)
 
-ordinary_call : (a b c d : Bool) → IsOrdinary (cond a (cond b (Some Busy) (cond c (cond d None (Some TooManyOperations)) (Some NoRegister))) (Some NoProcess))
+ordinary_call : (a b c d : Bool)
+    → IsOrdinary
+    (cond a (cond b (Some Busy) (cond c (cond d None (Some TooManyOperations)) (Some NoRegister))) (Some NoProcess))
 ordinary_call false b c d = (λ e. cc, λ e. cc)
 ordinary_call true true c d = (λ e. cc, λ e. cc)
 ordinary_call true false false d = (λ e. cc, λ e. cc)
 ordinary_call true false true false = (λ e. cc, λ e. cc)
 ordinary_call true false true true = (λ e. cc, λ e. cc)
 
-ordinary_take : (a b c : Bool) (o : Option Frame) → IsOrdinary (cond a (cond b (cond c (Some NoFrame) (frame_fault o)) (Some NoProcess)) (Some NoProcess))
+ordinary_take : (a b c : Bool) (o : Option Frame)
+    → IsOrdinary (cond a (cond b (cond c (Some NoFrame) (frame_fault o)) (Some NoProcess)) (Some NoProcess))
 ordinary_take false b c o = (λ e. cc, λ e. cc)
 ordinary_take true false c o = (λ e. cc, λ e. cc)
 ordinary_take true true true o = (λ e. cc, λ e. cc)
@@ -145,7 +161,8 @@ ordinary_tick true = (λ e. cc, λ e. cc)
 
 ordinary_event : (n registers : ℕ) (w : Nodes) (e : Event) → IsOrdinary (event_fault n registers w e)
 ordinary_event n registers w (Call p op) = ordinary_call (nat_lt p n) (is_some (w p).state.running) (nat_lt (register_of op) registers) (nat_lt (w p).state.calls MOST_OPERATIONS)
-ordinary_event n registers w (Take from to number) = ordinary_take (nat_lt from n) (nat_lt to n) (from == to) (slice_get ((w from).wire to) number)
+ordinary_event n registers w (Take from to number) =
+    ordinary_take (nat_lt from n) (nat_lt to n) (from == to) (slice_get ((w from).wire to) number)
 ordinary_event n registers w (Tick p) = ordinary_tick (nat_lt p n)
 
 pub ordinary : (n registers : ℕ) (w : World) (e : Event) → IsOrdinary (world_fault n registers w e)

@@ -1,5 +1,6 @@
 -- Lists with one element replaced, and filters and maps by equal functions.
-use Rattle.std.proofs.Common.{◌≡◌, ℕ, zero, suc, ◌<◌, Bool, cond, List, [], ◌∷◌, ◌++◌, map, length, set, refl, ap, ◌∙◌, inl, inr, arith}
+use Rattle.std.proofs.Common.{◌≡◌, ℕ, zero, suc, ◌<◌, Bool, cond, List, [], ◌∷◌, ◌++◌, map, length, set, refl, ap, ◌∙◌}
+use Rattle.std.proofs.Common.{inl, inr, arith}
 use Rattle.std.specs.Prelude.{slice_get}
 use Rattle.std.specs.List.{filter}
 use Rattle.std.proofs.lemmas.Bool.{cond_both}
@@ -12,7 +13,8 @@ at_set_same [] p x l = absurd (omega arith)
 at_set_same (y ∷ xs) zero x l = refl
 at_set_same (y ∷ xs) (suc p) x l = at_set_same xs p x (omega arith)
 
-pub at_set_other : {X : Type 0} (xs : List X) (p q : ℕ) (x : X) → (q ≡ p → ⊥) → slice_get (set xs p x) q ≡ slice_get xs q
+pub at_set_other : {X : Type 0} (xs : List X) (p q : ℕ) (x : X) → (q ≡ p → ⊥)
+    → slice_get (set xs p x) q ≡ slice_get xs q
 at_set_other [] p q x ne = refl
 at_set_other (y ∷ xs) zero zero x ne = absurd (ne refl)
 at_set_other (y ∷ xs) zero (suc q) x ne = refl
@@ -27,11 +29,13 @@ filter_append f (x ∷ xs) ys =
     (λ e. ap (λ b. cond b (x ∷ (filter f xs ++ filter f ys)) (filter f xs ++ filter f ys)) e)
     (λ e. ap (λ b. cond b (x ∷ (filter f xs ++ filter f ys)) (filter f xs ++ filter f ys)) e)
 
-pub filter_same : {X : Type 0} (f g : X → Bool) (xs : List X) → ((x : X) → In x xs → f x ≡ g x) → filter f xs ≡ filter g xs
+pub filter_same : {X : Type 0} (f g : X → Bool) (xs : List X) → ((x : X) → In x xs → f x ≡ g x)
+    → filter f xs ≡ filter g xs
 filter_same f g [] h = refl
 filter_same f g (x ∷ xs) h =
     ap (λ l. cond (f x) (x ∷ l) l) (filter_same f g xs (λ y i. h y (inr i))) ∙ ap (λ b. cond b (x ∷ filter g xs) (filter g xs)) (h x (inl refl))
 
 pub map_same : {X Y : Type 0} (f g : X → Y) (xs : List X) → ((x : X) → In x xs → f x ≡ g x) → map f xs ≡ map g xs
 map_same f g [] h = refl
-map_same f g (x ∷ xs) h = ap (λ y. y ∷ map f xs) (h x (inl refl)) ∙ ap (λ l. g x ∷ l) (map_same f g xs (λ y i. h y (inr i)))
+map_same f g (x ∷ xs) h =
+    ap (λ y. y ∷ map f xs) (h x (inl refl)) ∙ ap (λ l. g x ∷ l) (map_same f g xs (λ y i. h y (inr i)))

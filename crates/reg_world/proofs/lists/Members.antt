@@ -1,5 +1,6 @@
 -- Members of lists, and induction from the end.
-use Rattle.std.proofs.Common.{ℕ, ◌≡◌, zero, suc, ◌<◌, List, [], ◌∷◌, ◌++◌, map, Some, length, get_or, ap, sym, subst, inl, inr, refl, arith, append_assoc}
+use Rattle.std.proofs.Common.{ℕ, ◌≡◌, zero, suc, ◌<◌, List, [], ◌∷◌, ◌++◌, map, Some, length, get_or, ap, sym, subst}
+use Rattle.std.proofs.Common.{inl, inr, refl, arith, append_assoc}
 use Rattle.std.proofs.lemmas.List.{append-nil}
 use Rattle.reg_base.specs.Order.{In}
 use Rattle.reg_checkers.specs.History.{IsAt}
@@ -13,7 +14,8 @@ in_at x (y ∷ xs) (inr h) = let r = in_at x xs h in (suc r.0, r.1)
 pub at_in : {X : Type 0} (x : X) (xs : List X) → ((k : ℕ) × IsAt xs k x) → In x xs
 at_in x xs h = place_in xs h.0 x h.1
 
-pub from_end : {X : Type 0} (P : List X → Type 0) → P [] → ((xs : List X) (x : X) → P xs → P (xs ++ x ∷ [])) → (xs : List X) → P xs
+pub from_end : {X : Type 0} (P : List X → Type 0) → P [] → ((xs : List X) (x : X) → P xs → P (xs ++ x ∷ []))
+    → (xs : List X) → P xs
 from_end {X = X} P z s xs = go xs [] z
   where
     go : (xs done : List X) → P done → P (done ++ xs)

@@ -1,5 +1,6 @@
 -- Lists in which each element stands in a relation to all later ones.
-use Rattle.std.proofs.Common.{◌≡◌, ◌≢◌, ℕ, zero, suc, ◌+◌, ◌<◌, ◌≤◌, Bool, true, false, cond, List, [], ◌∷◌, ◌++◌, map, length, Some, refl, sym, ap, ◌∙◌, subst, inl, inr, arith}
+use Rattle.std.proofs.Common.{◌≡◌, ◌≢◌, ℕ, zero, suc, ◌+◌, ◌<◌, ◌≤◌, Bool, true, false, cond, List, [], ◌∷◌, ◌++◌, map}
+use Rattle.std.proofs.Common.{length, Some, refl, sym, ap, ◌∙◌, subst, inl, inr, arith}
 use Rattle.std.specs.List.{filter}
 use Rattle.std.specs.Prelude.{slice_index_or}
 use Rattle.std.proofs.lemmas.Option.{same_Some}
@@ -14,14 +15,16 @@ abbrev pub RisesBy : {X : Type 0} → (X → X → Type 0) → List X → Type 0
 RisesBy R [] = Unit {0}
 RisesBy {X} R (x ∷ xs) = ((y : X) → In y xs → R x y) × RisesBy R xs
 
-pub rises_at : {X : Type 0} (R : X → X → Type 0) (xs : List X) (i j : ℕ) (a b : X) → RisesBy R xs → IsAt xs i a → IsAt xs j b → i < j → R a b
+pub rises_at : {X : Type 0} (R : X → X → Type 0) (xs : List X) (i j : ℕ) (a b : X) → RisesBy R xs → IsAt xs i a
+    → IsAt xs j b → i < j → R a b
 rises_at R [] i j a b r at1 at2 lt = absurd cc
 rises_at R (x ∷ xs) zero zero a b r at1 at2 lt = absurd (omega arith)
 rises_at R (x ∷ xs) zero (suc j) a b r at1 at2 lt = subst (λ z. R z b) (same_Some x a at1) (r.0 b (place_in xs j b at2))
 rises_at R (x ∷ xs) (suc i) zero a b r at1 at2 lt = absurd (omega arith)
 rises_at R (x ∷ xs) (suc i) (suc j) a b r at1 at2 lt = rises_at R xs i j a b r.1 at1 at2 (omega arith)
 
-pub rises_from_places : {X : Type 0} (R : X → X → Type 0) (xs : List X) → ((i j : ℕ) (a b : X) → IsAt xs i a → IsAt xs j b → i < j → R a b) → RisesBy R xs
+pub rises_from_places : {X : Type 0} (R : X → X → Type 0) (xs : List X)
+    → ((i j : ℕ) (a b : X) → IsAt xs i a → IsAt xs j b → i < j → R a b) → RisesBy R xs
 rises_from_places R [] h = tt
 rises_from_places {X = X} R (x ∷ xs) h = (λ y i. let p = found xs y i in h 0 (suc p.0) x y refl p.1 (omega arith), rises_from_places R xs (λ i j a b at1 at2 lt. h (suc i) (suc j) a b at1 at2 (omega arith)))
   where
@@ -30,11 +33,13 @@ rises_from_places {X = X} R (x ∷ xs) h = (λ y i. let p = found xs y i in h 0 
     found (z ∷ zs) y (inl e) = (0, ap Some (sym e))
     found (z ∷ zs) y (inr i) = let r = found zs y i in (suc r.0, r.1)
 
-pub rises_append : {X : Type 0} (R : X → X → Type 0) (xs ys : List X) → RisesBy R xs → RisesBy R ys → ((x y : X) → In x xs → In y ys → R x y) → RisesBy R (xs ++ ys)
+pub rises_append : {X : Type 0} (R : X → X → Type 0) (xs ys : List X) → RisesBy R xs → RisesBy R ys
+    → ((x y : X) → In x xs → In y ys → R x y) → RisesBy R (xs ++ ys)
 rises_append R [] ys r s h = s
 rises_append R (x ∷ xs) ys r s h = (λ y i. elim (in_cases y xs ys i) [ inl k ↦ r.0 y k | inr k ↦ h x y (inl refl) k ], rises_append R xs ys r.1 s (λ a b i j. h a b (inr i) j))
 
-pub rises_map : {X Y : Type 0} (R : X → X → Type 0) (S : Y → Y → Type 0) (f : X → Y) (xs : List X) → RisesBy R xs → ((a b : X) → In a xs → In b xs → R a b → S (f a) (f b)) → RisesBy S (map f xs)
+pub rises_map : {X Y : Type 0} (R : X → X → Type 0) (S : Y → Y → Type 0) (f : X → Y) (xs : List X) → RisesBy R xs
+    → ((a b : X) → In a xs → In b xs → R a b → S (f a) (f b)) → RisesBy S (map f xs)
 rises_map R S f [] r h = tt
 rises_map {Y = Y} R S f (x ∷ xs) r h = (
   λ y i. let p = map_in f y xs i in subst (λ z. S (f x) z) (sym p.2) (h x p.0 (inl refl) (inr p.1) (r.0 p.0 p.1)),
@@ -61,7 +66,8 @@ kept_in p c (x ∷ xs) h e =
     (λ q k. elim k [ inl z ↦ absurd (let t : true ≡ false = sym e ∙ (ap p z ∙ q) in cc) | inr z ↦ kept_in p c xs z e ])
     h
 
-pub rises_filter : {X : Type 0} (R : X → X → Type 0) (p : X → Bool) (xs : List X) → RisesBy R xs → RisesBy R (filter p xs)
+pub rises_filter : {X : Type 0} (R : X → X → Type 0) (p : X → Bool) (xs : List X) → RisesBy R xs
+    → RisesBy R (filter p xs)
 rises_filter R p [] r = tt
 rises_filter R p (x ∷ xs) r =
     cond_both (p x) (x ∷ filter p xs) (filter p xs) (RisesBy R)
@@ -73,7 +79,8 @@ abbrev pub IsFew : {X : Type 0} → List X → Type 0
 IsFew xs = length xs ≤ 1
 
 -- of different elements a test that tells them apart passes one
-pub few_kept : {X : Type 0} (p : X → Bool) (xs : List X) → RisesBy (λ (a b : X). a ≢ b) xs → ((a b : X) → p a ≡ true → p b ≡ true → a ≡ b) → IsFew (filter p xs)
+pub few_kept : {X : Type 0} (p : X → Bool) (xs : List X) → RisesBy (λ (a b : X). a ≢ b) xs
+    → ((a b : X) → p a ≡ true → p b ≡ true → a ≡ b) → IsFew (filter p xs)
 few_kept p [] r one = omega arith
 few_kept {X = X} p (x ∷ xs) r one =
     cond_both (p x) (x ∷ filter p xs) (filter p xs) IsFew
@@ -85,9 +92,11 @@ few_kept {X = X} p (x ∷ xs) r one =
     none (y ∷ ys) e h = ap (λ b. cond b (y ∷ filter p ys) (filter p ys)) (not_true (p y) (λ q. h y (inl refl) (one x y e q))) ∙ none ys e (λ z i. h z (inr i))
 
 -- what no test passes twice stands apart
-pub apart_from_few : {X : Type 0} (p : X → X → Bool) (ys : List X) → ((x : X) → p x x ≡ true) → ((x : X) → IsFew (filter (p x) ys)) → RisesBy (λ (a b : X). a ≢ b) ys
+pub apart_from_few : {X : Type 0} (p : X → X → Bool) (ys : List X) → ((x : X) → p x x ≡ true)
+    → ((x : X) → IsFew (filter (p x) ys)) → RisesBy (λ (a b : X). a ≢ b) ys
 apart_from_few p [] self few = tt
-apart_from_few {X = X} p (y ∷ ys) self few = (apart, apart_from_few p ys self (λ x. let f = few x in shorter x (p x y) f))
+apart_from_few {X = X} p (y ∷ ys) self few =
+    (apart, apart_from_few p ys self (λ x. let f = few x in shorter x (p x y) f))
   where
     shorter : (x : X) (b : Bool) → IsFew (cond b (y ∷ filter (p x) ys) (filter (p x) ys)) → IsFew (filter (p x) ys)
     shorter x true f = omega (arith, f)
@@ -108,7 +117,8 @@ apart_from_few {X = X} p (y ∷ ys) self few = (apart, apart_from_few p ys self 
         ap_head false q f = let bad : ⊥ = cc in absurd bad
 
 -- neighbours that don't fall and stand apart rise
-pub rises_from_sorted : {X : Type 0} (R : X → X → Type 0) (lt : X → X → Bool) (ys : List X) → ((a b : X) → lt b a ≡ false → a ≢ b → R a b) → ((a b c : X) → R a b → R b c → R a c)
+pub rises_from_sorted : {X : Type 0} (R : X → X → Type 0) (lt : X → X → Bool) (ys : List X)
+    → ((a b : X) → lt b a ≡ false → a ≢ b → R a b) → ((a b c : X) → R a b → R b c → R a c)
     → ((k : ℕ) (d : X) → k + 1 < length ys → lt (slice_index_or ys (k + 1) d) (slice_index_or ys k d) ≡ false) → RisesBy (λ (a b : X). a ≢ b) ys → RisesBy R ys
 rises_from_sorted R lt [] up trans sorted apart = tt
 rises_from_sorted R lt (x ∷ []) up trans sorted apart = (λ y i. absurd i, tt)
@@ -122,6 +132,8 @@ rises_from_sorted {X = X} R lt (x ∷ y ∷ ys) up trans sorted apart =
         let one : suc k + 1 ≡ suc (k + 1) = omega arith in
         subst (λ j. lt (slice_index_or (x ∷ y ∷ ys) j d) (slice_index_or (y ∷ ys) k d) ≡ false) one (sorted (suc k) d (omega arith))
 
-pub rises_weaker : {X : Type 0} (R S : X → X → Type 0) (xs : List X) → RisesBy R xs → ((a b : X) → In a xs → In b xs → R a b → S a b) → RisesBy S xs
+pub rises_weaker : {X : Type 0} (R S : X → X → Type 0) (xs : List X) → RisesBy R xs
+    → ((a b : X) → In a xs → In b xs → R a b → S a b) → RisesBy S xs
 rises_weaker R S [] r h = tt
-rises_weaker R S (x ∷ xs) r h = (λ y i. h x y (inl refl) (inr i) (r.0 y i), rises_weaker R S xs r.1 (λ a b i j. h a b (inr i) (inr j)))
+rises_weaker R S (x ∷ xs) r h =
+    (λ y i. h x y (inl refl) (inr i) (r.0 y i), rises_weaker R S xs r.1 (λ a b i j. h a b (inr i) (inr j)))

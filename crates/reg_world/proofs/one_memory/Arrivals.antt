@@ -1,5 +1,6 @@
 -- Reads stand in order of their answers, and each first delivery has its event's number.
-use Rattle.std.proofs.Common.{◌≡◌, ℕ, ◌+◌, ◌-◌, ◌<◌, ◌≤◌, true, not, List, [], ◌∷◌, ◌++◌, length, map, take, Option, Some, None, refl, sym, ap, ◌∙◌, subst, inl, inr, arith, length-append}
+use Rattle.std.proofs.Common.{◌≡◌, ℕ, ◌+◌, ◌-◌, ◌<◌, ◌≤◌, true, not, List, [], ◌∷◌, ◌++◌, length, map, take, Option}
+use Rattle.std.proofs.Common.{Some, None, refl, sym, ap, ◌∙◌, subst, inl, inr, arith, length-append}
 use Rattle.std.specs.Prelude.{◌==◌, ◌&&◌}
 use Rattle.std.specs.List.{list_any}
 use Rattle.std.proofs.lemmas.Bool.{cond_both, eq-eqb, and_from, not-true, false≢true}
@@ -24,7 +25,8 @@ use Rattle.reg_world.specs.declared.order.First.{First}
 use Rattle.reg_world.specs.declared.order.CopyRead.{CopyRead}
 use Rattle.reg_world.specs.Nodes.{Node, unseen, after_step}
 use Rattle.reg_world.specs.Runs.{Cast}
-use Rattle.reg_world.specs.World.{World, Replied, op_id, calls_in, answers_in, casts_in, has_cast, reads_in, first_of, delivered_of, move_of, moved, whole}
+use Rattle.reg_world.specs.World.{World, Replied, op_id, calls_in, answers_in, casts_in, has_cast, reads_in, first_of}
+use Rattle.reg_world.specs.World.{delivered_of, move_of, moved, whole}
 use Rattle.reg_world.specs.Promises.{OrderIsRight, FirstsRight, ReadsRight}
 use Rattle.reg_world.proofs.run.Traced.{Called as PastCall, Past, pasts_after, traced}
 use Rattle.reg_base.proofs.Lists.{in_left, in_right, in_filter}
@@ -44,7 +46,8 @@ use Rattle.reg_process.proofs.Deliver.{any_finds}
 abbrev InOrder : World → Type 0
 InOrder w = (i j : ℕ) (p q : CopyRead) (s t : ℕ) (x y : Answer) → IsAt w.reads i p → IsAt w.reads j q → i < j → IsAnswered w.history p.id s x → IsAnswered w.history q.id t y → s < t
 
-read_answer : (casts : List Cast) (at : ℕ) (id : OpId) (o : Option Reply) (q : CopyRead) → In q (reads_in casts id o) → (q.id ≡ id) × ((x : Answer) × In (Answered at id x) (answers_in at id o))
+read_answer : (casts : List Cast) (at : ℕ) (id : OpId) (o : Option Reply) (q : CopyRead) → In q (reads_in casts id o)
+    → (q.id ≡ id) × ((x : Answer) × In (Answered at id x) (answers_in at id o))
 read_answer casts at id None q h = absurd h
 read_answer casts at id (Some r) q h =
     cond_both (has_cast casts id) [] (record { id = id; place = r.place } ∷ []) (λ l. In q l → (q.id ≡ id) × ((x : Answer) × In (Answered at id x) (answers_in at id (Some r))))

@@ -4,7 +4,8 @@ use Rattle.std.specs.Prelude.{slice_get}
 use Rattle.std.proofs.lemmas.Option.{none-some}
 use Rattle.reg_base.specs.declared.memory.Op.{Op}
 use Rattle.reg_front.specs.declared.starts.Start.{Start}
-use Rattle.reg_front.specs.declared.starts.Start.TheVariants.{Cast as Casts, CastAndAnswer as CastsAndAnswers, Look as Looks, Hold as Holds}
+use Rattle.reg_front.specs.declared.starts.Start.TheVariants.{Cast as Casts, CastAndAnswer as CastsAndAnswers}
+use Rattle.reg_front.specs.declared.starts.Start.TheVariants.{Look as Looks, Hold as Holds}
 use Rattle.reg_process.specs.declared.steps.Step.{Step}
 use Rattle.reg_process.specs.declared.steps.Step.TheVariants.{Call, Take, Tick}
 use Rattle.reg_process.specs.declared.events.Event.{Event}
@@ -39,7 +40,8 @@ module _ (Q : Called → Type 0) (start : Op → ℕ → Start) (new : (at : ℕ
 abbrev pub ChangesNothing : Called → Type 0
 ChangesNothing d = d.cast ≡ None → updates d.op ≡ false
 
-called_changes : (at : ℕ) (s : State) (op : Op) (st : Start) → MayStart op (unsettled s) st → (d : Called) → In d (called_in at (Call op) (called s op st).1.cast) → ChangesNothing d
+called_changes : (at : ℕ) (s : State) (op : Op) (st : Start) → MayStart op (unsettled s) st → (d : Called)
+    → In d (called_in at (Call op) (called s op st).1.cast) → ChangesNothing d
 called_changes at s op Casts may d (inl e) = λ n. absurd (none-some _ (sym n ∙ ap (λ (z : Called). z.cast) e))
 called_changes at s op CastsAndAnswers may d (inl e) = λ n. absurd (none-some _ (sym n ∙ ap (λ (z : Called). z.cast) e))
 called_changes at s op Looks may d (inl e) = λ n. ap (λ (z : Called). updates z.op) e ∙ may.0
@@ -49,10 +51,14 @@ called_changes at s op CastsAndAnswers may d (inr f) = absurd f
 called_changes at s op Looks may d (inr f) = absurd f
 called_changes at s op Holds may d (inr f) = absurd f
 
-step_changes : (start : Op → ℕ → Start) → KeepsLaws start → (at : ℕ) (s : State) (e : Step) (d : Called) → In d (called_in at e (step start s e).1.cast) → ChangesNothing d
+step_changes : (start : Op → ℕ → Start) → KeepsLaws start → (at : ℕ) (s : State) (e : Step) (d : Called)
+    → In d (called_in at e (step start s e).1.cast) → ChangesNothing d
 step_changes start laws at s (Call op) = called_changes at s op (start op (unsettled s)) (laws op (unsettled s))
 step_changes start laws at s (Take a f) = λ d i. absurd i
 step_changes start laws at s Tick = λ d i. absurd i
 
-pub copies_change_nothing : (start : Op → ℕ → Start) (n registers : ℕ) (events : List Event) → KeepsLaws start → (p number : ℕ) (d : Called) → slice_get ((traced start n registers events).pasts p).calls number ≡ Some d → d.cast ≡ None → updates d.op ≡ false
-copies_change_nothing start n registers events laws = each_call ChangesNothing start (step_changes start laws) n registers events
+pub copies_change_nothing : (start : Op → ℕ → Start) (n registers : ℕ) (events : List Event) → KeepsLaws start
+    → (p number : ℕ) (d : Called) → slice_get ((traced start n registers events).pasts p).calls number ≡ Some d
+    → d.cast ≡ None → updates d.op ≡ false
+copies_change_nothing start n registers events laws =
+    each_call ChangesNothing start (step_changes start laws) n registers events

@@ -1,5 +1,6 @@
 -- Each answer is to its call, and stands at its place of the list of deliveries.
-use Rattle.std.proofs.Common.{◌≡◌, ℕ, ◌+◌, ◌-◌, ◌<◌, ◌≤◌, ◌⊎◌, max, true, List, [], ◌∷◌, ◌++◌, length, take, replicate, Option, Some, None, refl, sym, ap, ◌∙◌, subst, inl, inr, arith, length-append}
+use Rattle.std.proofs.Common.{◌≡◌, ℕ, ◌+◌, ◌-◌, ◌<◌, ◌≤◌, ◌⊎◌, max, true, List, [], ◌∷◌, ◌++◌, length, take, replicate}
+use Rattle.std.proofs.Common.{Option, Some, None, refl, sym, ap, ◌∙◌, subst, inl, inr, arith, length-append}
 use Rattle.std.specs.Prelude.{◌==◌, slice_get}
 use Rattle.std.proofs.lemmas.Bool.{cond_both, eq-eqb}
 use Rattle.std.proofs.lemmas.List.{append-nil, take_all}
@@ -12,16 +13,21 @@ use Rattle.reg_frames.specs.declared.bodies.Frame.{Frame}
 use Rattle.reg_frames.specs.declared.bodies.Frame.TheVariants.{Numbered, Got}
 use Rattle.reg_process.specs.declared.steps.Reply.{Reply}
 use Rattle.reg_front.specs.declared.starts.Start.{Start}
-use Rattle.reg_front.specs.declared.starts.Start.TheVariants.{Cast as Casts, CastAndAnswer as CastsAndAnswers, Look as Looks, Hold as Holds}
+use Rattle.reg_front.specs.declared.starts.Start.TheVariants.{Cast as Casts, CastAndAnswer as CastsAndAnswers}
+use Rattle.reg_front.specs.declared.starts.Start.TheVariants.{Look as Looks, Hold as Holds}
 use Rattle.reg_process.specs.declared.steps.Step.{Step}
 use Rattle.reg_process.specs.declared.steps.Step.TheVariants.{Call, Take, Tick}
 use Rattle.reg_base.specs.Order.{In, Rising, insert}
 use Rattle.reg_base.specs.Memory.{answer_of, memory_after}
-use Rattle.reg_process.specs.Process.{State, ops_of, Running, Own, Held, is_own, stamp_at, cast_at, clear_casts, reply_of, still, look, done_at_once, cast_made, called, taken, accepted, accepts, acknowledged, queues, quiet, got_frames, peer_at, delivered_state, unsettled, step}
+use Rattle.reg_process.specs.Process.{State, ops_of, Running, Own, Held, is_own, stamp_at, cast_at, clear_casts}
+use Rattle.reg_process.specs.Process.{reply_of, still, look, done_at_once, cast_made, called, taken, accepted, accepts}
+use Rattle.reg_process.specs.Process.{acknowledged, queues, quiet, got_frames, peer_at, delivered_state, unsettled}
+use Rattle.reg_process.specs.Process.{step}
 use Rattle.reg_front.specs.Fronts.{MayStart, KeepsLaws}
 use Rattle.reg_world.specs.Nodes.{Node, put, said, op_in, running_op, after_result, after_step}
 use Rattle.reg_world.specs.NodeParts.{nodes_after}
-use Rattle.reg_world.proofs.run.Traced.{Trace, casts_of, Called, Answered, Past, answered_in, past_after, pasts_after, cast_of, Stands, HistoryRight, traced}
+use Rattle.reg_world.proofs.run.Traced.{Trace, casts_of, Called, Answered, Past, answered_in, past_after, pasts_after}
+use Rattle.reg_world.proofs.run.Traced.{cast_of, Stands, HistoryRight, traced}
 use Rattle.reg_process.specs.declared.events.Event.{Event}
 use Rattle.reg_world.proofs.one_order.Worlds.{Inv}
 use Rattle.reg_world.proofs.one_order.Acts.{put_cases}
@@ -35,12 +41,16 @@ use Rattle.reg_world.proofs.lists.Bodies.{place_back, place_last, place_split, p
 use Rattle.reg_world.proofs.one_order.Local.{delivery_keeps}
 use Rattle.reg_world.proofs.one_memory.Replicas.{IsReplica}
 use Rattle.reg_world.proofs.one_order.Settled.{IsRunning, Runs, longer, whole_runs}
-use Rattle.reg_world.proofs.one_memory.Standing.{RunsAs, AnswerOk, PastOk, stands_later, answer_later, answer_call, none_counted, ReplyStands, reply_stands}
+use Rattle.reg_world.proofs.one_memory.Standing.{RunsAs, AnswerOk, PastOk, stands_later, answer_later, answer_call}
+use Rattle.reg_world.proofs.one_memory.Standing.{none_counted, ReplyStands, reply_stands}
 use Rattle.reg_world.specs.World.{move_of, whole}
 use Rattle.reg_world.proofs.run.Along.{along}
 
 -- with an answer more
-with_answer : (p at number : ℕ) (op : Op) (s : State) (deliveries : List Delivered) (calls : List Called) (answers : List Answered) (o : Option Reply) → PastOk p s deliveries (record { calls = calls; answers = answers }) → ReplyStands p deliveries calls number op o → PastOk p s deliveries (record { calls = calls; answers = answers ++ answered_in at number op o })
+with_answer : (p at number : ℕ) (op : Op) (s : State) (deliveries : List Delivered) (calls : List Called)
+    (answers : List Answered) (o : Option Reply)
+    → PastOk p s deliveries (record { calls = calls; answers = answers }) → ReplyStands p deliveries calls number op o
+    → PastOk p s deliveries (record { calls = calls; answers = answers ++ answered_in at number op o })
 with_answer p at number op s deliveries calls answers o P h = record {
   count = P.count;
   running = P.running;
@@ -55,12 +65,14 @@ with_answer p at number op s deliveries calls answers o P h = record {
     new (Some r) h a (inl e) = subst (AnswerOk deliveries calls) (sym e) h
     new (Some r) h a (inr f) = absurd f
 
-still_as : (k : ℕ) (calls : List Called) (o : Option Reply) (running : Option Running) → RunsAs k calls running → RunsAs k calls (still o running)
+still_as : (k : ℕ) (calls : List Called) (o : Option Reply) (running : Option Running) → RunsAs k calls running
+    → RunsAs k calls (still o running)
 still_as k calls None running h = h
 still_as k calls (Some r) running h = tt
 
 -- delivery
-past_delivers : (p : ℕ) (s : State) (deliveries : List Delivered) (h : Past) → PastOk p s deliveries h → PastOk p (delivered_state s) (deliveries ++ clear_casts s) h
+past_delivers : (p : ℕ) (s : State) (deliveries : List Delivered) (h : Past) → PastOk p s deliveries h
+    → PastOk p (delivered_state s) (deliveries ++ clear_casts s) h
 past_delivers p s deliveries h P = record {
   count = P.count;
   running = still_as s.calls h.calls (reply_of s (clear_casts s) s.running) s.running P.running;
@@ -71,7 +83,9 @@ past_delivers p s deliveries h P = record {
 }
 
 -- the same calls, and all that was held
-past_same : (p : ℕ) (s s1 : State) (deliveries : List Delivered) (h : Past) → PastOk p s deliveries h → s1.calls ≡ s.calls → s1.running ≡ s.running → s.clock ≤ s1.clock → ((c : Delivered) → In c s.held → In c s1.held) → PastOk p s1 deliveries h
+past_same : (p : ℕ) (s s1 : State) (deliveries : List Delivered) (h : Past) → PastOk p s deliveries h
+    → s1.calls ≡ s.calls → s1.running ≡ s.running → s.clock ≤ s1.clock → ((c : Delivered) → In c s.held → In c s1.held)
+    → PastOk p s1 deliveries h
 past_same p s s1 deliveries h P k r l held = record {
   count = P.count ∙ sym k;
   running = (let f : RunsAs s.calls h.calls s1.running = subst (RunsAs s.calls h.calls) (sym r) P.running in subst (λ m. RunsAs m h.calls s1.running) (sym k) f);
@@ -82,7 +96,13 @@ past_same p s s1 deliveries h P k r l held = record {
 }
 
 -- one more call
-past_call : (p : ℕ) (s s1 : State) (deliveries : List Delivered) (h : Past) (new : Called) → PastOk p s deliveries h → ((c : Delivered) → In c deliveries → c.stamp.time ≤ s.clock) → s1.calls ≡ s.calls + 1 → RunsAs s1.calls (h.calls ++ new ∷ []) s1.running → s.clock ≤ s1.clock → ((c : Delivered) → In c s.held → In c s1.held) → ((stamp : Stamp) → new.cast ≡ Some stamp → (stamp.process ≡ p) × (s.clock < stamp.time) × (stamp.time ≤ s1.clock) × In (cast_of stamp new.op) s1.held) → PastOk p s1 deliveries (record { calls = h.calls ++ new ∷ []; answers = h.answers })
+past_call : (p : ℕ) (s s1 : State) (deliveries : List Delivered) (h : Past) (new : Called) → PastOk p s deliveries h
+    → ((c : Delivered) → In c deliveries → c.stamp.time ≤ s.clock) → s1.calls ≡ s.calls + 1
+    → RunsAs s1.calls (h.calls ++ new ∷ []) s1.running → s.clock ≤ s1.clock
+    → ((c : Delivered) → In c s.held → In c s1.held)
+    → ((stamp : Stamp) → new.cast ≡ Some stamp
+    → (stamp.process ≡ p) × (s.clock < stamp.time) × (stamp.time ≤ s1.clock) × In (cast_of stamp new.op) s1.held)
+    → PastOk p s1 deliveries (record { calls = h.calls ++ new ∷ []; answers = h.answers })
 past_call p s s1 deliveries h new P times k runs l held made =
     let which : (i : ℕ) (d : Called) → slice_get (h.calls ++ new ∷ []) i ≡ Some d → (slice_get h.calls i ≡ Some d) ⊎ ((length h.calls ≤ i) × (d ≡ new)) =
     λ i d at. elim (place_split h.calls (new ∷ []) i d at) [ inl q ↦ inl q | inr q ↦ inr (q.0, elim q.1 [ inl e ↦ e | inr f ↦ absurd f ]) ] in
@@ -108,11 +128,15 @@ past_call p s s1 deliveries h new P times k runs l held made =
       answers = λ a i. answer_call deliveries h.calls new a (λ stamp e c j. let t = times c j in let z = (made stamp e).1 in omega (arith, t, z)) (P.answers a i);
     }
 
-past_nil : (p : ℕ) (s : State) (deliveries : List Delivered) (h : Past) → PastOk p s deliveries h → PastOk p s (deliveries ++ []) h
+past_nil : (p : ℕ) (s : State) (deliveries : List Delivered) (h : Past) → PastOk p s deliveries h
+    → PastOk p s (deliveries ++ []) h
 past_nil p s deliveries h P = subst (λ f. PastOk p s f h) (sym (append-nil deliveries)) P
 
-calls_nil : (p : ℕ) (s : State) (deliveries : List Delivered) (h : Past) (answers : List Answered) → PastOk p s deliveries (record { calls = h.calls; answers = answers }) → PastOk p s deliveries (record { calls = h.calls ++ []; answers = answers })
-calls_nil p s deliveries h answers P = subst (λ c. PastOk p s deliveries (record { calls = c; answers = answers })) (sym (append-nil h.calls)) P
+calls_nil : (p : ℕ) (s : State) (deliveries : List Delivered) (h : Past) (answers : List Answered)
+    → PastOk p s deliveries (record { calls = h.calls; answers = answers })
+    → PastOk p s deliveries (record { calls = h.calls ++ []; answers = answers })
+calls_nil p s deliveries h answers P =
+    subst (λ c. PastOk p s deliveries (record { calls = c; answers = answers })) (sym (append-nil h.calls)) P
 
 module _ (registers p at : ℕ) (x : Node) (h : Past) (me : x.state.me ≡ p) (times : (c : Delivered) → In c x.deliveries → c.stamp.time ≤ x.state.clock) (R : IsReplica registers x) (W : Runs x.state x.state.running) (P : PastOk p x.state x.deliveries h) where
   last_call : (new : Called) (k : ℕ) → k ≡ x.state.calls + 1 → slice_get (h.calls ++ new ∷ []) (k - 1) ≡ Some new
@@ -149,7 +173,10 @@ module _ (registers p at : ℕ) (x : Node) (h : Past) (me : x.state.me ≡ p) (t
             absurd (none-some stamp (sym none ∙ (ap (λ (z : Called). z.cast) (sym same) ∙ c)))
       ]
 
-  pub called_past : (op : Op) (st : Start) → MayStart op (unsettled x.state) st → Rising (after_result x op (called x.state op st)).deliveries → PastOk p (called x.state op st).0 (x.deliveries ++ (called x.state op st).1.delivered) (past_after at x.state h (Call op) (called x.state op st))
+  pub called_past : (op : Op) (st : Start) → MayStart op (unsettled x.state) st
+      → Rising (after_result x op (called x.state op st)).deliveries
+      → PastOk p (called x.state op st).0 (x.deliveries ++ (called x.state op st).1.delivered)
+      (past_after at x.state h (Call op) (called x.state op st))
   called_past op Casts may rises =
       let st = stamp_at (x.state.clock + 1) x.state.me in
       let new : Called = record { op = op; at = at; cast = Some st } in
@@ -181,7 +208,10 @@ module _ (registers p at : ℕ) (x : Node) (h : Past) (me : x.state.me ≡ p) (t
       (past_nil p s1 x.deliveries _ (past_call p x.state s1 x.deliveries h new P times refl runs (omega arith) (λ c i. i) (λ stamp e. absurd (nothing stamp e)))) tt
 
   -- what is taken makes no call
-  pub accepted_past : (a : ℕ) (body : Body) → Rising (after_result x (running_op x.state.running) (accepted x.state a body)).deliveries → PastOk p (accepted x.state a body).0 (x.deliveries ++ (accepted x.state a body).1.delivered) (past_after at x.state h (Take a (Numbered 0 body)) (accepted x.state a body))
+  pub accepted_past : (a : ℕ) (body : Body)
+      → Rising (after_result x (running_op x.state.running) (accepted x.state a body)).deliveries
+      → PastOk p (accepted x.state a body).0 (x.deliveries ++ (accepted x.state a body).1.delivered)
+      (past_after at x.state h (Take a (Numbered 0 body)) (accepted x.state a body))
   accepted_past a (Cast t op) rises =
       let T = max x.state.clock t + 1 in
       let s1 : State = record (queues T (Ack T) (accepts a t x.state)) { held = insert (cast_at t a op) x.state.held } in
@@ -207,7 +237,9 @@ module _ (registers p at : ℕ) (x : Node) (h : Past) (me : x.state.me ≡ p) (t
       rises
   taken_past a (Got count) rises = quiet_past (acknowledged x.state a count) refl refl refl refl
 
-  pub step_past : (start : Op → ℕ → Start) (e : Step) → KeepsLaws start → Rising (after_step start x e).deliveries → PastOk p (after_step start x e).state (after_step start x e).deliveries (past_after at x.state h e (step start x.state e))
+  pub step_past : (start : Op → ℕ → Start) (e : Step) → KeepsLaws start → Rising (after_step start x e).deliveries
+      → PastOk p (after_step start x e).state (after_step start x e).deliveries
+      (past_after at x.state h e (step start x.state e))
   step_past start (Call op) laws rises = called_past op (start op (unsettled x.state)) (laws op (unsettled x.state)) rises
   step_past start (Take a f) laws rises = taken_past a f rises
   step_past start Tick laws rises = quiet_past x.state refl refl refl refl
@@ -216,7 +248,8 @@ module _ (registers p at : ℕ) (x : Node) (h : Past) (me : x.state.me ≡ p) (t
 abbrev pub AnswersReplied : Node → Past → Type 0
 AnswersReplied x h = (a : Answered) → In a h.answers → In (record { op = a.op; reply = a.reply }) x.replies
 
-answers_replied : (start : Op → ℕ → Start) (at : ℕ) (x : Node) (h : Past) (e : Step) → AnswersReplied x h → AnswersReplied (after_step start x e) (past_after at x.state h e (step start x.state e))
+answers_replied : (start : Op → ℕ → Start) (at : ℕ) (x : Node) (h : Past) (e : Step) → AnswersReplied x h
+    → AnswersReplied (after_step start x e) (past_after at x.state h e (step start x.state e))
 answers_replied start at x h e A a i =
     let r = step start x.state e in
     elim (in_cases a h.answers (answered_in at (r.0.calls - 1) (op_in x.state e) r.1.reply) i) [
@@ -232,7 +265,12 @@ answers_replied start at x h e A a i =
 abbrev pub PastsOk : ℕ → Trace → Type 0
 PastsOk n w = (p : ℕ) → p < n → PastOk p (w.nodes p).state (w.nodes p).deliveries (w.pasts p) × AnswersReplied (w.nodes p) (w.pasts p)
 
-pub pasts_step : (start : Op → ℕ → Start) (n registers k : ℕ) (w : Trace) (m : Option (ℕ × Step)) → KeepsLaws start → Inv n registers k w.nodes → StepKept start n registers k w.nodes m → Replicas n registers w.nodes → ((p : ℕ) → IsRunning (w.nodes p)) → PastsOk n w → (q : ℕ) → q < n → PastOk q (nodes_after start w.nodes m q).state (nodes_after start w.nodes m q).deliveries (pasts_after start w m q) × AnswersReplied (nodes_after start w.nodes m q) (pasts_after start w m q)
+pub pasts_step : (start : Op → ℕ → Start) (n registers k : ℕ) (w : Trace) (m : Option (ℕ × Step)) → KeepsLaws start
+    → Inv n registers k w.nodes → StepKept start n registers k w.nodes m → Replicas n registers w.nodes
+    → ((p : ℕ) → IsRunning (w.nodes p)) → PastsOk n w → (q : ℕ) → q < n
+    → PastOk q (nodes_after start w.nodes m q).state (nodes_after start w.nodes m q).deliveries
+    (pasts_after start w m q)
+    × AnswersReplied (nodes_after start w.nodes m q) (pasts_after start w m q)
 pasts_step start n registers k w None laws I K R W P q l = P q l
 pasts_step start n registers k w (Some m) laws I K R W P q l =
     let x = w.nodes m.0 in
@@ -247,7 +285,8 @@ pasts_step start n registers k w (Some m) laws I K R W P q l =
     (λ ne. absurd (ne e)))
     (λ ne. put_cases (λ (g : Past). PastOk q (w.nodes q).state (w.nodes q).deliveries g × AnswersReplied (w.nodes q) g) w.pasts m.0 h' q (λ e. absurd (ne e)) (λ _. P q l))
 
-pub whole_pasts : (start : Op → ℕ → Start) (n registers : ℕ) (events : List Event) → KeepsLaws start → PastsOk n (traced start n registers events)
+pub whole_pasts : (start : Op → ℕ → Start) (n registers : ℕ) (events : List Event) → KeepsLaws start
+    → PastsOk n (traced start n registers events)
 whole_pasts start n registers events laws =
     along start n registers (PastsOk n)
     (λ p l. (record { count = refl; running = tt; casts = λ i d stamp h. absurd (let bad : ⊥ = cc in bad); rises = λ i j d e a b h. absurd (let bad : ⊥ = cc in bad); past = λ i d stamp h. absurd (let bad : ⊥ = cc in bad); answers = λ a h. absurd h }, λ a h. absurd h))
@@ -255,7 +294,8 @@ whole_pasts start n registers events laws =
     pasts_step start n registers v.count v (move_of n registers (whole start n registers es) e) laws (inv_of start n registers es) (run_ok start n registers es e) (whole_replicas start n registers es laws) (whole_runs start n registers es laws) P)
     events
 
-pub history_right : (start : Op → ℕ → Start) (n registers : ℕ) (events : List Event) → KeepsLaws start → HistoryRight n registers (traced start n registers events)
+pub history_right : (start : Op → ℕ → Start) (n registers : ℕ) (events : List Event) → KeepsLaws start
+    → HistoryRight n registers (traced start n registers events)
 history_right start n registers events laws p a l i =
     let w = traced start n registers events in
     let P = whole_pasts start n registers events laws p l in

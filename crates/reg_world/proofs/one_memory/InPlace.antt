@@ -1,5 +1,6 @@
 -- The history of a run stays in place through a step.
-use Rattle.std.proofs.Common.{◌≡◌, ℕ, ◌+◌, ◌-◌, ◌<◌, ◌⊎◌, List, [], ◌∷◌, ◌++◌, length, Option, Some, None, refl, sym, ap, ◌∙◌, subst, inl, inr, arith}
+use Rattle.std.proofs.Common.{◌≡◌, ℕ, ◌+◌, ◌-◌, ◌<◌, ◌⊎◌, List, [], ◌∷◌, ◌++◌, length, Option, Some, None, refl, sym}
+use Rattle.std.proofs.Common.{ap, ◌∙◌, subst, inl, inr, arith}
 use Rattle.reg_base.specs.declared.limits.TheConstants.{MOST_EVENTS}
 use Rattle.std.specs.Prelude.{slice_get}
 use Rattle.std.proofs.lemmas.List.{append-nil}
@@ -34,27 +35,37 @@ use Rattle.reg_world.proofs.one_memory.Added.{IsPastCall, IsPastAnswer, no_answe
 abbrev IsIdle : List Entry → ℕ → Type 0
 IsIdle es process = (id : OpId) → id.process ≡ process → WasCalled es id → IsFinished es id
 
-calls_in_place : (n registers at : ℕ) (es : List Entry) (id : OpId) (st : Step) → IsHistory n registers es → ((op : Op) → st ≡ Call op → MayCall n registers es at id op) → IsHistory n registers (es ++ calls_in at id st)
-calls_in_place n registers at es id (Call op) good may = history_more n registers es (Called at id op) good (may op refl)
+calls_in_place : (n registers at : ℕ) (es : List Entry) (id : OpId) (st : Step) → IsHistory n registers es
+    → ((op : Op) → st ≡ Call op → MayCall n registers es at id op) → IsHistory n registers (es ++ calls_in at id st)
+calls_in_place n registers at es id (Call op) good may =
+    history_more n registers es (Called at id op) good (may op refl)
 calls_in_place n registers at es id (Take a f) good may = subst (IsHistory n registers) (sym (append-nil es)) good
 calls_in_place n registers at es id Tick good may = subst (IsHistory n registers) (sym (append-nil es)) good
 
-answers_in_place : (n registers at : ℕ) (es : List Entry) (id : OpId) (o : Option Reply) → IsHistory n registers es → ((y : Reply) → o ≡ Some y → MayAnswer es at id y.answer) → IsHistory n registers (es ++ answers_in at id o)
+answers_in_place : (n registers at : ℕ) (es : List Entry) (id : OpId) (o : Option Reply) → IsHistory n registers es
+    → ((y : Reply) → o ≡ Some y → MayAnswer es at id y.answer) → IsHistory n registers (es ++ answers_in at id o)
 answers_in_place n registers at es id None good may = subst (IsHistory n registers) (sym (append-nil es)) good
-answers_in_place n registers at es id (Some y) good may = history_more n registers es (Answered at id y.answer) good (may y refl)
+answers_in_place n registers at es id (Some y) good may =
+    history_more n registers es (Answered at id y.answer) good (may y refl)
 
-answer_later : (es : List Entry) (at : ℕ) (id : OpId) (st : Step) (x : Entry) → ((y : Entry) → In y es → event_of y < at) → ((op : Op) → st ≡ Call op → In x (calls_in at id st))
+answer_later : (es : List Entry) (at : ℕ) (id : OpId) (st : Step) (x : Entry)
+    → ((y : Entry) → In y es → event_of y < at) → ((op : Op) → st ≡ Call op → In x (calls_in at id st))
     → (k : ℕ) (y : Entry) → IsAt (es ++ calls_in at id st) k y → (event_of y < at) ⊎ (y ≡ x)
-answer_later es at id (Call op) x below own k y here = elim (in_cases y es (Called at id op ∷ []) (place_in (es ++ Called at id op ∷ []) k y here)) [
-  | inl old ↦ inl (below y old)
-  | inr new ↦ elim new [ inl e ↦ elim (own op refl) [ inl f ↦ inr (e ∙ sym f) | inr f ↦ absurd f ] | inr f ↦ absurd f ]
-]
-answer_later es at id (Take a f) x below own k y here = inl (below y (subst (In y) (append-nil es) (place_in (es ++ []) k y here)))
-answer_later es at id Tick x below own k y here = inl (below y (subst (In y) (append-nil es) (place_in (es ++ []) k y here)))
+answer_later es at id (Call op) x below own k y here =
+    elim (in_cases y es (Called at id op ∷ []) (place_in (es ++ Called at id op ∷ []) k y here)) [
+      | inl old ↦ inl (below y old)
+      | inr new ↦ elim new [ inl e ↦ elim (own op refl) [ inl f ↦ inr (e ∙ sym f) | inr f ↦ absurd f ] | inr f ↦ absurd f ]
+    ]
+answer_later es at id (Take a f) x below own k y here =
+    inl (below y (subst (In y) (append-nil es) (place_in (es ++ []) k y here)))
+answer_later es at id Tick x below own k y here =
+    inl (below y (subst (In y) (append-nil es) (place_in (es ++ []) k y here)))
 
-given_in : (at number : ℕ) (op : Op) (o : Option Reply) (y : Reply) → o ≡ Some y → In (record { number = number; at = at; op = op; reply = y }) (answered_in at number op o)
+given_in : (at number : ℕ) (op : Op) (o : Option Reply) (y : Reply) → o ≡ Some y
+    → In (record { number = number; at = at; op = op; reply = y }) (answered_in at number op o)
 given_in at number op None y e = absurd (let bad : ⊥ = cc in bad)
-given_in at number op (Some r) y e = inl (let q : r ≡ y = cc in ap (λ z. record { number = number; at = at; op = op; reply = z }) (sym q))
+given_in at number op (Some r) y e =
+    inl (let q : r ≡ y = cc in ap (λ z. record { number = number; at = at; op = op; reply = z }) (sym q))
 
 module _ (start : Op → ℕ → Start) (n registers : ℕ) (t : World) (pasts : ℕ → Past) (e : Event) (p : ℕ) (st : Step) (l : p < n) (numbers : length (pasts p).calls ≡ (t.nodes p).state.calls) (J : Joined n t pasts)
     (A : StepAllowed registers (t.nodes p).state st) (few : length t.accepted < MOST_EVENTS) (good : IsHistory n registers t.history)

@@ -1,5 +1,6 @@
 -- What is told of a run, against the past of each process: what both have in common, and one step.
-use Rattle.std.proofs.Common.{◌≡◌, ℕ, ◌-◌, ◌<◌, ◌⊎◌, false, List, [], ◌∷◌, ◌++◌, length, map, Option, Some, None, refl, sym, ap, ◌∙◌, subst, inl, inr, arith, length-append}
+use Rattle.std.proofs.Common.{◌≡◌, ℕ, ◌-◌, ◌<◌, ◌⊎◌, false, List, [], ◌∷◌, ◌++◌, length, map, Option, Some, None, refl}
+use Rattle.std.proofs.Common.{sym, ap, ◌∙◌, subst, inl, inr, arith, length-append}
 use Rattle.std.specs.Prelude.{slice_get}
 use Rattle.std.proofs.lemmas.Bool.{cases_Bool, false≢true}
 use Rattle.std.proofs.lemmas.Option.{same_Some, none-some}
@@ -22,26 +23,41 @@ use Rattle.reg_world.specs.declared.order.First.{First}
 use Rattle.reg_world.specs.declared.order.CopyRead.{CopyRead}
 use Rattle.reg_world.specs.Nodes.{op_in, put, after_step, unseen}
 use Rattle.reg_world.specs.Runs.{Cast}
-use Rattle.reg_world.specs.World.{World, Replied, op_id, calls_in, answers_in, replies_in, casts_in, has_cast, reads_in, first_of, delivered_of, told}
-use Rattle.reg_world.proofs.run.Traced.{Called as PastCall, Answered as PastAnswer, Past, called_in, answered_in, past_after, pasts_after, traced_by}
+use Rattle.reg_world.specs.World.{World, Replied, op_id, calls_in, answers_in, replies_in, casts_in, has_cast, reads_in}
+use Rattle.reg_world.specs.World.{first_of, delivered_of, told}
+use Rattle.reg_world.proofs.run.Traced.{Called as PastCall, Answered as PastAnswer, Past, called_in, answered_in}
+use Rattle.reg_world.proofs.run.Traced.{past_after, pasts_after, traced_by}
 use Rattle.reg_base.proofs.Lists.{in_left, in_right, in_cases}
 use Rattle.reg_world.proofs.lists.Bodies.{place_first, place_split, place_within}
 use Rattle.reg_world.proofs.one_order.Acts.{put_cases}
 use Rattle.reg_world.proofs.lists.Members.{map_in}
-use Rattle.reg_world.proofs.one_memory.Added.{cast_of_first, IsPastCall, IsPastAnswer, new_called, called_new, no_answer, no_call, new_answered, answered_new, new_replied, new_cast, cast_new, called_once, last_new, same_op_id, cast_found, cast_finds, id_found, new_read, read_new, unseen_in}
+use Rattle.reg_world.proofs.one_memory.Added.{cast_of_first, IsPastCall, IsPastAnswer, new_called, called_new}
+use Rattle.reg_world.proofs.one_memory.Added.{no_answer, no_call, new_answered, answered_new, new_replied, new_cast}
+use Rattle.reg_world.proofs.one_memory.Added.{cast_new, called_once, last_new, same_op_id, cast_found, cast_finds}
+use Rattle.reg_world.proofs.one_memory.Added.{id_found, new_read, read_new, unseen_in}
 
 pub record Joined (n : ℕ) (t : World) (pasts : ℕ → Past) : Type 0 where
-  pub called : (at : ℕ) (id : OpId) (op : Op) → In (Called at id op) t.history → (d : PastCall) × IsPastCall n pasts id d × (d.op ≡ op) × (d.at ≡ at)
+  pub called : (at : ℕ) (id : OpId) (op : Op) → In (Called at id op) t.history
+      → (d : PastCall) × IsPastCall n pasts id d × (d.op ≡ op) × (d.at ≡ at)
   pub calls : (id : OpId) (d : PastCall) → IsPastCall n pasts id d → In (Called d.at id d.op) t.history
-  pub answered : (at : ℕ) (id : OpId) (x : Answer) → In (Answered at id x) t.history → (a : PastAnswer) × IsPastAnswer n pasts id a × (a.at ≡ at) × (a.reply.answer ≡ x)
-  pub answers : (id : OpId) (a : PastAnswer) → IsPastAnswer n pasts id a → In (Answered a.at id a.reply.answer) t.history
-  pub replied : (y : Replied) → In y t.replies → (a : PastAnswer) × IsPastAnswer n pasts y.id a × (a.at ≡ y.at) × (a.reply ≡ y.reply)
-  pub replies : (id : OpId) (a : PastAnswer) → IsPastAnswer n pasts id a → In (record { id = id; at = a.at; reply = a.reply }) t.replies
-  pub cast : (c : Cast) → In c t.casts → (d : PastCall) × IsPastCall n pasts c.id d × (d.cast ≡ Some c.stamp) × (d.op ≡ c.op)
-  pub casts : (id : OpId) (d : PastCall) (stamp : Stamp) → IsPastCall n pasts id d → d.cast ≡ Some stamp → In (record { stamp = stamp; id = id; op = d.op }) t.casts
+  pub answered : (at : ℕ) (id : OpId) (x : Answer) → In (Answered at id x) t.history
+      → (a : PastAnswer) × IsPastAnswer n pasts id a × (a.at ≡ at) × (a.reply.answer ≡ x)
+  pub answers : (id : OpId) (a : PastAnswer) → IsPastAnswer n pasts id a
+      → In (Answered a.at id a.reply.answer) t.history
+  pub replied : (y : Replied) → In y t.replies
+      → (a : PastAnswer) × IsPastAnswer n pasts y.id a × (a.at ≡ y.at) × (a.reply ≡ y.reply)
+  pub replies : (id : OpId) (a : PastAnswer) → IsPastAnswer n pasts id a
+      → In (record { id = id; at = a.at; reply = a.reply }) t.replies
+  pub cast : (c : Cast) → In c t.casts
+      → (d : PastCall) × IsPastCall n pasts c.id d × (d.cast ≡ Some c.stamp) × (d.op ≡ c.op)
+  pub casts : (id : OpId) (d : PastCall) (stamp : Stamp) → IsPastCall n pasts id d → d.cast ≡ Some stamp
+      → In (record { stamp = stamp; id = id; op = d.op }) t.casts
   pub first : (f : First) → In f t.order → In (cast_of_first f) t.casts
-  pub read : (q : CopyRead) → In q t.reads → (a : PastAnswer) × (d : PastCall) × IsPastAnswer n pasts q.id a × IsPastCall n pasts q.id d × (a.reply.place ≡ q.place) × (d.cast ≡ None)
-  pub reads : (id : OpId) (a : PastAnswer) (d : PastCall) → IsPastAnswer n pasts id a → IsPastCall n pasts id d → d.cast ≡ None → In (record { id = id; place = a.reply.place }) t.reads
+  pub read : (q : CopyRead) → In q t.reads
+      → (a : PastAnswer) × (d : PastCall) × IsPastAnswer n pasts q.id a × IsPastCall n pasts q.id d
+      × (a.reply.place ≡ q.place) × (d.cast ≡ None)
+  pub reads : (id : OpId) (a : PastAnswer) (d : PastCall) → IsPastAnswer n pasts id a → IsPastCall n pasts id d
+      → d.cast ≡ None → In (record { id = id; place = a.reply.place }) t.reads
   pub below : (e : Entry) → In e t.history → event_of e < length t.accepted
 
 module _ (start : Op → ℕ → Start) (n : ℕ) (t : World) (pasts : ℕ → Past) (e : Event) (p : ℕ) (st : Step) (l : p < n) (numbers : length (pasts p).calls ≡ (t.nodes p).state.calls) (J : Joined n t pasts) where
@@ -96,7 +112,8 @@ module _ (start : Op → ℕ → Start) (n : ℕ) (t : World) (pasts : ℕ → P
   pub answer_added : (a : PastAnswer) → In a Given → a.number ≡ R.0.calls - 1 → IsPastAnswer n pasts_now New a
   answer_added a i k = (l, put_cases (λ (g : Past). In a g.answers) pasts p This p (λ _. in_right a (pasts p).answers Given i) (λ ne. absurd (ne refl)), k)
 
-  pub call_cases : (id : OpId) (d : PastCall) → IsPastCall n pasts_now id d → IsPastCall n pasts id d ⊎ ((id ≡ Old) × In d Asked)
+  pub call_cases : (id : OpId) (d : PastCall) → IsPastCall n pasts_now id d
+      → IsPastCall n pasts id d ⊎ ((id ≡ Old) × In d Asked)
   call_cases id d h =
       put_cases (λ (g : Past). slice_get g.calls id.number ≡ Some d → IsPastCall n pasts id d ⊎ ((id ≡ Old) × In d Asked)) pasts p This id.process
       (λ q at. elim (place_split (pasts p).calls Asked id.number d at) [
@@ -112,7 +129,8 @@ module _ (start : Op → ℕ → Start) (n : ℕ) (t : World) (pasts : ℕ → P
       (λ ne at. inl (h.0, at))
       h.1
 
-  pub answer_cases : (id : OpId) (a : PastAnswer) → IsPastAnswer n pasts_now id a → IsPastAnswer n pasts id a ⊎ ((id ≡ New) × In a Given)
+  pub answer_cases : (id : OpId) (a : PastAnswer) → IsPastAnswer n pasts_now id a
+      → IsPastAnswer n pasts id a ⊎ ((id ≡ New) × In a Given)
   answer_cases id a h =
       put_cases (λ (g : Past). In a g.answers → IsPastAnswer n pasts id a ⊎ ((id ≡ New) × In a Given)) pasts p This id.process
       (λ q i. elim (in_cases a (pasts p).answers Given i) [
@@ -122,7 +140,8 @@ module _ (start : Op → ℕ → Start) (n : ℕ) (t : World) (pasts : ℕ → P
       (λ ne i. inl (h.0, i, h.2))
       h.1
 
-  pub called_now : (at : ℕ) (id : OpId) (op : Op) → In (Called at id op) told_now.history → (d : PastCall) × IsPastCall n pasts_now id d × (d.op ≡ op) × (d.at ≡ at)
+  pub called_now : (at : ℕ) (id : OpId) (op : Op) → In (Called at id op) told_now.history
+      → (d : PastCall) × IsPastCall n pasts_now id d × (d.op ≡ op) × (d.at ≡ at)
   called_now at id op i = elim (in_cases (Called at id op) (t.history ++ calls_in (length t.accepted) Old st) (answers_in (length t.accepted) New R.1.reply) i) [
     | inl j ↦ elim (in_cases (Called at id op) t.history (calls_in (length t.accepted) Old st) j) [
       | inl k ↦ let r = J.called at id op k in (r.0, call_stays id r.0 r.1, r.2, r.3)
@@ -133,14 +152,16 @@ module _ (start : Op → ℕ → Start) (n : ℕ) (t : World) (pasts : ℕ → P
     | inr j ↦ absurd (no_call (length t.accepted) New R.1.reply at id op j)
   ]
 
-  pub calls_now : (id : OpId) (d : PastCall) → IsPastCall n pasts_now id d → In (Called d.at id d.op) (t.history ++ calls_in (length t.accepted) Old st)
+  pub calls_now : (id : OpId) (d : PastCall) → IsPastCall n pasts_now id d
+      → In (Called d.at id d.op) (t.history ++ calls_in (length t.accepted) Old st)
   calls_now id d h = elim (call_cases id d h) [
     | inl k ↦ in_left (Called d.at id d.op) t.history (calls_in (length t.accepted) Old st) (J.calls id d k)
     | inr k ↦ in_right (Called d.at id d.op) t.history (calls_in (length t.accepted) Old st)
         (subst (λ z. In (Called d.at id d.op) (calls_in (length t.accepted) z st)) k.0 (called_new (length t.accepted) id st R.1.cast d k.1))
   ]
 
-  pub answered_now : (at : ℕ) (id : OpId) (x : Answer) → In (Answered at id x) told_now.history → (a : PastAnswer) × IsPastAnswer n pasts_now id a × (a.at ≡ at) × (a.reply.answer ≡ x)
+  pub answered_now : (at : ℕ) (id : OpId) (x : Answer) → In (Answered at id x) told_now.history
+      → (a : PastAnswer) × IsPastAnswer n pasts_now id a × (a.at ≡ at) × (a.reply.answer ≡ x)
   answered_now at id x i = elim (in_cases (Answered at id x) (t.history ++ calls_in (length t.accepted) Old st) (answers_in (length t.accepted) New R.1.reply) i) [
     | inl j ↦ elim (in_cases (Answered at id x) t.history (calls_in (length t.accepted) Old st) j) [
       | inl k ↦ let r = J.answered at id x k in (r.0, answer_stays id r.0 r.1, r.2, r.3)
@@ -151,7 +172,8 @@ module _ (start : Op → ℕ → Start) (n : ℕ) (t : World) (pasts : ℕ → P
         (r.1.0, subst (λ z. IsPastAnswer n pasts_now z r.1.0) (sym r.0) (answer_added r.1.0 r.1.1 r.1.2), r.1.3, r.1.4)
   ]
 
-  pub answers_now : (id : OpId) (a : PastAnswer) → IsPastAnswer n pasts_now id a → In (Answered a.at id a.reply.answer) told_now.history
+  pub answers_now : (id : OpId) (a : PastAnswer) → IsPastAnswer n pasts_now id a
+      → In (Answered a.at id a.reply.answer) told_now.history
   answers_now id a h = elim (answer_cases id a h) [
     | inl k ↦ in_left _ (t.history ++ calls_in (length t.accepted) Old st) (answers_in (length t.accepted) New R.1.reply) (in_left _ t.history (calls_in (length t.accepted) Old st) (J.answers id a k))
     | inr k ↦ in_right _ (t.history ++ calls_in (length t.accepted) Old st) (answers_in (length t.accepted) New R.1.reply)
@@ -173,7 +195,8 @@ module _ (start : Op → ℕ → Start) (n : ℕ) (t : World) (pasts : ℕ → P
         (subst (λ z. In (record { id = id; at = a.at; reply = a.reply }) (replies_in (length t.accepted) z R.1.reply)) k.0 (answered_new (length t.accepted) (R.0.calls - 1) (op_in S st) id R.1.reply a k.1).2)
   ]
 
-  pub cast_now : (c : Cast) → In c told_now.casts → (d : PastCall) × IsPastCall n pasts_now c.id d × (d.cast ≡ Some c.stamp) × (d.op ≡ c.op)
+  pub cast_now : (c : Cast) → In c told_now.casts
+      → (d : PastCall) × IsPastCall n pasts_now c.id d × (d.cast ≡ Some c.stamp) × (d.op ≡ c.op)
   cast_now c i = elim (in_cases c t.casts (casts_in Old st R.1.cast) i) [
     | inl k ↦ let r = J.cast c k in (r.0, call_stays c.id r.0 r.1, r.2, r.3)
     | inr k ↦
@@ -181,7 +204,8 @@ module _ (start : Op → ℕ → Start) (n : ℕ) (t : World) (pasts : ℕ → P
         (r.1.0, subst (λ z. IsPastCall n pasts_now z r.1.0) (sym r.0) (call_added r.1.0 r.1.1), r.1.2, r.1.3)
   ]
 
-  pub casts_now : (id : OpId) (d : PastCall) (stamp : Stamp) → IsPastCall n pasts_now id d → d.cast ≡ Some stamp → In (record { stamp = stamp; id = id; op = d.op }) told_now.casts
+  pub casts_now : (id : OpId) (d : PastCall) (stamp : Stamp) → IsPastCall n pasts_now id d → d.cast ≡ Some stamp
+      → In (record { stamp = stamp; id = id; op = d.op }) told_now.casts
   casts_now id d stamp h c = elim (call_cases id d h) [
     | inl k ↦ in_left _ t.casts (casts_in Old st R.1.cast) (J.casts id d stamp k c)
     | inr k ↦ in_right _ t.casts (casts_in Old st R.1.cast) (subst (λ z. In (record { stamp = stamp; id = id; op = d.op }) (casts_in z st R.1.cast)) k.0 (cast_new (length t.accepted) id st R.1.cast d stamp k.1 c))

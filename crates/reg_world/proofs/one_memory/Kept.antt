@@ -1,5 +1,6 @@
 -- Every run keeps what is told of it in step with the pasts, and its history in place.
-use Rattle.std.proofs.Common.{◌≡◌, ℕ, ◌≤◌, List, [], ◌∷◌, ◌++◌, length, take, replicate, Option, Some, None, refl, sym, ap, ◌∙◌, subst, inl, inr, arith, length-append}
+use Rattle.std.proofs.Common.{◌≡◌, ℕ, ◌≤◌, List, [], ◌∷◌, ◌++◌, length, take, replicate, Option, Some, None, refl, sym}
+use Rattle.std.proofs.Common.{ap, ◌∙◌, subst, inl, inr, arith, length-append}
 use Rattle.std.specs.Prelude.{slice_get}
 use Rattle.std.proofs.lemmas.Bool.{cases_order}
 use Rattle.std.proofs.lemmas.Option.{none-some}
@@ -18,7 +19,8 @@ use Rattle.reg_world.specs.Nodes.{Node, Nodes, put, after_step}
 use Rattle.reg_world.specs.Laws.{DeliveriesMade}
 use Rattle.reg_base.specs.declared.limits.TheConstants.{MOST_EVENTS}
 use Rattle.reg_world.specs.World.{World, op_id, move_of, moved, whole}
-use Rattle.reg_world.proofs.run.Traced.{Called as PastCall, Answered as PastAnswer, Past, Trace, casts_of, pasts_after, HistoryRight, CastsCalled, traced, after}
+use Rattle.reg_world.proofs.run.Traced.{Called as PastCall, Answered as PastAnswer, Past, Trace, casts_of, pasts_after}
+use Rattle.reg_world.proofs.run.Traced.{HistoryRight, CastsCalled, traced, after}
 use Rattle.reg_base.proofs.Lists.{in_right}
 use Rattle.reg_world.proofs.one_order.NodeEvents.{put_same}
 use Rattle.reg_world.proofs.one_order.NodeLaws.{deliveries_made}
@@ -41,7 +43,8 @@ pub record Known (n registers : ℕ) (v : Trace) : Type 0 where
   pub called : CastsCalled n v
   pub deliveries : DeliveriesMade n v.nodes
 
-pub known : (start : Op → ℕ → Start) (n registers : ℕ) → KeepsLaws start → (events : List Event) → Known n registers (traced start n registers events)
+pub known : (start : Op → ℕ → Start) (n registers : ℕ) → KeepsLaws start → (events : List Event)
+    → Known n registers (traced start n registers events)
 known start n registers laws events = record {
   pasts = whole_pasts start n registers events laws;
   places = all_places start n registers events laws;
@@ -52,7 +55,8 @@ known start n registers laws events = record {
 }
 
 -- one call makes the cast of a stamp
-pub one_stamp : (n : ℕ) (v : Trace) → PastsOk n v → (a b : OpId) (d f : PastCall) (stamp : Stamp) → IsPastCall n v.pasts a d → IsPastCall n v.pasts b f → d.cast ≡ Some stamp → f.cast ≡ Some stamp → a ≡ b
+pub one_stamp : (n : ℕ) (v : Trace) → PastsOk n v → (a b : OpId) (d f : PastCall) (stamp : Stamp)
+    → IsPastCall n v.pasts a d → IsPastCall n v.pasts b f → d.cast ≡ Some stamp → f.cast ≡ Some stamp → a ≡ b
 one_stamp n v P a b d f stamp h g c k =
     let x = (P a.process h.0).0 in
     let y = (P b.process g.0).0 in
@@ -67,7 +71,9 @@ one_stamp n v P a b d f stamp h g c k =
     ])
 
 -- an answer's call, and the memory that it is of
-pub call_of : (n registers : ℕ) (v : Trace) → HistoryRight n registers v → (id : OpId) (a : PastAnswer) → IsPastAnswer n v.pasts id a → (d : PastCall) × IsPastCall n v.pasts id d × ((m : Memory) × (a.reply.answer ≡ answer_of d.op m))
+pub call_of : (n registers : ℕ) (v : Trace) → HistoryRight n registers v → (id : OpId) (a : PastAnswer)
+    → IsPastAnswer n v.pasts id a
+    → (d : PastCall) × IsPastCall n v.pasts id d × ((m : Memory) × (a.reply.answer ≡ answer_of d.op m))
 call_of n registers v H id a h =
     let r = H id.process a h.0 h.1 in
     (r.0, (h.0, subst (λ k. slice_get (v.pasts id.process).calls k ≡ Some r.0) h.2 r.1), (memory_after (ops_of (take a.reply.place (casts_of v.order))) (replicate registers 0), r.3))
@@ -115,7 +121,8 @@ module _ (start : Op → ℕ → Start) (n registers : ℕ) (laws : KeepsLaws st
             (step_fits p (w.nodes p).state (w.nodes p).deliveries (v.pasts p) (F.pasts p A.0).0 start st) right;
       }
 
-  pub kept_moved : (events : List Event) (e : Event) (m : Option (ℕ × Step)) → IsKept events → move_of n registers (whole start n registers events) e ≡ m
+  pub kept_moved : (events : List Event) (e : Event) (m : Option (ℕ × Step)) → IsKept events
+      → move_of n registers (whole start n registers events) e ≡ m
       → Kept n registers (moved start (whole start n registers events) e m) (pasts_after start (traced start n registers events) m)
   kept_moved events e None K is = K
   kept_moved events e (Some m) K is = kept_step events e m K is

@@ -1,5 +1,6 @@
 -- A reply stands at its own cast, unless the front end gives it before the delivery.
-use Rattle.std.proofs.Common.{◌≡◌, ℕ, ◌+◌, ◌-◌, ◌<◌, ◌⊎◌, max, List, [], ◌∷◌, ◌++◌, length, take, Option, Some, None, refl, sym, ap, ◌∙◌, subst, inl, inr, arith}
+use Rattle.std.proofs.Common.{◌≡◌, ℕ, ◌+◌, ◌-◌, ◌<◌, ◌⊎◌, max, List, [], ◌∷◌, ◌++◌, length, take, Option, Some, None}
+use Rattle.std.proofs.Common.{refl, sym, ap, ◌∙◌, subst, inl, inr, arith}
 use Rattle.std.specs.Prelude.{◌==◌, ◌&&◌, slice_get}
 use Rattle.std.specs.List.{list_any}
 use Rattle.std.proofs.lemmas.Bool.{cond_both}
@@ -14,16 +15,20 @@ use Rattle.reg_frames.specs.declared.bodies.Body.TheVariants.{Cast, Ack}
 use Rattle.reg_frames.specs.declared.bodies.Frame.{Frame}
 use Rattle.reg_frames.specs.declared.bodies.Frame.TheVariants.{Numbered, Got}
 use Rattle.reg_front.specs.declared.starts.Start.{Start}
-use Rattle.reg_front.specs.declared.starts.Start.TheVariants.{Cast as Casts, CastAndAnswer as CastsAndAnswers, Look as Looks, Hold as Holds}
+use Rattle.reg_front.specs.declared.starts.Start.TheVariants.{Cast as Casts, CastAndAnswer as CastsAndAnswers}
+use Rattle.reg_front.specs.declared.starts.Start.TheVariants.{Look as Looks, Hold as Holds}
 use Rattle.reg_front.specs.Fronts.{KeepsLaws}
 use Rattle.reg_process.specs.declared.steps.Reply.{Reply}
 use Rattle.reg_process.specs.declared.steps.Step.{Step}
 use Rattle.reg_process.specs.declared.steps.Step.TheVariants.{Call, Take, Tick}
-use Rattle.reg_process.specs.Process.{State, Outcome, Running, Own, Held, cast_at, clear_casts, casts_before, reply_after, reply_of, taken, accepted, accepts, queues, quiet, got_frames, peer_at, step, called, cast_made, stamp_at, unsettled}
+use Rattle.reg_process.specs.Process.{State, Outcome, Running, Own, Held, cast_at, clear_casts, casts_before}
+use Rattle.reg_process.specs.Process.{reply_after, reply_of, taken, accepted, accepts, queues, quiet, got_frames}
+use Rattle.reg_process.specs.Process.{peer_at, step, called, cast_made, stamp_at, unsettled}
 use Rattle.reg_process.specs.declared.events.Event.{Event}
 use Rattle.reg_world.specs.Nodes.{Node, put, op_in, after_step}
 use Rattle.reg_world.specs.NodeParts.{nodes_after}
-use Rattle.reg_world.proofs.run.Traced.{Called, Answered, Past, Trace, cast_of, called_in, answered_in, past_after, pasts_after, after, traced}
+use Rattle.reg_world.proofs.run.Traced.{Called, Answered, Past, Trace, cast_of, called_in, answered_in, past_after}
+use Rattle.reg_world.proofs.run.Traced.{pasts_after, after, traced}
 use Rattle.reg_base.proofs.Lists.{in_cases, insert_new}
 use Rattle.reg_world.proofs.lists.Bodies.{place_first, place_last}
 use Rattle.reg_world.proofs.one_order.Acts.{put_cases}
@@ -43,7 +48,10 @@ use Rattle.reg_world.proofs.run.Along.{one_more, traced_more}
 use Rattle.reg_world.proofs.run.Begun.{again}
 use Rattle.reg_world.proofs.one_memory.Kept.{kept}
 
-reply_placed : (s : State) (deliveries : List Delivered) → s.delivered ≡ length deliveries → Rising (clear_casts s) → (running : Option Running) (k : ℕ) (calls : List Called) (r : Reply) (d : Called) (stamp : Stamp) → Runs s running → RunsAs k calls running → reply_of s (clear_casts s) running ≡ Some r → slice_get calls (k - 1) ≡ Some d → d.cast ≡ Some stamp → slice_get (deliveries ++ clear_casts s) r.place ≡ Some (cast_of stamp d.op)
+reply_placed : (s : State) (deliveries : List Delivered) → s.delivered ≡ length deliveries → Rising (clear_casts s)
+    → (running : Option Running) (k : ℕ) (calls : List Called) (r : Reply) (d : Called) (stamp : Stamp) → Runs s running
+    → RunsAs k calls running → reply_of s (clear_casts s) running ≡ Some r → slice_get calls (k - 1) ≡ Some d
+    → d.cast ≡ Some stamp → slice_get (deliveries ++ clear_casts s) r.place ≡ Some (cast_of stamp d.op)
 reply_placed s deliveries count rising None k calls r d stamp runs last e at c = absurd (let bad : ⊥ = cc in bad)
 reply_placed s deliveries count rising (Some (Own st op)) k calls r d stamp runs last e at c =
     let same : d ≡ record { op = op; at = last.1.0; cast = Some st } = same_Some _ _ (sym at ∙ last.1.1) in
@@ -90,7 +98,8 @@ module _ (p at : ℕ) (x : Node) (h : Past) (W : Runs x.state x.state.running) (
   called_at start op Looks is rises y d stamp e same c = absurd (none-some stamp (sym (ap (λ (z : Called). z.cast) same) ∙ c))
   called_at start op Holds is rises y d stamp e same c = absurd (none-some stamp (sym (ap (λ (z : Called). z.cast) same) ∙ c))
 
-  pub step_at : (start : Op → ℕ → Start) (e : Step) → Rising (after_step start x e).deliveries → OwnAt start e (step start x.state e)
+  pub step_at : (start : Op → ℕ → Start) (e : Step) → Rising (after_step start x e).deliveries
+      → OwnAt start e (step start x.state e)
   step_at start (Call op) = λ rises y d stamp e q c.
       let r = step start x.state (Call op) in
       let new : Called = record { op = op; at = at; cast = r.1.cast } in
@@ -101,11 +110,14 @@ module _ (p at : ℕ) (x : Node) (h : Past) (W : Runs x.state x.state.running) (
   step_at start (Take a f) = taken_at start a f
   step_at start Tick = λ rises y d stamp e q c. absurd (none-some y e)
 
--- where each answer to a call with a cast stands, the calls being answered first as First says of their events and operations
+-- where each answer to a call with a cast stands, the calls being answered first as First says of their events and
+-- operations
 abbrev pub AreSeated : (ℕ → Op → Type 0) → List Delivered → Past → Type 0
 AreSeated First deliveries h = (a : Answered) (d : Called) (stamp : Stamp) → In a h.answers → slice_get h.calls a.number ≡ Some d → d.cast ≡ Some stamp → ((a.at ≡ d.at) × First d.at d.op) ⊎ (slice_get deliveries a.reply.place ≡ Some (cast_of stamp d.op))
 
-seated_here : (start : Op → ℕ → Start) (Old New : ℕ → Op → Type 0) (p at : ℕ) (x : Node) (h : Past) (e : Step) → Runs x.state x.state.running → PastOk p x.state x.deliveries h → x.state.delivered ≡ length x.deliveries → Rising (after_step start x e).deliveries
+seated_here : (start : Op → ℕ → Start) (Old New : ℕ → Op → Type 0) (p at : ℕ) (x : Node) (h : Past) (e : Step)
+    → Runs x.state x.state.running → PastOk p x.state x.deliveries h → x.state.delivered ≡ length x.deliveries
+    → Rising (after_step start x e).deliveries
     → ((number : ℕ) (d : Called) → slice_get h.calls number ≡ Some d → Old d.at d.op → New d.at d.op) → ((op : Op) → start op (unsettled x.state) ≡ CastsAndAnswers → New at op)
     → AreSeated Old x.deliveries h → AreSeated New (after_step start x e).deliveries (past_after at x.state h e (step start x.state e))
 seated_here start Old New p at x h e W P count rises stays comes A a d stamp i q c =
@@ -126,7 +138,9 @@ seated_here start Old New p at x h e W P count rises stays comes A a d stamp i q
           elim z [ inl y ↦ inl (ap (λ (z : Answered). z.at) o.2 ∙ sym y.0, subst (λ k. New k d.op) (sym y.0) (comes d.op y.1)) | inr y ↦ inr (ap (slice_get (x.deliveries ++ r.1.delivered)) place ∙ y) ]
     ]
 
-seated_step : (start : Op → ℕ → Start) (Old New : ℕ → ℕ → Op → Type 0) (n registers k : ℕ) (w : Trace) (m : ℕ × Step) → StepKept start n registers k w.nodes (Some m) → Replicas n registers w.nodes → ((p : ℕ) → IsRunning (w.nodes p)) → PastsOk n w
+seated_step : (start : Op → ℕ → Start) (Old New : ℕ → ℕ → Op → Type 0) (n registers k : ℕ) (w : Trace) (m : ℕ × Step)
+    → StepKept start n registers k w.nodes (Some m) → Replicas n registers w.nodes → ((p : ℕ) → IsRunning (w.nodes p))
+    → PastsOk n w
     → ((q number : ℕ) (d : Called) → q < n → slice_get (w.pasts q).calls number ≡ Some d → Old q d.at d.op → New q d.at d.op) → ((op : Op) → start op (unsettled (w.nodes m.0).state) ≡ CastsAndAnswers → New m.0 w.count op)
     → ((q : ℕ) → q < n → AreSeated (Old q) (w.nodes q).deliveries (w.pasts q))
     → (q : ℕ) → q < n → AreSeated (New q) (nodes_after start w.nodes (Some m) q).deliveries (pasts_after start w (Some m) q)

@@ -1,5 +1,7 @@
--- The copy is the memory after the list of deliveries, and each reply is what the memory answers after so many casts of it.
-use Rattle.std.proofs.Common.{◌≡◌, ℕ, ◌+◌, ◌≤◌, max, List, [], ◌∷◌, ◌++◌, length, take, replicate, Option, Some, None, refl, sym, ap, ◌∙◌, subst, inl, inr, arith, append_assoc, length-append}
+-- The copy is the memory after the list of deliveries, and each reply is what the memory answers after so many casts of
+-- it.
+use Rattle.std.proofs.Common.{◌≡◌, ℕ, ◌+◌, ◌≤◌, max, List, [], ◌∷◌, ◌++◌, length, take, replicate, Option, Some, None}
+use Rattle.std.proofs.Common.{refl, sym, ap, ◌∙◌, subst, inl, inr, arith, append_assoc, length-append}
 use Rattle.std.specs.Prelude.{◌==◌, ◌&&◌, count_by}
 use Rattle.std.specs.List.{list_any}
 use Rattle.std.proofs.lemmas.Bool.{cond_both, and_parts, and_from}
@@ -13,12 +15,16 @@ use Rattle.reg_frames.specs.declared.bodies.Frame.{Frame}
 use Rattle.reg_frames.specs.declared.bodies.Frame.TheVariants.{Numbered, Got}
 use Rattle.reg_process.specs.declared.steps.Reply.{Reply}
 use Rattle.reg_front.specs.declared.starts.Start.{Start}
-use Rattle.reg_front.specs.declared.starts.Start.TheVariants.{Cast as Casts, CastAndAnswer as CastsAndAnswers, Look as Looks, Hold as Holds}
+use Rattle.reg_front.specs.declared.starts.Start.TheVariants.{Cast as Casts, CastAndAnswer as CastsAndAnswers}
+use Rattle.reg_front.specs.declared.starts.Start.TheVariants.{Look as Looks, Hold as Holds}
 use Rattle.reg_process.specs.declared.steps.Step.{Step}
 use Rattle.reg_process.specs.declared.steps.Step.TheVariants.{Call, Take, Tick}
 use Rattle.reg_base.specs.Order.{below, at_most, In, Rising, insert}
 use Rattle.reg_base.specs.Memory.{Memory, answer_of, after, memory_after}
-use Rattle.reg_process.specs.Process.{State, Running, Own, Held, peer_at, is_own, clear_casts, delivered_state, ops_of, casts_before, up_to_own, reply_after, reply_of, look, done_at_once, called, taken, accepted, accepts, acknowledged, queues, cast_made, cast_at, stamp_at, resent, no_frames, quiet, got_frames, unsettled}
+use Rattle.reg_process.specs.Process.{State, Running, Own, Held, peer_at, is_own, clear_casts, delivered_state, ops_of}
+use Rattle.reg_process.specs.Process.{casts_before, up_to_own, reply_after, reply_of, look, done_at_once, called, taken}
+use Rattle.reg_process.specs.Process.{accepted, accepts, acknowledged, queues, cast_made, cast_at, stamp_at, resent}
+use Rattle.reg_process.specs.Process.{no_frames, quiet, got_frames, unsettled}
 use Rattle.reg_world.specs.Nodes.{Said, Node, said, running_op, after_result, after_step}
 use Rattle.reg_front.specs.Fronts.{MayStart, KeepsLaws}
 use Rattle.reg_base.proofs.Orders.{Decides-below, Decides-at_most, below_trans, below_at_most}
@@ -43,14 +49,17 @@ pub memory-append : (xs ys : List Op) (m : Memory) → memory_after (xs ++ ys) m
 memory-append [] ys m = refl
 memory-append (x ∷ xs) ys m = memory-append xs ys (after x m)
 
-pub right_later : (registers : ℕ) (deliveries more : List Delivered) (r : Said) → IsRight registers deliveries r → IsRight registers (deliveries ++ more) r
+pub right_later : (registers : ℕ) (deliveries more : List Delivered) (r : Said) → IsRight registers deliveries r
+    → IsRight registers (deliveries ++ more) r
 right_later registers deliveries more r h = (
   (let z = h.0 in let v = length-append deliveries more in omega (arith, z, v)),
   h.1 ∙ ap (λ l. answer_of r.op (memory_after (ops_of l) (replicate registers 0))) (sym (take-append-le r.reply.place deliveries more h.0)),
 )
 
 -- a reply after some first casts of what is delivered
-reply_right : (registers : ℕ) (s : State) (deliveries cs rest ds : List Delivered) (op : Op) → s.copy ≡ memory_after (ops_of deliveries) (replicate registers 0) → s.delivered ≡ length deliveries → cs ++ rest ≡ ds → IsRight registers (deliveries ++ ds) (record { op = op; reply = reply_after s cs op })
+reply_right : (registers : ℕ) (s : State) (deliveries cs rest ds : List Delivered) (op : Op)
+    → s.copy ≡ memory_after (ops_of deliveries) (replicate registers 0) → s.delivered ≡ length deliveries
+    → cs ++ rest ≡ ds → IsRight registers (deliveries ++ ds) (record { op = op; reply = reply_after s cs op })
 reply_right registers s deliveries cs rest ds op copy count e =
     let all : deliveries ++ ds ≡ (deliveries ++ cs) ++ rest = ap (λ l. deliveries ++ l) (sym e) ∙ sym (append_assoc deliveries cs rest) in
     let place : length (deliveries ++ cs) ≡ s.delivered + length cs = let z = length-append deliveries cs in omega (arith, z, count) in
@@ -62,9 +71,11 @@ reply_right registers s deliveries cs rest ds op copy count e =
     )
 
 pub before_down : (stamp : Stamp) (ds : List Delivered) → DownIn (λ c. below c.stamp stamp) ds
-before_down stamp ds a b i j h e = (Decides-below a.stamp stamp).1 (below_trans a.stamp b.stamp stamp h ((Decides-below b.stamp stamp).0 e))
+before_down stamp ds a b i j h e =
+    (Decides-below a.stamp stamp).1 (below_trans a.stamp b.stamp stamp h ((Decides-below b.stamp stamp).0 e))
 
-pub own_down : (s : State) (ds : List Delivered) → DownIn (λ c. list_any (λ d. is_own s d && at_most c.stamp d.stamp) ds) ds
+pub own_down : (s : State) (ds : List Delivered)
+    → DownIn (λ c. list_any (λ d. is_own s d && at_most c.stamp d.stamp) ds) ds
 own_down s ds a b i j h e =
     let r = any_found (λ d. is_own s d && at_most b.stamp d.stamp) ds e in
     let d = r.0 in
@@ -77,13 +88,17 @@ abbrev pub SaidRight : ℕ → List Delivered → Op → Option Reply → Type 0
 SaidRight registers deliveries op None = Unit {0}
 SaidRight registers deliveries op (Some r) = IsRight registers deliveries (record { op = op; reply = r })
 
-said_in : (registers : ℕ) (deliveries : List Delivered) (op : Op) (o : Option Reply) → SaidRight registers deliveries op o → (r : Said) → In r (said op o) → IsRight registers deliveries r
+said_in : (registers : ℕ) (deliveries : List Delivered) (op : Op) (o : Option Reply)
+    → SaidRight registers deliveries op o → (r : Said) → In r (said op o) → IsRight registers deliveries r
 said_in registers deliveries op None h r i = absurd i
 said_in registers deliveries op (Some x) h r (inl e) = subst (IsRight registers deliveries) (sym e) h
 said_in registers deliveries op (Some x) h r (inr f) = absurd f
 
 -- the reply of delivery
-delivery_right : (registers : ℕ) (s : State) (deliveries : List Delivered) (running : Option Running) → s.copy ≡ memory_after (ops_of deliveries) (replicate registers 0) → s.delivered ≡ length deliveries → Rising (clear_casts s) → SaidRight registers (deliveries ++ clear_casts s) (running_op running) (reply_of s (clear_casts s) running)
+delivery_right : (registers : ℕ) (s : State) (deliveries : List Delivered) (running : Option Running)
+    → s.copy ≡ memory_after (ops_of deliveries) (replicate registers 0) → s.delivered ≡ length deliveries
+    → Rising (clear_casts s)
+    → SaidRight registers (deliveries ++ clear_casts s) (running_op running) (reply_of s (clear_casts s) running)
 delivery_right registers s deliveries None copy count r = tt
 delivery_right registers s deliveries (Some (Own stamp op)) copy count r =
     let ds = clear_casts s in
@@ -96,14 +111,21 @@ delivery_right registers s deliveries (Some (Held op)) copy count r =
     (λ _. reply_right registers s deliveries (up_to_own s ds) _ ds op copy count (front_filter (λ c. list_any (λ d. is_own s d && at_most c.stamp d.stamp) ds) ds r (own_down s ds)))
     (λ _. tt)
 
-quiet_replica : (registers : ℕ) (s s' : State) (deliveries : List Delivered) (replies : List Said) (op : Op) (o : Option Reply) → Replica registers s deliveries replies → s'.copy ≡ s.copy → s'.delivered ≡ s.delivered → SaidRight registers (deliveries ++ []) op o → Replica registers s' (deliveries ++ []) (replies ++ said op o)
+quiet_replica : (registers : ℕ) (s s' : State) (deliveries : List Delivered) (replies : List Said) (op : Op)
+    (o : Option Reply)
+    → Replica registers s deliveries replies → s'.copy ≡ s.copy → s'.delivered ≡ s.delivered
+    → SaidRight registers (deliveries ++ []) op o → Replica registers s' (deliveries ++ []) (replies ++ said op o)
 quiet_replica registers s s' deliveries replies op o R c d h = record {
   copy = c ∙ (R.copy ∙ ap (λ l. memory_after (ops_of l) (replicate registers 0)) (sym (append-nil deliveries)));
   count = d ∙ (R.count ∙ ap length (sym (append-nil deliveries)));
   right = λ r i. elim (in_cases r replies (said op o) i) [ inl j ↦ right_later registers deliveries [] r (R.right r j) | inr j ↦ said_in registers (deliveries ++ []) op o h r j ];
 }
 
-loud_replica : (registers : ℕ) (s s1 : State) (deliveries : List Delivered) (replies : List Said) (op : Op) (o : Option Reply) → Replica registers s deliveries replies → s1.copy ≡ s.copy → s1.delivered ≡ s.delivered → SaidRight registers (deliveries ++ clear_casts s1) op o → Replica registers (delivered_state s1) (deliveries ++ clear_casts s1) (replies ++ said op o)
+loud_replica : (registers : ℕ) (s s1 : State) (deliveries : List Delivered) (replies : List Said) (op : Op)
+    (o : Option Reply)
+    → Replica registers s deliveries replies → s1.copy ≡ s.copy → s1.delivered ≡ s.delivered
+    → SaidRight registers (deliveries ++ clear_casts s1) op o
+    → Replica registers (delivered_state s1) (deliveries ++ clear_casts s1) (replies ++ said op o)
 loud_replica registers s s1 deliveries replies op o R c d h =
     let ds = clear_casts s1 in
     record {
@@ -150,7 +172,8 @@ module _ (registers : ℕ) (x : Node) (R : IsReplica registers x) where
       rises
   taken_replica a (Got count) rises = quiet_step (acknowledged x.state a count) (running_op x.state.running) no_frames refl refl
 
-  pub step_replica : (start : Op → ℕ → Start) (e : Step) → KeepsLaws start → Rising (after_step start x e).deliveries → IsReplica registers (after_step start x e)
+  pub step_replica : (start : Op → ℕ → Start) (e : Step) → KeepsLaws start → Rising (after_step start x e).deliveries
+      → IsReplica registers (after_step start x e)
   step_replica start (Call op) laws rises = called_replica op (start op (unsettled x.state)) (laws op (unsettled x.state)) rises
   step_replica start (Take a f) laws rises = taken_replica a f rises
   step_replica start Tick laws rises = quiet_step x.state (running_op x.state.running) (resent x.state) refl refl

@@ -1,5 +1,6 @@
 -- The answers of a process: one to each call, at places that never fall.
-use Rattle.std.proofs.Common.{◌≡◌, ℕ, ◌+◌, ◌-◌, ◌<◌, ◌≤◌, max, List, ◌++◌, length, Option, Some, None, refl, sym, ap, ◌∙◌, subst, inl, inr, arith}
+use Rattle.std.proofs.Common.{◌≡◌, ℕ, ◌+◌, ◌-◌, ◌<◌, ◌≤◌, max, List, ◌++◌, length, Option, Some, None, refl, sym, ap}
+use Rattle.std.proofs.Common.{◌∙◌, subst, inl, inr, arith}
 use Rattle.std.specs.Prelude.{◌==◌, ◌&&◌, count_by}
 use Rattle.std.specs.List.{list_any}
 use Rattle.std.proofs.lemmas.Bool.{cond_both}
@@ -13,16 +14,20 @@ use Rattle.reg_frames.specs.declared.bodies.Frame.{Frame}
 use Rattle.reg_frames.specs.declared.bodies.Frame.TheVariants.{Numbered, Got}
 use Rattle.reg_process.specs.declared.steps.Reply.{Reply}
 use Rattle.reg_front.specs.declared.starts.Start.{Start}
-use Rattle.reg_front.specs.declared.starts.Start.TheVariants.{Cast as Casts, CastAndAnswer as CastsAndAnswers, Look as Looks, Hold as Holds}
+use Rattle.reg_front.specs.declared.starts.Start.TheVariants.{Cast as Casts, CastAndAnswer as CastsAndAnswers}
+use Rattle.reg_front.specs.declared.starts.Start.TheVariants.{Look as Looks, Hold as Holds}
 use Rattle.reg_process.specs.declared.steps.Step.{Step}
 use Rattle.reg_process.specs.declared.steps.Step.TheVariants.{Call, Take, Tick}
 use Rattle.reg_process.specs.declared.events.Event.{Event}
 use Rattle.reg_base.specs.Order.{In, insert}
-use Rattle.reg_process.specs.Process.{State, Outcome, Running, Own, Held, is_own, stamp_at, cast_at, clear_casts, casts_before, up_to_own, reply_after, reply_of, still, called, taken, accepted, accepts, queues, cast_made, quiet, got_frames, peer_at, unsettled, step}
+use Rattle.reg_process.specs.Process.{State, Outcome, Running, Own, Held, is_own, stamp_at, cast_at, clear_casts}
+use Rattle.reg_process.specs.Process.{casts_before, up_to_own, reply_after, reply_of, still, called, taken, accepted}
+use Rattle.reg_process.specs.Process.{accepts, queues, cast_made, quiet, got_frames, peer_at, unsettled, step}
 use Rattle.reg_front.specs.Fronts.{KeepsLaws}
 use Rattle.reg_world.specs.Nodes.{Node, Nodes, put, op_in, after_step}
 use Rattle.reg_world.specs.NodeParts.{nodes_after}
-use Rattle.reg_world.proofs.run.Traced.{Trace, Called, Answered, Past, answered_in, past_after, pasts_after, AnswersInOrder, traced}
+use Rattle.reg_world.proofs.run.Traced.{Trace, Called, Answered, Past, answered_in, past_after, pasts_after}
+use Rattle.reg_world.proofs.run.Traced.{AnswersInOrder, traced}
 use Rattle.reg_base.proofs.Lists.{in_cases}
 use Rattle.reg_world.proofs.one_order.Acts.{put_cases}
 use Rattle.reg_world.proofs.one_order.Runs.{StepKept}
@@ -42,16 +47,25 @@ done_calls s (Some r) = s.calls - 1
 -- what a step's reply is: of the last call, at a place not before the end of the deliveries
 abbrev pub ReplyFits : State → State → Option Reply → Type 0
 ReplyFits s s' None = Unit {0}
-ReplyFits s s' (Some r) = (s.delivered ≤ r.place) × (done_calls s s.running ≤ s'.calls - 1) × (s'.calls - 1 < done_calls s' s'.running)
+ReplyFits s s' (Some r) =
+    (s.delivered ≤ r.place) × (done_calls s s.running ≤ s'.calls - 1) × (s'.calls - 1 < done_calls s' s'.running)
 
 pub record StepFits (s : State) (r : State × Outcome) : Type 0 where
   pub later : done_calls s s.running ≤ done_calls r.0 r.0.running
   pub reply : ReplyFits s r.0 r.1.reply
 
 -- of delivery, by the reply
-still_fits : (s s1 : State) (o : Option Reply) (running : Option Running) (s' : State) → s'.calls ≡ s1.calls → ((running ≡ None → ⊥) → 0 < s1.calls) → done_calls s s.running ≤ done_calls s1 running → ((running ≡ None → ⊥) → done_calls s s.running ≤ s1.calls - 1) → ((r : Reply) → o ≡ Some r → (running ≡ None → ⊥) × (s.delivered ≤ r.place)) → (done_calls s s.running ≤ done_calls s' (still o running)) × ((r : Reply) → o ≡ Some r → (s.delivered ≤ r.place) × (done_calls s s.running ≤ s'.calls - 1) × (s'.calls - 1 < done_calls s' (still o running)))
+still_fits : (s s1 : State) (o : Option Reply) (running : Option Running) (s' : State) → s'.calls ≡ s1.calls
+    → ((running ≡ None → ⊥) → 0 < s1.calls) → done_calls s s.running ≤ done_calls s1 running
+    → ((running ≡ None → ⊥) → done_calls s s.running ≤ s1.calls - 1)
+    → ((r : Reply) → o ≡ Some r → (running ≡ None → ⊥) × (s.delivered ≤ r.place))
+    → (done_calls s s.running ≤ done_calls s' (still o running))
+    × ((r : Reply) → o ≡ Some r
+    → (s.delivered ≤ r.place) × (done_calls s s.running ≤ s'.calls - 1)
+    × (s'.calls - 1 < done_calls s' (still o running)))
 still_fits s s1 None None s' k pos d e f = (let z = d in omega (arith, k, z), λ r q. absurd (let bad : ⊥ = cc in bad))
-still_fits s s1 None (Some x) s' k pos d e f = (let z = d in omega (arith, k, z), λ r q. absurd (let bad : ⊥ = cc in bad))
+still_fits s s1 None (Some x) s' k pos d e f =
+    (let z = d in omega (arith, k, z), λ r q. absurd (let bad : ⊥ = cc in bad))
 still_fits s s1 (Some y) running s' k pos d e f =
     let g = (f y refl).0 in
     let a = e g in
@@ -59,7 +73,8 @@ still_fits s s1 (Some y) running s' k pos d e f =
     ((let z = a in omega (arith, k, z)), λ r q. ((f r q).1, (let z = a in omega (arith, k, z)), (let z = b in omega (arith, k, z))))
 
 -- a reply of delivery is of what runs, after what was delivered
-reply_behind : (s : State) (cs : List Delivered) (running : Option Running) (r : Reply) → reply_of s cs running ≡ Some r → (running ≡ None → ⊥) × (s.delivered ≤ r.place)
+reply_behind : (s : State) (cs : List Delivered) (running : Option Running) (r : Reply) → reply_of s cs running ≡ Some r
+    → (running ≡ None → ⊥) × (s.delivered ≤ r.place)
 reply_behind s cs None r e = absurd (let bad : ⊥ = cc in bad)
 reply_behind s cs (Some (Own stamp op)) r e =
     cond_both (list_any (λ c. (c.stamp.time == stamp.time) && (c.stamp.process == stamp.process)) cs) (Some (reply_after s (casts_before stamp cs) op)) None (λ o. o ≡ Some r → (Some (Own stamp op) ≡ None → ⊥) × (s.delivered ≤ r.place))
@@ -68,7 +83,10 @@ reply_behind s cs (Some (Held op)) r e =
     cond_both (count_by (is_own s) cs == unsettled s) (Some (reply_after s (up_to_own s cs) op)) None (λ o. o ≡ Some r → (Some (Held op) ≡ None → ⊥) × (s.delivered ≤ r.place))
     (λ _ q. ((λ n. cc), (let p : reply_after s (up_to_own s cs) op ≡ r = cc in let z = ap (λ (x : Reply). x.place) p in omega (arith, z)))) (λ _ q. absurd (let bad : ⊥ = cc in bad)) e
 
-fits_from : (s s' : State) (o : Option Reply) → ((r : Reply) → o ≡ Some r → (s.delivered ≤ r.place) × (done_calls s s.running ≤ s'.calls - 1) × (s'.calls - 1 < done_calls s' s'.running)) → ReplyFits s s' o
+fits_from : (s s' : State) (o : Option Reply)
+    → ((r : Reply) → o ≡ Some r
+    → (s.delivered ≤ r.place) × (done_calls s s.running ≤ s'.calls - 1) × (s'.calls - 1 < done_calls s' s'.running))
+    → ReplyFits s s' o
 fits_from s s' None f = tt
 fits_from s s' (Some r) f = f r refl
 
@@ -80,12 +98,14 @@ done_same : (s : State) (running : Option Running) → (running ≡ None → ⊥
 done_same s None h = absurd (h refl)
 done_same s (Some r) h = omega arith
 
-running_pos : (k : ℕ) (calls : List Called) (running : Option Running) → RunsAs k calls running → (running ≡ None → ⊥) → 0 < k
+running_pos : (k : ℕ) (calls : List Called) (running : Option Running) → RunsAs k calls running → (running ≡ None → ⊥)
+    → 0 < k
 running_pos k calls None h ne = absurd (ne refl)
 running_pos k calls (Some (Own stamp op)) h ne = h.0
 running_pos k calls (Some (Held op)) h ne = h.0
 
-same_done : (s s' : State) (running : Option Running) → s'.calls ≡ s.calls → done_calls s running ≤ done_calls s' running
+same_done : (s s' : State) (running : Option Running) → s'.calls ≡ s.calls
+    → done_calls s running ≤ done_calls s' running
 same_done s s' None e = omega (arith, e)
 same_done s s' (Some r) e = omega (arith, e)
 
@@ -130,15 +150,22 @@ pub record PlacesOk (s : State) (deliveries : List Delivered) (answers : List An
   pub within : (a : Answered) → In a answers → a.reply.place ≤ length deliveries
   pub order : AnswersInOrder answers
 
-pub answered_one : (at number : ℕ) (op : Op) (o : Option Reply) (a : Answered) → In a (answered_in at number op o) → (r : Reply) × (o ≡ Some r) × (a ≡ record { number = number; at = at; op = op; reply = r })
+pub answered_one : (at number : ℕ) (op : Op) (o : Option Reply) (a : Answered) → In a (answered_in at number op o)
+    → (r : Reply) × (o ≡ Some r) × (a ≡ record { number = number; at = at; op = op; reply = r })
 answered_one at number op None a h = absurd h
 answered_one at number op (Some r) a (inl e) = (r, refl, e)
 answered_one at number op (Some r) a (inr f) = absurd f
 
-pub fits_at : (s s' : State) (o : Option Reply) (r : Reply) → o ≡ Some r → ReplyFits s s' o → (s.delivered ≤ r.place) × (done_calls s s.running ≤ s'.calls - 1) × (s'.calls - 1 < done_calls s' s'.running)
+pub fits_at : (s s' : State) (o : Option Reply) (r : Reply) → o ≡ Some r → ReplyFits s s' o
+    → (s.delivered ≤ r.place) × (done_calls s s.running ≤ s'.calls - 1) × (s'.calls - 1 < done_calls s' s'.running)
 fits_at s s' o r e h = let g : ReplyFits s s' (Some r) = subst (ReplyFits s s') e h in g
 
-places_step : (s : State) (deliveries deliveries' : List Delivered) (answers : List Answered) (at : ℕ) (op : Op) (r : State × Outcome) → s.delivered ≡ length deliveries → StepFits s r → PlacesOk s deliveries answers → ((a : Answered) → In a (answers ++ answered_in at (r.0.calls - 1) op r.1.reply) → a.reply.place ≤ length deliveries') → PlacesOk r.0 deliveries' (answers ++ answered_in at (r.0.calls - 1) op r.1.reply)
+places_step : (s : State) (deliveries deliveries' : List Delivered) (answers : List Answered) (at : ℕ) (op : Op)
+    (r : State × Outcome)
+    → s.delivered ≡ length deliveries → StepFits s r → PlacesOk s deliveries answers
+    → ((a : Answered) → In a (answers ++ answered_in at (r.0.calls - 1) op r.1.reply)
+    → a.reply.place ≤ length deliveries')
+    → PlacesOk r.0 deliveries' (answers ++ answered_in at (r.0.calls - 1) op r.1.reply)
 places_step s deliveries deliveries' answers at op r count F O within =
     let new : (a : Answered) → In a (answered_in at (r.0.calls - 1) op r.1.reply) → (s.delivered ≤ a.reply.place) × (done_calls s s.running ≤ a.number) × (a.number < done_calls r.0 r.0.running) =
     λ a i.
@@ -171,7 +198,14 @@ places_step s deliveries deliveries' answers at op r count F O within =
 abbrev pub AllPlaces : ℕ → Trace → Type 0
 AllPlaces n w = (p : ℕ) → p < n → PlacesOk (w.nodes p).state (w.nodes p).deliveries (w.pasts p).answers
 
-all_places_step : (start : Op → ℕ → Start) (n registers k : ℕ) (w : Trace) (e : Event) (m : Option (ℕ × Step)) → StepKept start n registers k w.nodes m → Replicas n registers w.nodes → PastsOk n w → ((q : ℕ) → q < n → PastOk q (nodes_after start w.nodes m q).state (nodes_after start w.nodes m q).deliveries (pasts_after start w m q)) → AllPlaces n w → (q : ℕ) → q < n → PlacesOk (nodes_after start w.nodes m q).state (nodes_after start w.nodes m q).deliveries (pasts_after start w m q).answers
+all_places_step : (start : Op → ℕ → Start) (n registers k : ℕ) (w : Trace) (e : Event) (m : Option (ℕ × Step))
+    → StepKept start n registers k w.nodes m → Replicas n registers w.nodes → PastsOk n w
+    → ((q : ℕ) → q < n
+    → PastOk q (nodes_after start w.nodes m q).state (nodes_after start w.nodes m q).deliveries
+    (pasts_after start w m q))
+    → AllPlaces n w → (q : ℕ) → q < n
+    → PlacesOk (nodes_after start w.nodes m q).state (nodes_after start w.nodes m q).deliveries
+    (pasts_after start w m q).answers
 all_places_step start n registers k w e None K R P P' A q l = A q l
 all_places_step start n registers k w e (Some m) K R P P' A q l =
     let x = w.nodes m.0 in
@@ -188,7 +222,8 @@ all_places_step start n registers k w e (Some m) K R P P' A q l =
     put_self : (nodes : Nodes) (pasts : ℕ → Past) (p : ℕ) (y : Node) (g : Past) → PastOk p (put nodes p y p).state (put nodes p y p).deliveries (put pasts p g p) → PastOk p y.state y.deliveries g
     put_self nodes pasts p y g h = subst (λ (z : Past). PastOk p y.state y.deliveries z) (put_same pasts p g p refl) (subst (λ (z : Node). PastOk p z.state z.deliveries (put pasts p g p)) (put_same nodes p y p refl) h)
 
-pub all_places : (start : Op → ℕ → Start) (n registers : ℕ) (events : List Event) → KeepsLaws start → AllPlaces n (traced start n registers events)
+pub all_places : (start : Op → ℕ → Start) (n registers : ℕ) (events : List Event) → KeepsLaws start
+    → AllPlaces n (traced start n registers events)
 all_places start n registers events laws =
     along start n registers (AllPlaces n) (λ p l. record { below = λ a h. absurd h; within = λ a h. absurd h; order = record { once = λ a b i. absurd i; places = λ a b i. absurd i } })
     (λ es e A.

@@ -1,5 +1,6 @@
 -- An accepted body keeps what holds of all nodes.
-use Rattle.std.proofs.Common.{◌≡◌, ℕ, ◌+◌, ◌<◌, ◌≤◌, ◌⊎◌, max, List, [], ◌∷◌, ◌++◌, length, drop, Some, refl, sym, ap, ◌∙◌, subst, inl, inr, arith}
+use Rattle.std.proofs.Common.{◌≡◌, ℕ, ◌+◌, ◌<◌, ◌≤◌, ◌⊎◌, max, List, [], ◌∷◌, ◌++◌, length, drop, Some, refl, sym, ap}
+use Rattle.std.proofs.Common.{◌∙◌, subst, inl, inr, arith}
 use Rattle.std.specs.Prelude.{slice_get}
 use Rattle.std.proofs.lemmas.Bool.{cases_eq}
 use Rattle.std.proofs.lemmas.List.{append-nil, length-set, get_or-set_same, get_or-set_other}
@@ -11,7 +12,8 @@ use Rattle.reg_frames.specs.declared.bodies.Body.TheVariants.{Cast, Ack}
 use Rattle.reg_frames.specs.declared.bodies.Frame.{Frame}
 use Rattle.reg_frames.specs.declared.bodies.Frame.TheVariants.{Numbered, Got}
 use Rattle.reg_base.specs.Order.{Below, AtMost, In, Rising, insert}
-use Rattle.reg_process.specs.Process.{State, Peer, no_peer, peer_at, seen_at, stamp_at, cast_at, time_of, data_frames, got_frames, both_frames, accepts, queues}
+use Rattle.reg_process.specs.Process.{State, Peer, no_peer, peer_at, seen_at, stamp_at, cast_at, time_of, data_frames}
+use Rattle.reg_process.specs.Process.{got_frames, both_frames, accepts, queues}
 use Rattle.reg_world.specs.Nodes.{Said, Node, Nodes, put}
 use Rattle.reg_base.proofs.Orders.{below_or, cases_stamps}
 use Rattle.reg_base.proofs.Lists.{in_left, in_right, in_cases, in_insert, insert_new, insert_old, rising_insert, Apart}
@@ -39,10 +41,12 @@ new_peer s a t = record (peer_at s a) { seen = t; expected = (peer_at s a).expec
 
 set_here : (s : State) (a t : ℕ) → a < length s.peers → peer_at (accepts a t s) a ≡ new_peer s a t
 unfolding new_peer
-set_here s a t l = get_or-set_same s.peers a (record (peer_at s a) { seen = t; expected = (peer_at s a).expected + 1 }) no_peer l
+set_here s a t l =
+    get_or-set_same s.peers a (record (peer_at s a) { seen = t; expected = (peer_at s a).expected + 1 }) no_peer l
 
 set_there : (s : State) (a t r : ℕ) → (r ≡ a → ⊥) → peer_at (accepts a t s) r ≡ peer_at s r
-set_there s a t r ne = get_or-set_other s.peers a r (record (peer_at s a) { seen = t; expected = (peer_at s a).expected + 1 }) no_peer ne
+set_there s a t r ne =
+    get_or-set_other s.peers a r (record (peer_at s a) { seen = t; expected = (peer_at s a).expected + 1 }) no_peer ne
 
 pub accepts_is : (s : State) (a t : ℕ) → a < length s.peers → Accepted a t s (accepts a t s)
 unfolding new_peer
@@ -57,14 +61,16 @@ accepts_is s a t l = record {
 }
 
 -- the outbox stays
-pub accepts_first : (s : State) (a t : ℕ) → a < length s.peers → (b : ℕ) → (peer_at (accepts a t s) b).first ≡ (peer_at s b).first
+pub accepts_first : (s : State) (a t : ℕ) → a < length s.peers → (b : ℕ)
+    → (peer_at (accepts a t s) b).first ≡ (peer_at s b).first
 unfolding new_peer
 accepts_first s a t l b = elim (cases_eq b a) [
   | inl e ↦ ap (λ r. (peer_at (accepts a t s) r).first) e ∙ (ap (λ (q : Peer). q.first) (set_here s a t l) ∙ ap (λ r. (peer_at s r).first) (sym e))
   | inr ne ↦ ap (λ (q : Peer). q.first) (set_there s a t b ne)
 ]
 
-pub accepts_pending : (s : State) (a t : ℕ) → a < length s.peers → (b : ℕ) → (peer_at (accepts a t s) b).pending ≡ (peer_at s b).pending
+pub accepts_pending : (s : State) (a t : ℕ) → a < length s.peers → (b : ℕ)
+    → (peer_at (accepts a t s) b).pending ≡ (peer_at s b).pending
 unfolding new_peer
 accepts_pending s a t l b = elim (cases_eq b a) [
   | inl e ↦ ap (λ r. (peer_at (accepts a t s) r).pending) e ∙ (ap (λ (q : Peer). q.pending) (set_here s a t l) ∙ ap (λ r. (peer_at s r).pending) (sym e))
@@ -157,7 +163,11 @@ module _ (n registers k : ℕ) (w : Nodes) (I : Inv n registers k w) (p : ℕ) (
       (ap (slice_get (queues_of (put w p y) a)) (count_other (w p) p a ne) ∙ queue_forth w p y more g a (peer_at (w p).state a).expected body next) A
 
 -- an acknowledgement
-pub ack_kept : (n registers k : ℕ) (w : Nodes) (I : Inv n registers k w) (p : ℕ) (l : p < n) (a : ℕ) (la : a < n) (ne : a ≡ p → ⊥) (t : ℕ) (replies : List Said) → slice_get (w a).queued (peer_at (w p).state a).expected ≡ Some (Ack t) → Kept n registers k p w (loud_node (w p) (accepts a t (w p).state) [] (got_frames a ((peer_at (w p).state a).expected + 1)) replies)
+pub ack_kept : (n registers k : ℕ) (w : Nodes) (I : Inv n registers k w) (p : ℕ) (l : p < n) (a : ℕ) (la : a < n)
+    (ne : a ≡ p → ⊥) (t : ℕ) (replies : List Said)
+    → slice_get (w a).queued (peer_at (w p).state a).expected ≡ Some (Ack t)
+    → Kept n registers k p w
+    (loud_node (w p) (accepts a t (w p).state) [] (got_frames a ((peer_at (w p).state a).expected + 1)) replies)
 unfolding count1
 ack_kept n registers k w I p l a la ne t replies next =
     let x = w p in
@@ -193,7 +203,17 @@ ack_kept n registers k w I p l a la ne t replies next =
     (let z = I.clocks p l in let v = sent_before n registers k w I p l a la ne (Ack t) next in omega (arith, z, v))
 
 -- a cast, with the acknowledgement that it causes
-pub taken_cast_kept : (n registers k : ℕ) (w : Nodes) (I : Inv n registers k w) (p : ℕ) (l : p < n) (a : ℕ) (la : a < n) (ne : a ≡ p → ⊥) (t : ℕ) (op : Op) (replies : List Said) → slice_get (w a).queued (peer_at (w p).state a).expected ≡ Some (Cast t op) → Kept n registers k p w (loud_node (w p) (record (queues (max (w p).state.clock t + 1) (Ack (max (w p).state.clock t + 1)) (accepts a t (w p).state)) { held = insert (cast_at t a op) (w p).state.held }) (Ack (max (w p).state.clock t + 1) ∷ []) (both_frames (got_frames a ((peer_at (w p).state a).expected + 1)) (data_frames (w p).state (Some (Ack (max (w p).state.clock t + 1))))) replies)
+pub taken_cast_kept : (n registers k : ℕ) (w : Nodes) (I : Inv n registers k w) (p : ℕ) (l : p < n) (a : ℕ) (la : a < n)
+    (ne : a ≡ p → ⊥) (t : ℕ) (op : Op) (replies : List Said)
+    → slice_get (w a).queued (peer_at (w p).state a).expected ≡ Some (Cast t op)
+    → Kept n registers k p w
+    (loud_node (w p)
+    (record (queues (max (w p).state.clock t + 1) (Ack (max (w p).state.clock t + 1))
+    (accepts a t (w p).state)) { held = insert (cast_at t a op) (w p).state.held })
+    (Ack (max (w p).state.clock t + 1) ∷ [])
+    (both_frames (got_frames a ((peer_at (w p).state a).expected + 1))
+    (data_frames (w p).state (Some (Ack (max (w p).state.clock t + 1)))))
+    replies)
 unfolding count1
 taken_cast_kept n registers k w I p l a la ne t op replies next =
     let x = w p in

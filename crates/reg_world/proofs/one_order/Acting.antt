@@ -1,5 +1,6 @@
 -- A step that an event makes is refused by no fault of its process.
-use Rattle.std.proofs.Common.{◌≡◌, ℕ, ◌+◌, ◌<◌, ◌≤◌, max, true, false, not, cond, List, [], ◌∷◌, length, replicate, Option, Some, None, refl, sym, ap, ◌∙◌, subst, arith}
+use Rattle.std.proofs.Common.{◌≡◌, ℕ, ◌+◌, ◌<◌, ◌≤◌, max, true, false, not, cond, List, [], ◌∷◌, length, replicate}
+use Rattle.std.proofs.Common.{Option, Some, None, refl, sym, ap, ◌∙◌, subst, arith}
 use Rattle.std.specs.Prelude.{nat_lt, nat_le, ◌==◌, ◌&&◌, ◌||◌, slice_get}
 use Rattle.std.specs.Option.{is_some}
 use Rattle.std.proofs.lemmas.Bool.{cond_both, ltb-true, leb-true, lt-leb, eqb-true, eq-eqb, and_parts}
@@ -15,14 +16,17 @@ use Rattle.reg_frames.specs.declared.bodies.Body.TheVariants.{Cast, Ack}
 use Rattle.reg_frames.specs.declared.bodies.Frame.{Frame}
 use Rattle.reg_frames.specs.declared.bodies.Frame.TheVariants.{Numbered, Got}
 use Rattle.reg_front.specs.declared.starts.Start.{Start}
-use Rattle.reg_front.specs.declared.starts.Start.TheVariants.{Cast as Casts, CastAndAnswer as CastsAndAnswers, Look as Looks, Hold as Holds}
+use Rattle.reg_front.specs.declared.starts.Start.TheVariants.{Cast as Casts, CastAndAnswer as CastsAndAnswers}
+use Rattle.reg_front.specs.declared.starts.Start.TheVariants.{Look as Looks, Hold as Holds}
 use Rattle.reg_front.specs.Fronts.{KeepsLaws}
 use Rattle.reg_process.specs.declared.steps.Step.{Step}
 use Rattle.reg_process.specs.declared.steps.Step.TheVariants.{Call as CallStep, Take as TakeStep, Tick as TickStep}
 use Rattle.reg_process.specs.Process.{State, Running, peer_at, next_of, seen_at, time_of, unsettled, ops_of}
-use Rattle.reg_process.specs.declared.faults.ProcessFault.TheVariants.{NoProcess, NoRegister, TooManyOperations, Ahead, Stale, ClockFull}
+use Rattle.reg_process.specs.declared.faults.ProcessFault.TheVariants.{NoProcess, NoRegister, TooManyOperations, Ahead}
+use Rattle.reg_process.specs.declared.faults.ProcessFault.TheVariants.{Stale, ClockFull}
 use Rattle.reg_process.specs.Delivery.{first_of}
-use Rattle.reg_process.specs.Faults.{full_at, early_fault, call_fault, is_out, early_body, full_by, body_fault, frame_fault, take_fault, step_fault}
+use Rattle.reg_process.specs.Faults.{full_at, early_fault, call_fault, is_out, early_body, full_by, body_fault}
+use Rattle.reg_process.specs.Faults.{frame_fault, take_fault, step_fault}
 use Rattle.reg_process.specs.declared.events.Event.{Event}
 use Rattle.reg_process.specs.declared.events.Event.TheVariants.{Call, Take, Tick}
 use Rattle.reg_world.specs.Nodes.{step_of, take_step}
@@ -51,7 +55,8 @@ no_full clock CastsAndAnswers h = ap (λ b. cond b (Some ClockFull) None) (lt-le
 no_full clock Looks h = refl
 no_full clock Holds h = refl
 
-no_early : (s : State) (op : Op) (o : Option Running) → o ≡ None → register_of op < length s.copy → s.calls < MOST_OPERATIONS → early_fault s op o ≡ None
+no_early : (s : State) (op : Op) (o : Option Running) → o ≡ None → register_of op < length s.copy
+    → s.calls < MOST_OPERATIONS → early_fault s op o ≡ None
 no_early s op (Some r) e l k = absurd (none-some r (sym e))
 no_early s op None e l k =
     ap (λ b. cond b (Some NoRegister) (cond (nat_le MOST_OPERATIONS s.calls) (Some TooManyOperations) None)) (lt-leb (length s.copy) (register_of op) l)
@@ -63,7 +68,9 @@ pub record Sound (n registers p : ℕ) (s : State) : Type 0 where
   pub size : length s.peers ≡ n
   pub copy : length s.copy ≡ registers
 
-no_body : (n registers p from i : ℕ) (s : State) (body : Body) → Sound n registers p s → names_register registers body → (IsStale s from (Numbered i body) → ⊥) → (IsFull s from (Numbered i body) → ⊥) → i ≡ (peer_at s from).expected → body_fault s from body ≡ None
+no_body : (n registers p from i : ℕ) (s : State) (body : Body) → Sound n registers p s → names_register registers body
+    → (IsStale s from (Numbered i body) → ⊥) → (IsFull s from (Numbered i body) → ⊥) → i ≡ (peer_at s from).expected
+    → body_fault s from body ≡ None
 no_body n registers p from i s body S named stale full here =
     ap (λ o. first_of o (full_by s body)) (early body named) ∙ not_full
   where
@@ -80,21 +87,25 @@ no_body n registers p from i s body S named stale full here =
     not_full = cond_both (nat_le LAST_TIME (max s.clock (time_of body))) (Some ClockFull) None (λ o. o ≡ None)
         (λ e. let l = leb-true LAST_TIME (max s.clock (time_of body)) e in absurd (full (here, omega (arith, l)))) (λ e. refl)
 
-no_frame : (n registers p from : ℕ) (s : State) (f : Frame) → Sound n registers p s → ((i : ℕ) (body : Body) → f ≡ Numbered i body → names_register registers body) → (IsAhead s from f → ⊥) → (IsStale s from f → ⊥) → (IsFull s from f → ⊥) → frame_fault s from f ≡ None
+no_frame : (n registers p from : ℕ) (s : State) (f : Frame) → Sound n registers p s
+    → ((i : ℕ) (body : Body) → f ≡ Numbered i body → names_register registers body) → (IsAhead s from f → ⊥)
+    → (IsStale s from f → ⊥) → (IsFull s from f → ⊥) → frame_fault s from f ≡ None
 no_frame n registers p from s (Numbered i body) S named ahead stale full =
     cond_both (i == (peer_at s from).expected) (body_fault s from body) None (λ o. o ≡ None)
     (λ e. no_body n registers p from i s body S (named i body refl) stale full (eqb-true i (peer_at s from).expected e)) (λ e. refl)
 no_frame n registers p from s (Got count) S named ahead stale full =
     cond_both (nat_lt (next_of (peer_at s from)) count) (Some Ahead) None (λ o. o ≡ None) (λ e. absurd (ahead (ltb-true (next_of (peer_at s from)) count e))) (λ e. refl)
 
-no_take : (n registers p from : ℕ) (s : State) (f : Frame) → Sound n registers p s → from < n → (from ≡ p → ⊥) → frame_fault s from f ≡ None → take_fault s from f ≡ None
+no_take : (n registers p from : ℕ) (s : State) (f : Frame) → Sound n registers p s → from < n → (from ≡ p → ⊥)
+    → frame_fault s from f ≡ None → take_fault s from f ≡ None
 no_take n registers p from s f S l ne none =
     let far : nat_le (length s.peers) from ≡ false = (let z = S.size in lt-leb (length s.peers) from (omega (arith, l, z))) in
     let other : (from == s.me) ≡ false = differ_false from s.me (λ e. ne (e ∙ S.me)) in
     ap (λ b. cond (b || (from == s.me)) (Some NoProcess) (frame_fault s from f)) far ∙ (ap (λ b. cond b (Some NoProcess) (frame_fault s from f)) other ∙ none)
 
 -- what a take of a run is
-take_told : (from to : ℕ) (o : Option Frame) (p : ℕ) (st : Step) → take_step from to o ≡ Some (p, st) → (f : Frame) × (o ≡ Some f) × (p ≡ to) × (st ≡ TakeStep from f)
+take_told : (from to : ℕ) (o : Option Frame) (p : ℕ) (st : Step) → take_step from to o ≡ Some (p, st)
+    → (f : Frame) × (o ≡ Some f) × (p ≡ to) × (st ≡ TakeStep from f)
 take_told from to None p st e = absurd (none-some (p, st) e)
 take_told from to (Some f) p st e = let q = same_Some (to, TakeStep from f) (p, st) e in (f, refl, ap (λ (z : ℕ × Step). z.0) (sym q), ap (λ (z : ℕ × Step). z.1) (sym q))
 
@@ -159,7 +170,8 @@ module _ (start : Op → ℕ → Start) (n registers : ℕ) (laws : KeepsLaws st
       (λ t is. absurd (none-some (p, st) is))
       e
 
-  pub may_act : (e : Event) (p : ℕ) (st : Step) → move_of n registers w e ≡ Some (p, st) → MayAct start (standing_of n w p) st
+  pub may_act : (e : Event) (p : ℕ) (st : Step) → move_of n registers w e ≡ Some (p, st)
+      → MayAct start (standing_of n w p) st
   may_act e p st move =
       let m = move_is n registers w e (p, st) move in
       let A = subst (Allowed n registers w.nodes) m.1 (allowed n registers w.nodes e) in

@@ -1,5 +1,6 @@
 -- A step of one node, with its links to the others, keeps what holds of all nodes.
-use Rattle.std.proofs.Common.{◌≡◌, ℕ, suc, ◌+◌, ◌<◌, ◌≤◌, ◌⊎◌, List, ◌++◌, length, Some, sym, ap, ◌∙◌, subst, inl, inr, arith}
+use Rattle.std.proofs.Common.{◌≡◌, ℕ, suc, ◌+◌, ◌<◌, ◌≤◌, ◌⊎◌, List, ◌++◌, length, Some, sym, ap, ◌∙◌, subst, inl, inr}
+use Rattle.std.proofs.Common.{arith}
 use Rattle.std.specs.Prelude.{slice_get, ◌==◌}
 use Rattle.std.proofs.lemmas.Bool.{cases_eq, cond_both, eqb-true, eqb-false}
 use Rattle.reg_base.specs.declared.memory.Op.{Op}
@@ -14,7 +15,8 @@ use Rattle.reg_world.proofs.one_order.Local.{Local}
 use Rattle.reg_world.proofs.one_order.Links.{Sent}
 use Rattle.reg_world.proofs.one_order.Worlds.{Known, Inv, LinkOf, queues_of, count_of, count_own, count_other}
 
-pub put_cases : {A : Type 0} (P : A → Type 0) (at : ℕ → A) (p : ℕ) (x : A) (j : ℕ) → (j ≡ p → P x) → ((j ≡ p → ⊥) → P (at j)) → P (put at p x j)
+pub put_cases : {A : Type 0} (P : A → Type 0) (at : ℕ → A) (p : ℕ) (x : A) (j : ℕ) → (j ≡ p → P x)
+    → ((j ≡ p → ⊥) → P (at j)) → P (put at p x j)
 put_cases P at p x j h g = cond_both (j == p) x (at j) P (λ e. h (eqb-true j p e)) (λ e. g (eqb-false j p e))
 
 -- the node of p after a step, among the other nodes as they were
@@ -28,14 +30,22 @@ pub record Kept (n registers k p : ℕ) (w : Nodes) (y : Node) : Type 0 where
   pub grows : y.queued ≡ (w p).queued ++ more
   pub clock : y.state.clock ≤ suc k
 
-pub known_same : (n : ℕ) (casts casts' : List Delivered) (count count' : ℕ → ℕ) (queues : ℕ → List Body) → Known n casts count queues → ((c : Delivered) → In c casts → In c casts') → ((c : Delivered) → In c casts' → In c casts) → ((r : ℕ) → r < n → count' r ≡ count r) → Known n casts' count' queues
+pub known_same : (n : ℕ) (casts casts' : List Delivered) (count count' : ℕ → ℕ) (queues : ℕ → List Body)
+    → Known n casts count queues → ((c : Delivered) → In c casts → In c casts')
+    → ((c : Delivered) → In c casts' → In c casts) → ((r : ℕ) → r < n → count' r ≡ count r)
+    → Known n casts' count' queues
 known_same n casts casts' count count' queues K f g e = record {
   sound = λ c h. let r = K.sound c (g c h) in (r.0, (r.1.0, (let x = r.1.1 in let y = e c.stamp.process r.0 in omega (arith, x, y)), r.1.2));
   complete = λ r i t op l m at. f (cast_at t r op) (K.complete r i t op l (let y = e r l in omega (arith, y)) at);
 }
 
 -- the queues grow at their ends
-pub known_grown : (n : ℕ) (casts : List Delivered) (count : ℕ → ℕ) (queues queues' : ℕ → List Body) → Known n casts count queues → ((r : ℕ) → r < n → count r ≤ length (queues r)) → ((r i : ℕ) (x : Body) → slice_get (queues r) i ≡ Some x → slice_get (queues' r) i ≡ Some x) → ((r i : ℕ) (x : Body) → i < length (queues r) → slice_get (queues' r) i ≡ Some x → slice_get (queues r) i ≡ Some x) → Known n casts count queues'
+pub known_grown : (n : ℕ) (casts : List Delivered) (count : ℕ → ℕ) (queues queues' : ℕ → List Body)
+    → Known n casts count queues → ((r : ℕ) → r < n → count r ≤ length (queues r))
+    → ((r i : ℕ) (x : Body) → slice_get (queues r) i ≡ Some x → slice_get (queues' r) i ≡ Some x)
+    → ((r i : ℕ) (x : Body) → i < length (queues r) → slice_get (queues' r) i ≡ Some x
+    → slice_get (queues r) i ≡ Some x)
+    → Known n casts count queues'
 known_grown n casts count queues queues' K w f g = record {
   sound = λ c h. let r = K.sound c h in (r.0, (r.1.0, r.1.1, f c.stamp.process r.1.0 _ r.1.2));
   complete = λ r i t op l m at. K.complete r i t op l m (g r i _ (let y = w r l in omega (arith, m, y)) at);
@@ -51,7 +61,9 @@ last_or_before : (i m : ℕ) → i < m + 1 → (i < m) ⊎ (i ≡ m)
 last_or_before i m l = grind arith
 
 -- one more body of r0 is known
-pub known_more : (n : ℕ) (casts casts' : List Delivered) (count : ℕ → ℕ) (queues : ℕ → List Body) (r0 : ℕ) (body : Body) → r0 < n → Known n casts count queues → slice_get (queues r0) (count r0) ≡ Some body → Adds casts casts' r0 body → Known n casts' (put count r0 (count r0 + 1)) queues
+pub known_more : (n : ℕ) (casts casts' : List Delivered) (count : ℕ → ℕ) (queues : ℕ → List Body) (r0 : ℕ) (body : Body)
+    → r0 < n → Known n casts count queues → slice_get (queues r0) (count r0) ≡ Some body → Adds casts casts' r0 body
+    → Known n casts' (put count r0 (count r0 + 1)) queues
 known_more n casts casts' count queues r0 body l0 K at0 A = record {
   sound = λ c h. elim (A.only c h) [
     | inl i ↦ let r = K.sound c i in (r.0, (r.1.0, more_count c.stamp.process r.1.0 r.1.1, r.1.2))
@@ -86,7 +98,8 @@ known_more n casts casts' count queues r0 body l0 K at0 A = record {
         cc
 
 -- the counts are within the queues
-pub counts_within : (n registers k : ℕ) (w : Nodes) → Inv n registers k w → (q r : ℕ) → q < n → r < n → count_of (w q) q r ≤ length (w r).queued
+pub counts_within : (n registers k : ℕ) (w : Nodes) → Inv n registers k w → (q r : ℕ) → q < n → r < n
+    → count_of (w q) q r ≤ length (w r).queued
 counts_within n registers k w I q r l m = elim (cases_eq r q) [
   | inl e ↦ let a = count_own (w q) q r e in let b = ap (λ z. length (w z).queued) e in omega (arith, a, b)
   | inr ne ↦ let a = count_other (w q) q r ne in let b = (I.link r q m l ne).within in omega (arith, a, b)
@@ -98,14 +111,16 @@ module _ (w : Nodes) (p : ℕ) (y : Node) (more : List Body) (grows : y.queued �
       (λ e. subst (λ q. slice_get q i ≡ Some x) (sym grows) (place_first (w p).queued more i x (subst (λ r. slice_get (w r).queued i ≡ Some x) e h)))
       (λ ne. h)
 
-  pub queue_back : (r i : ℕ) (x : Body) → i < length (w r).queued → slice_get (put w p y r).queued i ≡ Some x → slice_get (w r).queued i ≡ Some x
+  pub queue_back : (r i : ℕ) (x : Body) → i < length (w r).queued → slice_get (put w p y r).queued i ≡ Some x
+      → slice_get (w r).queued i ≡ Some x
   queue_back r i x l = put_cases (λ (z : Node). slice_get z.queued i ≡ Some x → slice_get (w r).queued i ≡ Some x) w p y r
       (λ e h.
       let l' : i < length (w p).queued = subst (λ r. i < length (w r).queued) e l in
       subst (λ r. slice_get (w r).queued i ≡ Some x) (sym e) (place_back (w p).queued more i x l' (subst (λ q. slice_get q i ≡ Some x) grows h)))
       (λ ne h. h)
 
-pub inv_act : (n registers k p : ℕ) (w : Nodes) (y : Node) → p < n → Inv n registers k w → Kept n registers k p w y → Inv n registers (suc k) (put w p y)
+pub inv_act : (n registers k p : ℕ) (w : Nodes) (y : Node) → p < n → Inv n registers k w → Kept n registers k p w y
+    → Inv n registers (suc k) (put w p y)
 inv_act n registers k p w y l I K = record {
   local = λ j m. put_cases (λ (z : Node). Local n j z.state z.deliveries) w p y j (λ e. subst (λ r. Local n r y.state y.deliveries) (sym e) K.local) (λ ne. I.local j m);
   sent = λ j m. put_cases (λ (z : Node). Sent registers z.queued z.state.clock) w p y j (λ e. K.sent) (λ ne. I.sent j m);

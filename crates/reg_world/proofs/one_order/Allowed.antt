@@ -1,5 +1,6 @@
 -- What an accepted event keeps, and that what doesn't run is answered.
-use Rattle.std.proofs.Common.{◌≡◌, ℕ, ◌+◌, ◌-◌, ◌<◌, ◌≤◌, ◌⊎◌, max, List, Option, Some, None, refl, sym, ap, ◌∙◌, inl, inr, arith}
+use Rattle.std.proofs.Common.{◌≡◌, ℕ, ◌+◌, ◌-◌, ◌<◌, ◌≤◌, ◌⊎◌, max, List, Option, Some, None, refl, sym, ap, ◌∙◌, inl}
+use Rattle.std.proofs.Common.{inr, arith}
 use Rattle.reg_base.specs.declared.limits.TheConstants.{MOST_OPERATIONS}
 use Rattle.std.specs.Prelude.{◌==◌, ◌&&◌, not, nat_lt, slice_get}
 use Rattle.std.specs.Option.{is_some}
@@ -13,11 +14,14 @@ use Rattle.reg_frames.specs.declared.bodies.Body.TheVariants.{Cast, Ack}
 use Rattle.reg_frames.specs.declared.bodies.Frame.{Frame}
 use Rattle.reg_frames.specs.declared.bodies.Frame.TheVariants.{Numbered, Got}
 use Rattle.reg_front.specs.declared.starts.Start.{Start}
-use Rattle.reg_front.specs.declared.starts.Start.TheVariants.{Cast as Casts, CastAndAnswer as CastsAndAnswers, Look as Looks, Hold as Holds}
+use Rattle.reg_front.specs.declared.starts.Start.TheVariants.{Cast as Casts, CastAndAnswer as CastsAndAnswers}
+use Rattle.reg_front.specs.declared.starts.Start.TheVariants.{Look as Looks, Hold as Holds}
 use Rattle.reg_process.specs.declared.steps.Reply.{Reply}
 use Rattle.reg_process.specs.declared.steps.Step.{Step}
 use Rattle.reg_process.specs.declared.steps.Step.TheVariants.{Call as CallStep, Take as TakeStep, Tick as TickStep}
-use Rattle.reg_process.specs.Process.{State, Outcome, Running, Own, stamp_at, cast_at, clear_casts, reply_of, still, called, taken, accepted, accepts, queues, cast_made, quiet, got_frames, peer_at, unsettled, step}
+use Rattle.reg_process.specs.Process.{State, Outcome, Running, Own, stamp_at, cast_at, clear_casts, reply_of, still}
+use Rattle.reg_process.specs.Process.{called, taken, accepted, accepts, queues, cast_made, quiet, got_frames, peer_at}
+use Rattle.reg_process.specs.Process.{unsettled, step}
 use Rattle.reg_process.specs.declared.events.Event.{Event}
 use Rattle.reg_process.specs.declared.events.Event.TheVariants.{Call, Take, Tick}
 use Rattle.reg_world.specs.Nodes.{Node, Nodes, put, take_step, step_of, after_step, op_in}
@@ -42,7 +46,8 @@ not_some : {X : Type 0} (o : Option X) → not (is_some o) ≡ true → o ≡ No
 not_some None e = refl
 not_some (Some x) e = absurd (let bad : ⊥ = cc in bad)
 
-take_allowed : (n registers : ℕ) (w : Nodes) (a p : ℕ) (o : Option Frame) → p < n → Allowed n registers w (take_step a p o)
+take_allowed : (n registers : ℕ) (w : Nodes) (a p : ℕ) (o : Option Frame) → p < n
+    → Allowed n registers w (take_step a p o)
 take_allowed n registers w a p None l = tt
 take_allowed n registers w a p (Some f) l = (l, tt)
 
@@ -62,7 +67,8 @@ allowed n registers w (Take a p number) =
     let y = and_parts _ _ x.1 in
     take_allowed n registers w a p (slice_get ((w a).wire p) number) (ltb-true p n y.0))
     (λ e. tt)
-allowed n registers w (Tick p) = cond_both (nat_lt p n) (Some (p, TickStep)) None (Allowed n registers w) (λ e. (ltb-true p n e, tt)) (λ e. tt)
+allowed n registers w (Tick p) =
+    cond_both (nat_lt p n) (Some (p, TickStep)) None (Allowed n registers w) (λ e. (ltb-true p n e, tt)) (λ e. tt)
 
 -- how many calls a step makes
 abbrev pub CallsMade : State → Step → State × Outcome → Type 0
@@ -99,10 +105,13 @@ one_more done k number h l = elim (cases_eq number (k - 1)) [
   | inr ne ↦ inl (omega (arith, h, l, ne))
 ]
 
-answered_now : (done k number : ℕ) (o : Option Reply) (y : Reply) → o ≡ Some y → k ≤ done + 1 → number < k → (number < done) ⊎ ((y : Reply) × (o ≡ Some y) × (number ≡ k - 1))
+answered_now : (done k number : ℕ) (o : Option Reply) (y : Reply) → o ≡ Some y → k ≤ done + 1 → number < k
+    → (number < done) ⊎ ((y : Reply) × (o ≡ Some y) × (number ≡ k - 1))
 answered_now done k number o y e h l = elim (one_more done k number h l) [ inl a ↦ inl a | inr a ↦ inr (y, e, a) ]
 
-still_new : (done : ℕ) (s' : State) (o : Option Reply) (running : Option Running) → done_calls s' running ≤ done → s'.calls ≤ done + 1 → (number : ℕ) → number < done_calls s' (still o running) → (number < done) ⊎ ((y : Reply) × (o ≡ Some y) × (number ≡ s'.calls - 1))
+still_new : (done : ℕ) (s' : State) (o : Option Reply) (running : Option Running) → done_calls s' running ≤ done
+    → s'.calls ≤ done + 1 → (number : ℕ) → number < done_calls s' (still o running)
+    → (number < done) ⊎ ((y : Reply) × (o ≡ Some y) × (number ≡ s'.calls - 1))
 still_new done s' None running h k number l = inl (omega (arith, h, l))
 still_new done s' (Some y) running h k number l = answered_now done s'.calls number (Some y) y refl k l
 
@@ -126,7 +135,8 @@ called_answers s op Holds free number l =
     let d : done_calls s s.running ≡ s.calls = ap (done_calls s) free in
     inl (omega (arith, d, l))
 
-same_done : (s s' : State) (running : Option Running) → s'.calls ≡ s.calls → done_calls s' running ≤ done_calls s running
+same_done : (s s' : State) (running : Option Running) → s'.calls ≡ s.calls
+    → done_calls s' running ≤ done_calls s running
 same_done s s' None e = omega (arith, e)
 same_done s s' (Some r) e = omega (arith, e)
 
@@ -139,7 +149,8 @@ accepted_answers s a (Ack t) number l =
     let s1 : State = accepts a t s in
     still_new (done_calls s s.running) (accepted s a (Ack t)).0 (reply_of s1 (clear_casts s1) s.running) s.running (same_done s (accepted s a (Ack t)).0 s.running refl) (done_near s s.running) number l
 
-quiet_answers : (s s1 : State) (r : State × Outcome) → r.0 ≡ s1 → s1.calls ≡ s.calls → s1.running ≡ s.running → Answers s r
+quiet_answers : (s s1 : State) (r : State × Outcome) → r.0 ≡ s1 → s1.calls ≡ s.calls → s1.running ≡ s.running
+    → Answers s r
 quiet_answers s s1 r e k same number l =
     let z : done_calls r.0 r.0.running ≡ done_calls s1 s1.running = ap (λ (x : State). done_calls x x.running) e in
     let y : done_calls s1 s1.running ≡ done_calls s1 s.running = ap (done_calls s1) same in
@@ -151,7 +162,8 @@ taken_answers s a (Numbered i body) =
     cond_both (i == (peer_at s a).expected) (accepted s a body) (quiet s (got_frames a (peer_at s a).expected)) (Answers s) (λ _. accepted_answers s a body) (λ _. quiet_answers s s (quiet s (got_frames a (peer_at s a).expected)) refl refl refl)
 taken_answers s a (Got count) = quiet_answers s (taken s a (Got count)).0 (taken s a (Got count)) refl refl refl
 
-pub step_answers : (start : Op → ℕ → Start) (registers : ℕ) (s : State) (e : Step) → StepAllowed registers s e → Answers s (step start s e)
+pub step_answers : (start : Op → ℕ → Start) (registers : ℕ) (s : State) (e : Step) → StepAllowed registers s e
+    → Answers s (step start s e)
 step_answers start registers s (CallStep op) h = called_answers s op (start op (unsettled s)) h.0
 step_answers start registers s (TakeStep a f) h = taken_answers s a f
 step_answers start registers s TickStep h = quiet_answers s s (step start s TickStep) refl refl refl
@@ -160,11 +172,15 @@ step_answers start registers s TickStep h = quiet_answers s s (step start s Tick
 abbrev pub AllAnswered : ℕ → Trace → Type 0
 AllAnswered n w = (p number : ℕ) → p < n → number < done_calls (w.nodes p).state (w.nodes p).state.running → (a : Answered) × In a (w.pasts p).answers × (a.number ≡ number)
 
-reply_answered : (at number : ℕ) (op : Op) (o : Option Reply) (y : Reply) → o ≡ Some y → (a : Answered) × In a (answered_in at number op o) × (a.number ≡ number)
+reply_answered : (at number : ℕ) (op : Op) (o : Option Reply) (y : Reply) → o ≡ Some y
+    → (a : Answered) × In a (answered_in at number op o) × (a.number ≡ number)
 reply_answered at number op None y e = absurd (let bad : ⊥ = cc in bad)
 reply_answered at number op (Some r) y e = (record { number = number; at = at; op = op; reply = r }, inl refl, refl)
 
-pub answered_after : (start : Op → ℕ → Start) (n registers : ℕ) (w : Trace) (m : Option (ℕ × Step)) → Allowed n registers w.nodes m → AllAnswered n w → (q number : ℕ) → q < n → number < done_calls (nodes_after start w.nodes m q).state (nodes_after start w.nodes m q).state.running → (a : Answered) × In a (pasts_after start w m q).answers × (a.number ≡ number)
+pub answered_after : (start : Op → ℕ → Start) (n registers : ℕ) (w : Trace) (m : Option (ℕ × Step))
+    → Allowed n registers w.nodes m → AllAnswered n w → (q number : ℕ) → q < n
+    → number < done_calls (nodes_after start w.nodes m q).state (nodes_after start w.nodes m q).state.running
+    → (a : Answered) × In a (pasts_after start w m q).answers × (a.number ≡ number)
 answered_after start n registers w None K A q number l h = A q number l h
 answered_after start n registers w (Some m) K A q number l h =
     let x = w.nodes m.0 in
@@ -183,7 +199,8 @@ answered_after start n registers w (Some m) K A q number l h =
     (λ ne b. put_cases (λ (g : Past). (a : Answered) × In a g.answers × (a.number ≡ number)) w.pasts m.0 h' q (λ e. absurd (ne e)) (λ _. A q number l b))
     h
 
-pub all_answered : (start : Op → ℕ → Start) (n registers : ℕ) (events : List Event) → AllAnswered n (traced start n registers events)
+pub all_answered : (start : Op → ℕ → Start) (n registers : ℕ) (events : List Event)
+    → AllAnswered n (traced start n registers events)
 all_answered start n registers =
     along start n registers (AllAnswered n) (λ p number l h. absurd (omega (arith, h)))
     (λ es e h. let w = whole start n registers es in answered_after start n registers (traced start n registers es) (move_of n registers w e) (moves n registers w e (Allowed n registers w.nodes) (allowed n registers w.nodes e) tt) h)

@@ -1,5 +1,6 @@
 -- Each cast that a process knows of another is followed by a later body of its own.
-use Rattle.std.proofs.Common.{◌≡◌, ℕ, ◌+◌, ◌<◌, ◌≤◌, ◌⊎◌, max, List, [], ◌∷◌, ◌++◌, length, Option, Some, None, refl, sym, ap, ◌∙◌, subst, inl, inr, arith, length-drop}
+use Rattle.std.proofs.Common.{◌≡◌, ℕ, ◌+◌, ◌<◌, ◌≤◌, ◌⊎◌, max, List, [], ◌∷◌, ◌++◌, length, Option, Some, None, refl}
+use Rattle.std.proofs.Common.{sym, ap, ◌∙◌, subst, inl, inr, arith, length-drop}
 use Rattle.std.specs.Prelude.{slice_get, ◌==◌}
 use Rattle.std.proofs.lemmas.Bool.{cond_both, cases_eq}
 use Rattle.std.proofs.lemmas.List.{append-nil}
@@ -10,12 +11,15 @@ use Rattle.reg_frames.specs.declared.bodies.Body.TheVariants.{Cast, Ack}
 use Rattle.reg_frames.specs.declared.bodies.Frame.{Frame}
 use Rattle.reg_frames.specs.declared.bodies.Frame.TheVariants.{Numbered, Got}
 use Rattle.reg_front.specs.declared.starts.Start.{Start}
-use Rattle.reg_front.specs.declared.starts.Start.TheVariants.{Cast as Casts, CastAndAnswer as CastsAndAnswers, Look as Looks, Hold as Holds}
+use Rattle.reg_front.specs.declared.starts.Start.TheVariants.{Cast as Casts, CastAndAnswer as CastsAndAnswers}
+use Rattle.reg_front.specs.declared.starts.Start.TheVariants.{Look as Looks, Hold as Holds}
 use Rattle.reg_process.specs.declared.steps.Step.{Step}
 use Rattle.reg_process.specs.declared.steps.Step.TheVariants.{Call, Take, Tick}
 use Rattle.reg_process.specs.declared.events.Event.{Event}
 use Rattle.reg_base.specs.Order.{AtMost, In, insert}
-use Rattle.reg_process.specs.Process.{State, Running, Own, Held, peer_at, seen_at, stamp_at, cast_at, time_of, clear_casts, delivered_state, called, taken, accepted, accepts, acknowledged, queues, cast_made, quiet, got_frames, unsettled}
+use Rattle.reg_process.specs.Process.{State, Running, Own, Held, peer_at, seen_at, stamp_at, cast_at, time_of}
+use Rattle.reg_process.specs.Process.{clear_casts, delivered_state, called, taken, accepted, accepts, acknowledged}
+use Rattle.reg_process.specs.Process.{queues, cast_made, quiet, got_frames, unsettled}
 use Rattle.reg_world.specs.Nodes.{Node, Nodes, running_op, after_result, after_step}
 use Rattle.reg_world.specs.NodeParts.{nodes_after, NothingPending}
 use Rattle.reg_world.specs.Laws.{DeliveriesFull}
@@ -38,12 +42,17 @@ pub record Answered (p : ℕ) (s : State) (deliveries : List Delivered) (queued 
 later_more : (queued more : List Body) (t : ℕ) → Later queued t → Later (queued ++ more) t
 later_more queued more t h = (h.0, h.1, place_first queued more h.0 h.1 h.2, h.3)
 
-quiet_answered : (p : ℕ) (s s' : State) (deliveries : List Delivered) (queued : List Body) → Answered p s deliveries queued → s'.held ≡ s.held → Answered p s' (deliveries ++ []) (queued ++ [])
+quiet_answered : (p : ℕ) (s s' : State) (deliveries : List Delivered) (queued : List Body)
+    → Answered p s deliveries queued → s'.held ≡ s.held → Answered p s' (deliveries ++ []) (queued ++ [])
 quiet_answered p s s' deliveries queued A e = record {
   later = λ c h ne. later_more queued [] c.stamp.time (A.later c (subst (λ h'. In c (deliveries ++ h')) e (subst (λ f. In c (f ++ s'.held)) (append-nil deliveries) h)) ne);
 }
 
-loud_answered : (p : ℕ) (s s1 : State) (deliveries : List Delivered) (queued more : List Body) → Answered p s deliveries queued → ((c : Delivered) → In c s1.held → In c s.held ⊎ ((c.stamp.process ≡ p) ⊎ ((b : Body) × (more ≡ b ∷ []) × (c.stamp.time < time_of b)))) → Answered p (delivered_state s1) (deliveries ++ clear_casts s1) (queued ++ more)
+loud_answered : (p : ℕ) (s s1 : State) (deliveries : List Delivered) (queued more : List Body)
+    → Answered p s deliveries queued
+    → ((c : Delivered) → In c s1.held
+    → In c s.held ⊎ ((c.stamp.process ≡ p) ⊎ ((b : Body) × (more ≡ b ∷ []) × (c.stamp.time < time_of b))))
+    → Answered p (delivered_state s1) (deliveries ++ clear_casts s1) (queued ++ more)
 loud_answered p s s1 deliveries queued more A new = record {
   later = λ c h ne. elim (in_cases c deliveries s1.held (delivery_adds_none s1 deliveries c h)) [
     | inl i ↦ later_more queued more c.stamp.time (A.later c (in_left c deliveries s.held i) ne)
@@ -93,7 +102,8 @@ module _ (p : ℕ) (x : Node) (me : x.state.me ≡ p) (A : IsAnswered p x) where
 abbrev pub AllAnswered : ℕ → Nodes → Type 0
 AllAnswered n w = (p : ℕ) → p < n → IsAnswered p (w p)
 
-answered_after : (start : Op → ℕ → Start) (n registers k : ℕ) (w : Nodes) (m : Option (ℕ × Step)) → Inv n registers k w → StepKept start n registers k w m → AllAnswered n w → AllAnswered n (nodes_after start w m)
+answered_after : (start : Op → ℕ → Start) (n registers k : ℕ) (w : Nodes) (m : Option (ℕ × Step)) → Inv n registers k w
+    → StepKept start n registers k w m → AllAnswered n w → AllAnswered n (nodes_after start w m)
 answered_after start n registers k w None I K A = A
 answered_after start n registers k w (Some m) I K A = λ q l.
     put_cases (λ (z : Node). IsAnswered q z) w m.0 (after_step start (w m.0) m.1) q
@@ -101,7 +111,8 @@ answered_after start n registers k w (Some m) I K A = λ q l.
     (λ _. A q l)
 
 -- where nothing is pending, all was accepted
-all_accepted : (n registers k : ℕ) (w : Nodes) → Inv n registers k w → NothingPending n w → (a b : ℕ) → a < n → b < n → (a ≡ b → ⊥) → (peer_at (w b).state a).expected ≡ length (w a).queued
+all_accepted : (n registers k : ℕ) (w : Nodes) → Inv n registers k w → NothingPending n w → (a b : ℕ) → a < n → b < n
+    → (a ≡ b → ⊥) → (peer_at (w b).state a).expected ≡ length (w a).queued
 all_accepted n registers k w I none a b la lb ne =
     let K = I.link a b la lb ne in
     let x = ap length (sym K.pending ∙ none a b la lb ne) in
@@ -113,7 +124,8 @@ all_accepted n registers k w I none a b la lb ne =
 at_most_same : (t u p r : ℕ) → r ≡ p → t ≤ u → AtMost (stamp_at t p) (stamp_at u r)
 at_most_same t u p r e l = grind arith
 
-pub deliveries_full : (n registers k : ℕ) (w : Nodes) → Inv n registers k w → AllAnswered n w → NothingPending n w → DeliveriesFull n w
+pub deliveries_full : (n registers k : ℕ) (w : Nodes) → Inv n registers k w → AllAnswered n w → NothingPending n w
+    → DeliveriesFull n w
 deliveries_full n registers k w I A none q c l m =
     let p = c.stamp.process in
     let i = m.1.0 in
@@ -136,7 +148,8 @@ deliveries_full n registers k w I A none q c l m =
           inl (let z = b.3 in omega (arith, z, old))
     ])
 
-pub all_delivered : (start : Op → ℕ → Start) (n registers : ℕ) (events : List Event) → let w = (whole start n registers events).nodes in NothingPending n w → DeliveriesFull n w
+pub all_delivered : (start : Op → ℕ → Start) (n registers : ℕ) (events : List Event)
+    → let w = (whole start n registers events).nodes in NothingPending n w → DeliveriesFull n w
 all_delivered start n registers events none =
     let w = whole start n registers events in
     deliveries_full n registers (length w.accepted) w.nodes (inv_of start n registers events)

@@ -1,5 +1,6 @@
 -- An own cast keeps what holds of all nodes.
-use Rattle.std.proofs.Common.{◌≡◌, ℕ, ◌+◌, ◌<◌, ◌≤◌, List, [], ◌∷◌, ◌++◌, length, drop, Option, Some, refl, sym, ap, ◌∙◌, inl, inr, arith, length-append}
+use Rattle.std.proofs.Common.{◌≡◌, ℕ, ◌+◌, ◌<◌, ◌≤◌, List, [], ◌∷◌, ◌++◌, length, drop, Option, Some, refl, sym, ap}
+use Rattle.std.proofs.Common.{◌∙◌, inl, inr, arith, length-append}
 use Rattle.std.specs.Prelude.{slice_get, slice_index_or}
 use Rattle.std.proofs.lemmas.Bool.{cases_eq}
 use Rattle.std.proofs.lemmas.List.{drop-append-le}
@@ -10,7 +11,8 @@ use Rattle.reg_frames.specs.declared.bodies.Body.TheVariants.{Cast}
 use Rattle.reg_frames.specs.declared.bodies.Frame.{Frame}
 use Rattle.reg_frames.specs.declared.bodies.Frame.TheVariants.{Numbered, Got}
 use Rattle.reg_base.specs.Order.{In}
-use Rattle.reg_process.specs.Process.{State, Peer, no_peer, peer_at, seen_at, cast_at, time_of, queue_from, data_frames, Running, cast_made}
+use Rattle.reg_process.specs.Process.{State, Peer, no_peer, peer_at, seen_at, cast_at, time_of, queue_from, data_frames}
+use Rattle.reg_process.specs.Process.{Running, cast_made}
 use Rattle.reg_world.specs.Nodes.{Said, Node, Nodes, put}
 use Rattle.reg_base.proofs.Lists.{in_left, in_right, in_cases, in_insert, insert_new, insert_old, rising_insert, Apart}
 use Rattle.reg_world.proofs.lists.Bodies.{place_last, place_within}
@@ -25,7 +27,15 @@ use Rattle.reg_world.proofs.one_order.NodeEvents.{put_same, put_other, next_is, 
 
 module _ (n registers k : ℕ) (w : Nodes) (I : Inv n registers k w) (p : ℕ) (l : p < n) where
   -- the links on which a body goes out
-  pub queue_sends : (s1 : State) (body : Body) (frames : ℕ → List Frame) (replies : List Said) (peers0 : List Peer) → s1.peers ≡ queue_from 0 (w p).state.me body peers0 → length peers0 ≡ length (w p).state.peers → ((b : ℕ) → (slice_index_or peers0 b no_peer).first ≡ (peer_at (w p).state b).first) → ((b : ℕ) → (slice_index_or peers0 b no_peer).pending ≡ (peer_at (w p).state b).pending) → (w p).state.clock < time_of body → time_of body ≤ s1.clock → ((b i : ℕ) (d : Body) → In (Numbered i d) (frames b) → In (Numbered i d) (data_frames (w p).state (Some body) b)) → ((b : ℕ) (f : Frame) → In f (data_frames (w p).state (Some body) b) → In f (frames b)) → (b : ℕ) → b < n → (p ≡ b → ⊥) → LinkOf p b (loud_node (w p) s1 (body ∷ []) frames replies) (w b)
+  pub queue_sends : (s1 : State) (body : Body) (frames : ℕ → List Frame) (replies : List Said) (peers0 : List Peer)
+      → s1.peers ≡ queue_from 0 (w p).state.me body peers0 → length peers0 ≡ length (w p).state.peers
+      → ((b : ℕ) → (slice_index_or peers0 b no_peer).first ≡ (peer_at (w p).state b).first)
+      → ((b : ℕ) → (slice_index_or peers0 b no_peer).pending ≡ (peer_at (w p).state b).pending)
+      → (w p).state.clock < time_of body → time_of body ≤ s1.clock
+      → ((b i : ℕ) (d : Body) → In (Numbered i d) (frames b)
+      → In (Numbered i d) (data_frames (w p).state (Some body) b))
+      → ((b : ℕ) (f : Frame) → In f (data_frames (w p).state (Some body) b) → In f (frames b)) → (b : ℕ) → b < n
+      → (p ≡ b → ⊥) → LinkOf p b (loud_node (w p) s1 (body ∷ []) frames replies) (w b)
   queue_sends s1 body frames replies peers0 ps len first pending late clock num all b lb ne =
       let s = (w p).state in
       let Q = (w p).queued in
@@ -55,18 +65,25 @@ module _ (n registers k : ℕ) (w : Nodes) (I : Inv n registers k w) (p : ℕ) (
       zero_add' b = omega arith
 
   -- the links on which nothing is accepted
-  pub queue_receives : (s1 : State) (more : List Body) (frames : ℕ → List Frame) (replies : List Said) (a : ℕ) → a < n → (a ≡ p → ⊥) → (peer_at s1 a).expected ≡ (peer_at (w p).state a).expected → seen_at s1 a ≡ seen_at (w p).state a → ((c : ℕ) → In (Got c) (frames a) → ⊥) → LinkOf a p (w a) (loud_node (w p) s1 more frames replies)
+  pub queue_receives : (s1 : State) (more : List Body) (frames : ℕ → List Frame) (replies : List Said) (a : ℕ) → a < n
+      → (a ≡ p → ⊥) → (peer_at s1 a).expected ≡ (peer_at (w p).state a).expected → seen_at s1 a ≡ seen_at (w p).state a
+      → ((c : ℕ) → In (Got c) (frames a) → ⊥) → LinkOf a p (w a) (loud_node (w p) s1 more frames replies)
   queue_receives s1 more frames replies a la ne e f got =
       link_receives (w a).queued (w a).state.clock (peer_at (w a).state p) (peer_at (w p).state a) (peer_at s1 a) ((w a).wire p) ((w p).wire a) (frames a) (I.link a p la l ne) e f (λ c h. absurd (got c h))
 
   -- the counts where one own body is more
-  pub own_counts : (y : Node) (body : Body) (count : ℕ → ℕ) → y.queued ≡ (w p).queued ++ body ∷ [] → count p ≡ length (w p).queued → ((r : ℕ) → (r ≡ p → ⊥) → (peer_at y.state r).expected ≡ count r) → (r : ℕ) → count_of y p r ≡ put count p (count p + 1) r
+  pub own_counts : (y : Node) (body : Body) (count : ℕ → ℕ) → y.queued ≡ (w p).queued ++ body ∷ []
+      → count p ≡ length (w p).queued → ((r : ℕ) → (r ≡ p → ⊥) → (peer_at y.state r).expected ≡ count r) → (r : ℕ)
+      → count_of y p r ≡ put count p (count p + 1) r
   own_counts y body count g own other r = elim (cases_eq r p) [
     | inl e ↦ let a = count_own y p r e in let b = ap length g in let c = length-append (w p).queued (body ∷ []) in let d = put_same count p (count p + 1) r e in omega (arith, a, b, c, d, own)
     | inr ne ↦ count_other y p r ne ∙ (other r ne ∙ sym (put_other count p (count p + 1) r ne))
   ]
 
-  pub cast_kept : (op : Op) (running : Option Running) (replies : List Said) → register_of op < registers → Kept n registers k p w (loud_node (w p) (cast_made (w p).state op running) (Cast ((w p).state.clock + 1) op ∷ []) (data_frames (w p).state (Some (Cast ((w p).state.clock + 1) op))) replies)
+  pub cast_kept : (op : Op) (running : Option Running) (replies : List Said) → register_of op < registers
+      → Kept n registers k p w
+      (loud_node (w p) (cast_made (w p).state op running) (Cast ((w p).state.clock + 1) op ∷ [])
+      (data_frames (w p).state (Some (Cast ((w p).state.clock + 1) op))) replies)
   cast_kept op running replies reg =
       let x = w p in
       let s = x.state in

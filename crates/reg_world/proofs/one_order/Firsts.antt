@@ -1,8 +1,10 @@
 -- The order of first deliveries is the longest list of deliveries.
-use Rattle.std.proofs.Common.{◌≡◌, ℕ, suc, ◌<◌, Bool, true, false, not, List, [], ◌∷◌, ◌++◌, Option, Some, None, refl, sym, ap, ◌∙◌, subst, inl, inr}
+use Rattle.std.proofs.Common.{◌≡◌, ℕ, suc, ◌<◌, Bool, true, false, not, List, [], ◌∷◌, ◌++◌, Option, Some, None, refl}
+use Rattle.std.proofs.Common.{sym, ap, ◌∙◌, subst, inl, inr}
 use Rattle.std.specs.Prelude.{◌==◌, ◌&&◌}
 use Rattle.std.specs.List.{list_any}
-use Rattle.std.proofs.lemmas.Bool.{cases_Bool, cases_eq, eqb-true, eq-eqb, and_parts, and_from, or_cases, or_left, or_right, not-true, false≢true}
+use Rattle.std.proofs.lemmas.Bool.{cases_Bool, cases_eq, eqb-true, eq-eqb, and_parts, and_from, or_cases, or_left}
+use Rattle.std.proofs.lemmas.Bool.{or_right, not-true, false≢true}
 use Rattle.std.proofs.lemmas.List.{append-nil}
 use Rattle.reg_base.specs.declared.stamps.Stamp.{Stamp}
 use Rattle.reg_base.specs.declared.memory.Op.{Op}
@@ -16,7 +18,8 @@ use Rattle.reg_world.specs.NodeParts.{nodes_after}
 use Rattle.reg_world.proofs.run.Traced.{Trace, First, casts_of, firsts, order_after}
 use Rattle.reg_world.specs.Laws.{IsMade}
 use Rattle.reg_base.proofs.Orders.{same_stamp, below_irrefl}
-use Rattle.reg_base.proofs.Lists.{in_left, in_right, in_cases, in_filter, filter_in, rising_filter, rising_append, Closed, prefixes}
+use Rattle.reg_base.proofs.Lists.{in_left, in_right, in_cases, in_filter, filter_in, rising_filter, rising_append}
+use Rattle.reg_base.proofs.Lists.{Closed, prefixes}
 use Rattle.reg_process.proofs.Peers.{clear_below}
 use Rattle.reg_world.proofs.one_order.Worlds.{Inv, made_once, delivered_made, undelivered_above, clear_is_delivered}
 use Rattle.reg_world.proofs.one_order.Acts.{put_cases, inv_act}
@@ -27,7 +30,8 @@ same_test : Delivered → Delivered → Bool
 same_test c d = (d.stamp.time == c.stamp.time) && (d.stamp.process == c.stamp.process)
 
 -- the test finds a cast of that stamp
-found : (c : Delivered) (xs : List Delivered) → list_any (same_test c) xs ≡ true → (d : Delivered) × In d xs × (d.stamp ≡ c.stamp)
+found : (c : Delivered) (xs : List Delivered) → list_any (same_test c) xs ≡ true
+    → (d : Delivered) × In d xs × (d.stamp ≡ c.stamp)
 unfolding same_test
 found c [] h = absurd (false≢true h)
 found c (x ∷ xs) h = elim (or_cases (same_test c x) (list_any (same_test c) xs) h) [
@@ -49,16 +53,20 @@ pub record Ordered (n : ℕ) (w : Nodes) (order : List Delivered) : Type 0 where
   pub some : (c : Delivered) → In c order → (q : ℕ) × (q < n) × In c (w q).deliveries
   pub all : (q : ℕ) (c : Delivered) → q < n → In c (w q).deliveries → In c order
 
-pub rising_cut : (xs ys : List Delivered) (x y : Delivered) → Rising (xs ++ ys) → In x xs → In y ys → Below x.stamp y.stamp
+pub rising_cut : (xs ys : List Delivered) (x y : Delivered) → Rising (xs ++ ys) → In x xs → In y ys
+    → Below x.stamp y.stamp
 rising_cut [] ys x y r i j = absurd i
-rising_cut (z ∷ xs) ys x y r (inl e) j = subst (λ (c : Delivered). Below c.stamp y.stamp) (sym e) (r.0 y (in_right y xs ys j))
+rising_cut (z ∷ xs) ys x y r (inl e) j =
+    subst (λ (c : Delivered). Below c.stamp y.stamp) (sym e) (r.0 y (in_right y xs ys j))
 rising_cut (z ∷ xs) ys x y r (inr i) j = rising_cut xs ys x y r.1 i j
 
 pub rising_end : (xs ys : List Delivered) → Rising (xs ++ ys) → Rising ys
 rising_end [] ys r = r
 rising_end (x ∷ xs) ys r = rising_end xs ys r.1
 
-ordered_acts : (n registers k : ℕ) (w : Nodes) (p : ℕ) (y : Node) (ds : List Delivered) (order : List Delivered) → p < n → Inv n registers k w → Inv n registers (suc k) (put w p y) → y.deliveries ≡ (w p).deliveries ++ ds → Ordered n w order → Ordered n (put w p y) (order ++ unseen order ds)
+ordered_acts : (n registers k : ℕ) (w : Nodes) (p : ℕ) (y : Node) (ds : List Delivered) (order : List Delivered) → p < n
+    → Inv n registers k w → Inv n registers (suc k) (put w p y) → y.deliveries ≡ (w p).deliveries ++ ds
+    → Ordered n w order → Ordered n (put w p y) (order ++ unseen order ds)
 unfolding same_test
 ordered_acts n registers k w p y ds order l I J g O =
     let w' = put w p y in
@@ -102,12 +110,15 @@ ordered_acts n registers k w p y ds order l I J g O =
           h;
     }
 
-pub casts_firsts : (k : ℕ) (order : List First) (cs : List Delivered) → casts_of (order ++ firsts k cs) ≡ casts_of order ++ cs
+pub casts_firsts : (k : ℕ) (order : List First) (cs : List Delivered)
+    → casts_of (order ++ firsts k cs) ≡ casts_of order ++ cs
 casts_firsts k [] [] = refl
 casts_firsts k [] (c ∷ cs) = ap (λ l. c ∷ l) (casts_firsts k [] cs)
 casts_firsts k (f ∷ order) cs = ap (λ l. f.cast ∷ l) (casts_firsts k order cs)
 
-pub ordered_after : (start : Op → ℕ → Start) (n registers k : ℕ) (w : Trace) (m : Option (ℕ × Step)) → Inv n registers k w.nodes → StepKept start n registers k w.nodes m → Ordered n w.nodes (casts_of w.order) → Ordered n (nodes_after start w.nodes m) (casts_of (order_after start w m))
+pub ordered_after : (start : Op → ℕ → Start) (n registers k : ℕ) (w : Trace) (m : Option (ℕ × Step))
+    → Inv n registers k w.nodes → StepKept start n registers k w.nodes m → Ordered n w.nodes (casts_of w.order)
+    → Ordered n (nodes_after start w.nodes m) (casts_of (order_after start w m))
 ordered_after start n registers k w None I K O = O
 ordered_after start n registers k w (Some m) I K O =
     let ds = (step start (w.nodes m.0).state m.1).1.delivered in
@@ -120,7 +131,8 @@ pub record WorldInv (n registers k : ℕ) (w : Trace) : Type 0 where
   pub ordered : Ordered n w.nodes (casts_of w.order)
 
 -- the casts of one of two rising lists with the same members
-pub deliveries_prefix : (n registers k : ℕ) (w : Trace) → WorldInv n registers k w → (q : ℕ) → q < n → IsPrefixOf (w.nodes q).deliveries (casts_of w.order)
+pub deliveries_prefix : (n registers k : ℕ) (w : Trace) → WorldInv n registers k w → (q : ℕ) → q < n
+    → IsPrefixOf (w.nodes q).deliveries (casts_of w.order)
 deliveries_prefix n registers k w W q l =
     let I = W.inv in
     let O = W.ordered in

@@ -1,5 +1,6 @@
 -- One link: what was accepted is a prefix of what was queued, and the times of what is queued rise.
-use Rattle.std.proofs.Common.{◌≡◌, ℕ, ◌+◌, ◌<◌, ◌≤◌, ◌⊎◌, List, [], ◌∷◌, ◌++◌, length, drop, Some, sym, ap, ◌∙◌, subst, inl, inr, arith, length-append}
+use Rattle.std.proofs.Common.{◌≡◌, ℕ, ◌+◌, ◌<◌, ◌≤◌, ◌⊎◌, List, [], ◌∷◌, ◌++◌, length, drop, Some, sym, ap, ◌∙◌, subst}
+use Rattle.std.proofs.Common.{inl, inr, arith, length-append}
 use Rattle.std.specs.Prelude.{slice_get}
 use Rattle.reg_frames.specs.declared.bodies.Body.{Body}
 use Rattle.reg_frames.specs.declared.bodies.Frame.{Frame}
@@ -12,7 +13,8 @@ use Rattle.reg_world.proofs.lists.Bodies.{place_first, place_back, place_split, 
 
 -- what a process queued: the times rise, up to its clock
 pub record Sent (registers : ℕ) (queued : List Body) (clock : ℕ) : Type 0 where
-  pub rises : (i j : ℕ) (a b : Body) → slice_get queued i ≡ Some a → slice_get queued j ≡ Some b → i < j → time_of a < time_of b
+  pub rises : (i j : ℕ) (a b : Body) → slice_get queued i ≡ Some a → slice_get queued j ≡ Some b → i < j
+      → time_of a < time_of b
   pub past : (i : ℕ) (a : Body) → slice_get queued i ≡ Some a → time_of a ≤ clock
   pub ranges : (i : ℕ) (a : Body) → slice_get queued i ≡ Some a → names_register registers a
 
@@ -28,10 +30,14 @@ pub record Link (queued : List Body) (clock : ℕ) (outbox inbox : Peer) (forth 
   pub future : (i : ℕ) (b : Body) → slice_get queued i ≡ Some b → inbox.expected ≤ i → inbox.seen < time_of b
   pub seen : inbox.seen ≤ clock
 
-pub sent_same : (registers : ℕ) (queued : List Body) (clock clock' : ℕ) → Sent registers queued clock → clock ≤ clock' → Sent registers queued clock'
-sent_same registers queued clock clock' S l = record { rises = S.rises; past = λ i a h. let k = S.past i a h in omega (arith, k); ranges = S.ranges }
+pub sent_same : (registers : ℕ) (queued : List Body) (clock clock' : ℕ) → Sent registers queued clock → clock ≤ clock'
+    → Sent registers queued clock'
+sent_same registers queued clock clock' S l =
+    record { rises = S.rises; past = λ i a h. let k = S.past i a h in omega (arith, k); ranges = S.ranges }
 
-pub sent_more : (registers : ℕ) (queued : List Body) (clock clock' : ℕ) (body : Body) → Sent registers queued clock → clock < time_of body → time_of body ≤ clock' → names_register registers body → Sent registers (queued ++ body ∷ []) clock'
+pub sent_more : (registers : ℕ) (queued : List Body) (clock clock' : ℕ) (body : Body) → Sent registers queued clock
+    → clock < time_of body → time_of body ≤ clock' → names_register registers body
+    → Sent registers (queued ++ body ∷ []) clock'
 sent_more registers queued clock clock' body S l m r =
     let old : (i : ℕ) (a : Body) → slice_get (queued ++ body ∷ []) i ≡ Some a → (slice_get queued i ≡ Some a) ⊎ ((length queued ≤ i) × (a ≡ body)) =
     λ i a h. elim (place_split queued (body ∷ []) i a h) [ inl k ↦ inl k | inr k ↦ inr (k.0, elim k.1 [ inl e ↦ e | inr f ↦ absurd f ]) ] in
@@ -48,7 +54,15 @@ sent_more registers queued clock clock' body S l m r =
     }
 
 -- the sender's side
-pub link_sends : (queued more : List Body) (clock clock' : ℕ) (outbox outbox' inbox : Peer) (put_frames new counts : List Frame) → Link queued clock outbox inbox put_frames counts → clock ≤ clock' → outbox'.first ≤ inbox.expected → outbox'.pending ≡ drop outbox'.first (queued ++ more) → ((i : ℕ) (b : Body) → In (Numbered i b) new → slice_get (queued ++ more) i ≡ Some b) → ((b : Body) → In b more → clock < time_of b) → ((i : ℕ) (b : Body) → slice_get (queued ++ more) i ≡ Some b → length queued ≤ i → In b more → In (Numbered i b) new) → Link (queued ++ more) clock' outbox' inbox (put_frames ++ new) counts
+pub link_sends : (queued more : List Body) (clock clock' : ℕ) (outbox outbox' inbox : Peer)
+    (put_frames new counts : List Frame)
+    → Link queued clock outbox inbox put_frames counts → clock ≤ clock' → outbox'.first ≤ inbox.expected
+    → outbox'.pending ≡ drop outbox'.first (queued ++ more)
+    → ((i : ℕ) (b : Body) → In (Numbered i b) new → slice_get (queued ++ more) i ≡ Some b)
+    → ((b : Body) → In b more → clock < time_of b)
+    → ((i : ℕ) (b : Body) → slice_get (queued ++ more) i ≡ Some b → length queued ≤ i → In b more
+    → In (Numbered i b) new)
+    → Link (queued ++ more) clock' outbox' inbox (put_frames ++ new) counts
 link_sends queued more clock clock' outbox outbox' inbox put_frames new counts L l f p d t o = record {
   within = omega (arith, L.within, length-append queued more);
   acked = f;
@@ -65,7 +79,9 @@ link_sends queued more clock clock' outbox outbox' inbox put_frames new counts L
 }
 
 -- the receiver's side, where nothing is accepted
-pub link_receives : (queued : List Body) (clock : ℕ) (outbox inbox inbox' : Peer) (put_frames counts new : List Frame) → Link queued clock outbox inbox put_frames counts → inbox'.expected ≡ inbox.expected → inbox'.seen ≡ inbox.seen → ((c : ℕ) → In (Got c) new → c ≤ inbox.expected) → Link queued clock outbox inbox' put_frames (counts ++ new)
+pub link_receives : (queued : List Body) (clock : ℕ) (outbox inbox inbox' : Peer) (put_frames counts new : List Frame)
+    → Link queued clock outbox inbox put_frames counts → inbox'.expected ≡ inbox.expected → inbox'.seen ≡ inbox.seen
+    → ((c : ℕ) → In (Got c) new → c ≤ inbox.expected) → Link queued clock outbox inbox' put_frames (counts ++ new)
 link_receives queued clock outbox inbox inbox' put_frames counts new L e s g = record {
   within = let x = L.within in omega (arith, x);
   acked = let x = L.acked in omega (arith, x);
@@ -79,7 +95,11 @@ link_receives queued clock outbox inbox inbox' put_frames counts new L e s g = r
 }
 
 -- and where a body is
-pub link_accepts : (registers : ℕ) (queued : List Body) (clock : ℕ) (outbox inbox inbox' : Peer) (put_frames counts new : List Frame) (body : Body) → Link queued clock outbox inbox put_frames counts → Sent registers queued clock → slice_get queued inbox.expected ≡ Some body → inbox'.expected ≡ inbox.expected + 1 → inbox'.seen ≡ time_of body → ((c : ℕ) → In (Got c) new → c ≤ inbox.expected + 1) → Link queued clock outbox inbox' put_frames (counts ++ new)
+pub link_accepts : (registers : ℕ) (queued : List Body) (clock : ℕ) (outbox inbox inbox' : Peer)
+    (put_frames counts new : List Frame) (body : Body)
+    → Link queued clock outbox inbox put_frames counts → Sent registers queued clock
+    → slice_get queued inbox.expected ≡ Some body → inbox'.expected ≡ inbox.expected + 1 → inbox'.seen ≡ time_of body
+    → ((c : ℕ) → In (Got c) new → c ≤ inbox.expected + 1) → Link queued clock outbox inbox' put_frames (counts ++ new)
 link_accepts registers queued clock outbox inbox inbox' put_frames counts new body L S at e s g = record {
   within = let x = place_within queued inbox.expected body at in omega (arith, x);
   acked = let x = L.acked in omega (arith, x);

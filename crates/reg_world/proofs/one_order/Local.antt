@@ -1,5 +1,6 @@
 -- What holds of one process and its list of deliveries, and that delivery keeps it.
-use Rattle.std.proofs.Common.{◌≡◌, ℕ, ◌<◌, ◌≤◌, ◌⊎◌, false, not, List, ◌++◌, length, sym, ap, ◌∙◌, subst, inl, inr, arith}
+use Rattle.std.proofs.Common.{◌≡◌, ℕ, ◌<◌, ◌≤◌, ◌⊎◌, false, not, List, ◌++◌, length, sym, ap, ◌∙◌, subst, inl, inr}
+use Rattle.std.proofs.Common.{arith}
 use Rattle.std.proofs.lemmas.Bool.{cases_Bool, not-true}
 use Rattle.reg_base.specs.declared.stamps.Stamp.{Stamp}
 use Rattle.reg_base.specs.declared.stamps.Delivered.{Delivered}
@@ -34,7 +35,8 @@ pub record Before (n p : ℕ) (s : State) (deliveries : List Delivered) : Type 0
   pub seen : (r : ℕ) → r < n → (r ≡ p → ⊥) → seen_at s r ≤ s.clock
 
 -- a held cast stands above every delivered one
-pub held_above : (n p : ℕ) (s : State) (deliveries : List Delivered) → Local n p s deliveries → (o c : Delivered) → In o deliveries → In c s.held → Below o.stamp c.stamp
+pub held_above : (n p : ℕ) (s : State) (deliveries : List Delivered) → Local n p s deliveries → (o c : Delivered)
+    → In o deliveries → In c s.held → Below o.stamp c.stamp
 held_above n p s deliveries L o c i j = elim (below_or o.stamp c.stamp) [
   | inl b ↦ b
   | inr a ↦ absurd (L.waits c j (clear_down s c.stamp o.stamp a (L.clear o i)))
@@ -44,9 +46,11 @@ clear_kept : (s : State) (c : Delivered) → In c (clear_casts s) → In c s.hel
 clear_kept s c h = let r = in_filter c (λ c. is_clear s c.stamp) s.held h in (r.0, (Decides-clear s c.stamp).0 r.1)
 
 left_kept : (s : State) (c : Delivered) → In c (delivered_state s).held → In c s.held × (is_clear s c.stamp ≡ false)
-left_kept s c h = let r = in_filter c (λ c. not (is_clear s c.stamp)) s.held h in (r.0, not-true (is_clear s c.stamp) r.1)
+left_kept s c h =
+    let r = in_filter c (λ c. not (is_clear s c.stamp)) s.held h in (r.0, not-true (is_clear s c.stamp) r.1)
 
-pub delivers : (n p : ℕ) (s : State) (deliveries : List Delivered) → Before n p s deliveries → Local n p (delivered_state s) (deliveries ++ clear_casts s)
+pub delivers : (n p : ℕ) (s : State) (deliveries : List Delivered) → Before n p s deliveries
+    → Local n p (delivered_state s) (deliveries ++ clear_casts s)
 delivers n p s deliveries B = record {
   me = B.me;
   size = B.size;
@@ -60,7 +64,8 @@ delivers n p s deliveries B = record {
 }
 
 -- delivery loses no cast
-pub delivery_keeps : (s : State) (deliveries : List Delivered) (c : Delivered) → In c (deliveries ++ s.held) → In c ((deliveries ++ clear_casts s) ++ (delivered_state s).held)
+pub delivery_keeps : (s : State) (deliveries : List Delivered) (c : Delivered) → In c (deliveries ++ s.held)
+    → In c ((deliveries ++ clear_casts s) ++ (delivered_state s).held)
 delivery_keeps s deliveries c h = elim (in_cases c deliveries s.held h) [
   | inl i ↦ in_left c (deliveries ++ clear_casts s) _ (in_left c deliveries (clear_casts s) i)
   | inr j ↦ elim (cases_Bool (is_clear s c.stamp)) [
@@ -70,7 +75,8 @@ delivery_keeps s deliveries c h = elim (in_cases c deliveries s.held h) [
 ]
 
 -- and makes none
-pub delivery_adds_none : (s : State) (deliveries : List Delivered) (c : Delivered) → In c ((deliveries ++ clear_casts s) ++ (delivered_state s).held) → In c (deliveries ++ s.held)
+pub delivery_adds_none : (s : State) (deliveries : List Delivered) (c : Delivered)
+    → In c ((deliveries ++ clear_casts s) ++ (delivered_state s).held) → In c (deliveries ++ s.held)
 delivery_adds_none s deliveries c h = elim (in_cases c (deliveries ++ clear_casts s) (delivered_state s).held h) [
   | inl i ↦ elim (in_cases c deliveries (clear_casts s) i) [ inl k ↦ in_left c deliveries s.held k | inr k ↦ in_right c deliveries s.held (clear_kept s c k).0 ]
   | inr j ↦ in_right c deliveries s.held (left_kept s c j).0
@@ -80,14 +86,21 @@ at_most_later : (a : Stamp) (t u r : ℕ) → t ≤ u → AtMost a (stamp_at t r
 at_most_later a t u r l h = grind arith
 
 -- what is clear stays clear as the others are heard of
-pub clear_mono : (s s' : State) (a : Stamp) → s'.me ≡ s.me → length s'.peers ≡ length s.peers → ((r : ℕ) → r < length s.peers → (r ≡ s.me → ⊥) → seen_at s r ≤ seen_at s' r) → IsClear s a → IsClear s' a
+pub clear_mono : (s s' : State) (a : Stamp) → s'.me ≡ s.me → length s'.peers ≡ length s.peers
+    → ((r : ℕ) → r < length s.peers → (r ≡ s.me → ⊥) → seen_at s r ≤ seen_at s' r) → IsClear s a → IsClear s' a
 clear_mono s s' a e l h c = λ r m ne.
     let m' : r < length s.peers = omega arith in
     let ne' : r ≡ s.me → ⊥ = λ q. ne (q ∙ sym e) in
     at_most_later a (seen_at s r) (seen_at s' r) r (h r m' ne') (c r m' ne')
 
 -- a process between its event and delivery
-pub before_of : (n p : ℕ) (s s1 : State) (deliveries : List Delivered) → Local n p s deliveries → s1.me ≡ s.me → length s1.peers ≡ length s.peers → s.clock ≤ s1.clock → ((r : ℕ) → r < n → (r ≡ p → ⊥) → seen_at s r ≤ seen_at s1 r) → ((r : ℕ) → r < n → (r ≡ p → ⊥) → seen_at s1 r ≤ s1.clock) → Rising s1.held → ((c : Delivered) → In c s1.held → In c s.held ⊎ ((c.stamp.time ≤ s1.clock) × ((o : Delivered) → In o deliveries → Below o.stamp c.stamp))) → Before n p s1 deliveries
+pub before_of : (n p : ℕ) (s s1 : State) (deliveries : List Delivered) → Local n p s deliveries → s1.me ≡ s.me
+    → length s1.peers ≡ length s.peers → s.clock ≤ s1.clock
+    → ((r : ℕ) → r < n → (r ≡ p → ⊥) → seen_at s r ≤ seen_at s1 r)
+    → ((r : ℕ) → r < n → (r ≡ p → ⊥) → seen_at s1 r ≤ s1.clock) → Rising s1.held
+    → ((c : Delivered) → In c s1.held
+    → In c s.held ⊎ ((c.stamp.time ≤ s1.clock) × ((o : Delivered) → In o deliveries → Below o.stamp c.stamp)))
+    → Before n p s1 deliveries
 before_of n p s s1 deliveries L e m l up seen r new = record {
   me = e ∙ L.me;
   size = m ∙ L.size;
@@ -101,7 +114,9 @@ before_of n p s s1 deliveries L e m l up seen r new = record {
 }
 
 -- nothing changed that the list of deliveries depends on
-pub local_same : (n p : ℕ) (s s' : State) (deliveries : List Delivered) → Local n p s deliveries → s'.me ≡ s.me → length s'.peers ≡ length s.peers → s'.clock ≡ s.clock → s'.held ≡ s.held → ((r : ℕ) → seen_at s' r ≡ seen_at s r) → Local n p s' deliveries
+pub local_same : (n p : ℕ) (s s' : State) (deliveries : List Delivered) → Local n p s deliveries → s'.me ≡ s.me
+    → length s'.peers ≡ length s.peers → s'.clock ≡ s.clock → s'.held ≡ s.held → ((r : ℕ) → seen_at s' r ≡ seen_at s r)
+    → Local n p s' deliveries
 local_same n p s s' deliveries L e m k g h = record {
   me = e ∙ L.me;
   size = m ∙ L.size;

@@ -1,5 +1,6 @@
 -- Each kind of event keeps what holds of all nodes.
-use Rattle.std.proofs.Common.{◌≡◌, ℕ, suc, ◌<◌, ◌≤◌, List, [], ◌∷◌, ◌++◌, length, drop, Some, refl, sym, ap, ◌∙◌, subst, arith, length-drop}
+use Rattle.std.proofs.Common.{◌≡◌, ℕ, suc, ◌<◌, ◌≤◌, List, [], ◌∷◌, ◌++◌, length, drop, Some, refl, sym, ap, ◌∙◌, subst}
+use Rattle.std.proofs.Common.{arith, length-drop}
 use Rattle.std.specs.Prelude.{slice_get, cond, ◌==◌}
 use Rattle.std.proofs.lemmas.Bool.{cond-true, cond-false, eq-eqb, ne_eqb}
 use Rattle.std.proofs.lemmas.List.{append-nil}
@@ -22,7 +23,8 @@ pub put_other : {A : Type 0} (at : ℕ → A) (p : ℕ) (x : A) (j : ℕ) → (j
 put_other at p x j ne = cond-false (j == p) x (at j) (ne_eqb j p ne)
 
 -- the outbox's next number is the length of the queue
-pub next_is : (queued : List Body) (clock : ℕ) (outbox inbox : Peer) (forth back : List Frame) → Link queued clock outbox inbox forth back → next_of outbox ≡ length queued
+pub next_is : (queued : List Body) (clock : ℕ) (outbox inbox : Peer) (forth back : List Frame)
+    → Link queued clock outbox inbox forth back → next_of outbox ≡ length queued
 next_is queued clock outbox inbox forth back L = let e = ap length L.pending in let d = length-drop outbox.first queued in let a = L.within in let b = L.acked in omega (arith, e, d, a, b)
 
 -- the same process, but for its running operation, its count of calls and what it keeps of its outboxes
@@ -41,7 +43,14 @@ abbrev pub loud_node : Node → State → List Body → (ℕ → List Frame) →
 loud_node x s1 more frames replies = record { state = delivered_state s1; deliveries = x.deliveries ++ clear_casts s1; queued = x.queued ++ more; wire = λ b. x.wire b ++ frames b; replies = replies }
 
 module _ (n registers k : ℕ) (w : Nodes) (I : Inv n registers k w) (p : ℕ) (l : p < n) where
-  pub quiet_kept : (s' : State) (frames : ℕ → List Frame) (replies : List Said) → Same (w p).state s' → ((b : ℕ) → b < n → (p ≡ b → ⊥) → ((peer_at s' b).first ≤ (peer_at (w b).state p).expected) × ((peer_at s' b).pending ≡ drop (peer_at s' b).first (w p).queued)) → ((b : ℕ) → b < n → (p ≡ b → ⊥) → (i : ℕ) (d : Body) → In (Numbered i d) (frames b) → slice_get (w p).queued i ≡ Some d) → ((a : ℕ) → a < n → (a ≡ p → ⊥) → (c : ℕ) → In (Got c) (frames a) → c ≤ (peer_at (w p).state a).expected) → Kept n registers k p w (quiet_node (w p) s' frames replies)
+  pub quiet_kept : (s' : State) (frames : ℕ → List Frame) (replies : List Said) → Same (w p).state s'
+      → ((b : ℕ) → b < n → (p ≡ b → ⊥)
+      → ((peer_at s' b).first ≤ (peer_at (w b).state p).expected)
+      × ((peer_at s' b).pending ≡ drop (peer_at s' b).first (w p).queued))
+      → ((b : ℕ) → b < n → (p ≡ b → ⊥) → (i : ℕ) (d : Body) → In (Numbered i d) (frames b)
+      → slice_get (w p).queued i ≡ Some d)
+      → ((a : ℕ) → a < n → (a ≡ p → ⊥) → (c : ℕ) → In (Got c) (frames a) → c ≤ (peer_at (w p).state a).expected)
+      → Kept n registers k p w (quiet_node (w p) s' frames replies)
   quiet_kept s' frames replies S out num got =
       let x = w p in
       let y = quiet_node x s' frames replies in
@@ -68,7 +77,12 @@ module _ (n registers k : ℕ) (w : Nodes) (I : Inv n registers k w) (p : ℕ) (
       }
 
   -- what delivery follows
-  pub loud_kept : (s1 : State) (more : List Body) (frames : ℕ → List Frame) (replies : List Said) → let y = loud_node (w p) s1 more frames replies in Before n p s1 (w p).deliveries → Sent registers ((w p).queued ++ more) s1.clock → ((b : ℕ) → b < n → (p ≡ b → ⊥) → LinkOf p b y (w b)) → ((a : ℕ) → a < n → (a ≡ p → ⊥) → LinkOf a p (w a) y) → Known n ((w p).deliveries ++ s1.held) (count_of y p) (queues_of (put w p y)) → s1.clock ≤ suc k → Kept n registers k p w y
+  pub loud_kept : (s1 : State) (more : List Body) (frames : ℕ → List Frame) (replies : List Said)
+      → let y = loud_node (w p) s1 more frames replies in Before n p s1 (w p).deliveries
+      → Sent registers ((w p).queued ++ more) s1.clock → ((b : ℕ) → b < n → (p ≡ b → ⊥) → LinkOf p b y (w b))
+      → ((a : ℕ) → a < n → (a ≡ p → ⊥) → LinkOf a p (w a) y)
+      → Known n ((w p).deliveries ++ s1.held) (count_of y p) (queues_of (put w p y)) → s1.clock ≤ suc k
+      → Kept n registers k p w y
   loud_kept s1 more frames replies B S out inn K c = record {
     local = delivers n p s1 (w p).deliveries B;
     sent = S;
@@ -81,9 +95,11 @@ module _ (n registers k : ℕ) (w : Nodes) (I : Inv n registers k w) (p : ℕ) (
   }
 
   -- the casts known are the same after the queue grows
-  pub grown : (y : Node) (more : List Body) → y.queued ≡ (w p).queued ++ more → Known n ((w p).deliveries ++ (w p).state.held) (count_of (w p) p) (queues_of (put w p y))
+  pub grown : (y : Node) (more : List Body) → y.queued ≡ (w p).queued ++ more
+      → Known n ((w p).deliveries ++ (w p).state.held) (count_of (w p) p) (queues_of (put w p y))
   grown y more g = known_grown n _ (count_of (w p) p) (queues_of w) (queues_of (put w p y)) (I.known p l) (λ r m. counts_within n registers k w I p r l m) (queue_forth w p y more g) (queue_back w p y more g)
 
   -- the own queue has the body at its end
-  pub last_own : (y : Node) (body : Body) → y.queued ≡ (w p).queued ++ body ∷ [] → slice_get (queues_of (put w p y) p) (length (w p).queued) ≡ Some body
+  pub last_own : (y : Node) (body : Body) → y.queued ≡ (w p).queued ++ body ∷ []
+      → slice_get (queues_of (put w p y) p) (length (w p).queued) ≡ Some body
   last_own y body g = ap (λ (z : Node). slice_get z.queued (length (w p).queued)) (put_same w p y p refl) ∙ (ap (λ q. slice_get q (length (w p).queued)) g ∙ place_last (w p).queued body)

@@ -1,5 +1,6 @@
 -- The laws of a run.
-use Rattle.std.proofs.Common.{◌≡◌, ℕ, zero, suc, ◌+◌, ◌<◌, ◌≤◌, List, [], ◌∷◌, ◌++◌, length, drop, Option, Some, None, refl, sym, ap, ◌∙◌, subst, inl, inr, arith, append_assoc}
+use Rattle.std.proofs.Common.{◌≡◌, ℕ, zero, suc, ◌+◌, ◌<◌, ◌≤◌, List, [], ◌∷◌, ◌++◌, length, drop, Option, Some, None}
+use Rattle.std.proofs.Common.{refl, sym, ap, ◌∙◌, subst, inl, inr, arith, append_assoc}
 use Rattle.reg_base.specs.declared.limits.TheConstants.{FRAME_NUMBERS, LAST_TIME, MOST_EVENTS}
 use Rattle.std.specs.Prelude.{slice_get}
 use Rattle.std.proofs.lemmas.List.{append-nil, length-replicate}
@@ -17,7 +18,8 @@ use Rattle.reg_world.specs.NodeParts.{nodes_after}
 use Rattle.reg_world.specs.World.{World, move_of, moved, happens, run, empty_world, whole}
 use Rattle.reg_world.proofs.run.Traced.{count_after}
 use Rattle.reg_world.proofs.run.Along.{moves, run_parts, along, few_events}
-use Rattle.reg_world.specs.Laws.{DeliveriesAgree, DeliveriesRise, UndeliveredAbove, DeliveriesMade, NoRefusal, IsAhead, IsStale, IsFull}
+use Rattle.reg_world.specs.Laws.{DeliveriesAgree, DeliveriesRise, UndeliveredAbove, DeliveriesMade, NoRefusal, IsAhead}
+use Rattle.reg_world.specs.Laws.{IsStale, IsFull}
 use Rattle.reg_base.proofs.Lists.{in_left, in_cases}
 use Rattle.reg_world.proofs.one_order.Worlds.{Inv, one_order, delivered_made, clear_is_delivered}
 use Rattle.reg_checkers.proofs.Places.{element_at}
@@ -71,21 +73,27 @@ empty_inv n registers = record {
     drop_nil (suc f) = refl
 
 -- a clock is at most the number of events
-inv_after : (start : Op → ℕ → Start) (n registers k : ℕ) (w : Nodes) (m : Option (ℕ × Step)) → Inv n registers k w → StepKept start n registers k w m → Inv n registers (count_after k m) (nodes_after start w m)
+inv_after : (start : Op → ℕ → Start) (n registers k : ℕ) (w : Nodes) (m : Option (ℕ × Step)) → Inv n registers k w
+    → StepKept start n registers k w m → Inv n registers (count_after k m) (nodes_after start w m)
 inv_after start n registers k w None I K = I
 inv_after start n registers k w (Some m) I K = subst (λ c. Inv n registers c (put w m.0 (after_step start (w m.0) m.1))) (let e : suc k ≡ k + 1 = omega arith in e) (inv_act n registers k m.0 w _ K.0 I K.1)
 
 -- what a move of a run owes
-pub move_ok : (start : Op → ℕ → Start) (n registers k : ℕ) (w : World) (e : Event) → Inv n registers k w.nodes → StepKept start n registers k w.nodes (move_of n registers w e)
-move_ok start n registers k w e I = moves n registers w e (StepKept start n registers k w.nodes) (step_ok start n registers k w.nodes e I) tt
+pub move_ok : (start : Op → ℕ → Start) (n registers k : ℕ) (w : World) (e : Event) → Inv n registers k w.nodes
+    → StepKept start n registers k w.nodes (move_of n registers w e)
+move_ok start n registers k w e I =
+    moves n registers w e (StepKept start n registers k w.nodes) (step_ok start n registers k w.nodes e I) tt
 
-pub inv_of : (start : Op → ℕ → Start) (n registers : ℕ) (events : List Event) → let w = whole start n registers events in Inv n registers (length w.accepted) w.nodes
+pub inv_of : (start : Op → ℕ → Start) (n registers : ℕ) (events : List Event)
+    → let w = whole start n registers events in Inv n registers (length w.accepted) w.nodes
 inv_of start n registers =
     along start n registers (λ v. Inv n registers v.count v.nodes) (empty_inv n registers)
     (λ events e I. let w = whole start n registers events in inv_after start n registers (length w.accepted) w.nodes (move_of n registers w e) I (move_ok start n registers (length w.accepted) w e I))
 
 -- what a step of the run owes
-pub run_ok : (start : Op → ℕ → Start) (n registers : ℕ) (events : List Event) (e : Event) → let w = whole start n registers events in StepKept start n registers (length w.accepted) w.nodes (move_of n registers w e)
+pub run_ok : (start : Op → ℕ → Start) (n registers : ℕ) (events : List Event) (e : Event)
+    → let w = whole start n registers events in StepKept start n registers (length w.accepted) w.nodes
+    (move_of n registers w e)
 run_ok start n registers events e = let w = whole start n registers events in move_ok start n registers (length w.accepted) w e (inv_of start n registers events)
 
 module _ (start : Op → ℕ → Start) (n registers : ℕ) (events : List Event) where
@@ -105,24 +113,28 @@ module _ (start : Op → ℕ → Start) (n registers : ℕ) (events : List Event
   deliveries_made q c l h = delivered_made n registers k w.nodes (inv_of start n registers events) q l c h
 
 -- deliveries grow at their ends
-after_deliveries : (start : Op → ℕ → Start) (w : Nodes) (m : Option (ℕ × Step)) (q : ℕ) → IsPrefixOf (w q).deliveries (nodes_after start w m q).deliveries
+after_deliveries : (start : Op → ℕ → Start) (w : Nodes) (m : Option (ℕ × Step)) (q : ℕ)
+    → IsPrefixOf (w q).deliveries (nodes_after start w m q).deliveries
 after_deliveries start w None q = ([], append-nil (w q).deliveries)
 after_deliveries start w (Some m) q =
     let ds = (step start (w m.0).state m.1).1.delivered in
     put_cases (λ (z : Node). IsPrefixOf (w q).deliveries z.deliveries) w m.0 (after_step start (w m.0) m.1) q (λ e. (ds, ap (λ q. (w q).deliveries ++ ds) e)) (λ ne. ([], append-nil (w q).deliveries))
 
-moved_deliveries : (start : Op → ℕ → Start) (w : World) (e : Event) (m : Option (ℕ × Step)) (q : ℕ) → IsPrefixOf (w.nodes q).deliveries ((moved start w e m).nodes q).deliveries
+moved_deliveries : (start : Op → ℕ → Start) (w : World) (e : Event) (m : Option (ℕ × Step)) (q : ℕ)
+    → IsPrefixOf (w.nodes q).deliveries ((moved start w e m).nodes q).deliveries
 moved_deliveries start w e None q = after_deliveries start w.nodes None q
 moved_deliveries start w e (Some m) q = after_deliveries start w.nodes (Some m) q
 
-run_deliveries : (start : Op → ℕ → Start) (n registers : ℕ) (events : List Event) (w : World) (q : ℕ) → IsPrefixOf (w.nodes q).deliveries ((run start n registers events w).nodes q).deliveries
+run_deliveries : (start : Op → ℕ → Start) (n registers : ℕ) (events : List Event) (w : World) (q : ℕ)
+    → IsPrefixOf (w.nodes q).deliveries ((run start n registers events w).nodes q).deliveries
 run_deliveries start n registers [] w q = ([], append-nil (w.nodes q).deliveries)
 run_deliveries start n registers (e ∷ es) w q =
     let a = moved_deliveries start w e (move_of n registers w e) q in
     let b = run_deliveries start n registers es (happens start n registers w e) q in
     (a.0 ++ b.0, sym (append_assoc (w.nodes q).deliveries a.0 b.0) ∙ (ap (λ f. f ++ b.0) a.1 ∙ b.1))
 
-pub undelivered_later : (start : Op → ℕ → Start) (n registers : ℕ) (events more : List Event) → UndeliveredAbove n (whole start n registers events).nodes (whole start n registers (events ++ more)).nodes
+pub undelivered_later : (start : Op → ℕ → Start) (n registers : ℕ) (events more : List Event)
+    → UndeliveredAbove n (whole start n registers events).nodes (whole start n registers (events ++ more)).nodes
 undelivered_later start n registers events more q c d l m ne h =
     let w1 = (whole start n registers events).nodes in
     let longer = whole start n registers (events ++ more) in
@@ -144,7 +156,8 @@ undelivered_later start n registers events more q c d l m ne h =
     ]
 
 -- a body's time is not below its number
-timely : (registers : ℕ) (queued : List Body) (clock : ℕ) → Sent registers queued clock → (i : ℕ) (body : Body) → slice_get queued i ≡ Some body → i ≤ time_of body
+timely : (registers : ℕ) (queued : List Body) (clock : ℕ) → Sent registers queued clock → (i : ℕ) (body : Body)
+    → slice_get queued i ≡ Some body → i ≤ time_of body
 timely registers queued clock S zero body at = omega arith
 timely registers queued clock S (suc i) body at =
     let before = element_at queued i (let z = place_within queued (suc i) body at in omega (arith, z)) in
@@ -152,7 +165,8 @@ timely registers queued clock S (suc i) body at =
     let v = S.rises i (suc i) before.0 body before.1 at (omega arith) in
     omega (arith, z, v)
 
-few_bodies : (registers : ℕ) (queued : List Body) (clock : ℕ) → Sent registers queued clock → (k : ℕ) → length queued ≡ k → k ≤ clock + 1
+few_bodies : (registers : ℕ) (queued : List Body) (clock : ℕ) → Sent registers queued clock → (k : ℕ)
+    → length queued ≡ k → k ≤ clock + 1
 few_bodies registers queued clock S zero e = omega arith
 few_bodies registers queued clock S (suc k) e =
     let last = element_at queued k (omega (arith, e)) in
@@ -207,5 +221,6 @@ module _ (n registers k : ℕ) (w : Nodes) (I : Inv n registers k w) (few : k �
     in_range = λ a b i body la lb ne h. (I.sent a la).ranges i body ((I.link a b la lb ne).numbered i body h);
   }
 
-pub no_refusal : (start : Op → ℕ → Start) (n registers : ℕ) (events : List Event) → NoRefusal n registers (whole start n registers events).nodes
+pub no_refusal : (start : Op → ℕ → Start) (n registers : ℕ) (events : List Event)
+    → NoRefusal n registers (whole start n registers events).nodes
 no_refusal start n registers events = let w = whole start n registers events in not_refused n registers (length w.accepted) w.nodes (inv_of start n registers events) (few_events start n registers events)

@@ -1,5 +1,6 @@
 -- Every event of a run keeps what holds of all nodes.
-use Rattle.std.proofs.Common.{◌≡◌, ℕ, ◌+◌, ◌-◌, ◌<◌, ◌≤◌, max, [], length, take, drop, Option, Some, None, refl, sym, ap, ◌∙◌, subst, inl, inr, arith}
+use Rattle.std.proofs.Common.{◌≡◌, ℕ, ◌+◌, ◌-◌, ◌<◌, ◌≤◌, max, [], length, take, drop, Option, Some, None, refl, sym}
+use Rattle.std.proofs.Common.{ap, ◌∙◌, subst, inl, inr, arith}
 use Rattle.reg_base.specs.declared.limits.TheConstants.{MOST_OPERATIONS, MOST_RESENT}
 use Rattle.std.specs.Prelude.{slice_get, ◌==◌, nat_lt, not, ◌&&◌}
 use Rattle.std.proofs.lemmas.Bool.{cases_eq, cond_both, eqb-true, eqb-false, ltb-true, and_parts, not-true}
@@ -10,14 +11,17 @@ use Rattle.reg_frames.specs.declared.bodies.Body.TheVariants.{Cast, Ack}
 use Rattle.reg_frames.specs.declared.bodies.Frame.{Frame}
 use Rattle.reg_frames.specs.declared.bodies.Frame.TheVariants.{Numbered, Got}
 use Rattle.reg_base.specs.Order.{In}
-use Rattle.reg_process.specs.Process.{State, Peer, no_peer, peer_at, seen_at, stamp_at, got_frames, numbered_from, Own, Held, called, taken, accepted, acknowledged, resent, quiet, no_frames}
+use Rattle.reg_process.specs.Process.{State, Peer, no_peer, peer_at, seen_at, stamp_at, got_frames, numbered_from, Own}
+use Rattle.reg_process.specs.Process.{Held, called, taken, accepted, acknowledged, resent, quiet, no_frames}
 use Rattle.reg_world.specs.Nodes.{Nodes, op_in, after_result, after_step, take_step, step_of}
 use Rattle.reg_world.proofs.one_order.Worlds.{Inv}
 use Rattle.reg_world.proofs.one_order.Acts.{Kept}
-use Rattle.reg_world.proofs.one_order.Frames.{got_no_numbered, got_count, numbered_in, resent_no_got, none_to_me, place_take, place_drop}
+use Rattle.reg_world.proofs.one_order.Frames.{got_no_numbered, got_count, numbered_in, resent_no_got, none_to_me}
+use Rattle.reg_world.proofs.one_order.Frames.{place_take, place_drop}
 use Rattle.std.specs.Option.{is_some}
 use Rattle.reg_front.specs.declared.starts.Start.{Start}
-use Rattle.reg_front.specs.declared.starts.Start.TheVariants.{Cast as Casts, CastAndAnswer as CastsAndAnswers, Look as Looks, Hold as Holds}
+use Rattle.reg_front.specs.declared.starts.Start.TheVariants.{Cast as Casts, CastAndAnswer as CastsAndAnswers}
+use Rattle.reg_front.specs.declared.starts.Start.TheVariants.{Look as Looks, Hold as Holds}
 use Rattle.reg_process.specs.declared.steps.Step.{Step}
 use Rattle.reg_process.specs.declared.steps.Step.TheVariants.{Call as CallStep, Tick as TickStep}
 use Rattle.reg_process.specs.declared.events.Event.{Event}
@@ -122,11 +126,14 @@ abbrev pub StepKept : (Op → ℕ → Start) → ℕ → ℕ → ℕ → Nodes �
 StepKept start n registers k w None = Unit {0}
 StepKept start n registers k w (Some m) = (m.0 < n) × Kept n registers k m.0 w (after_step start (w m.0) m.1)
 
-take_ok : (start : Op → ℕ → Start) (n registers k : ℕ) (w : Nodes) (a p : ℕ) (o : Option Frame) → Inv n registers k w → a < n → p < n → (a ≡ p → ⊥) → ((f : Frame) → o ≡ Some f → In f ((w a).wire p)) → StepKept start n registers k w (take_step a p o)
+take_ok : (start : Op → ℕ → Start) (n registers k : ℕ) (w : Nodes) (a p : ℕ) (o : Option Frame) → Inv n registers k w
+    → a < n → p < n → (a ≡ p → ⊥) → ((f : Frame) → o ≡ Some f → In f ((w a).wire p))
+    → StepKept start n registers k w (take_step a p o)
 take_ok start n registers k w a p None I la l ne h = tt
 take_ok start n registers k w a p (Some f) I la l ne h = (l, taken_kept n registers k w I p l _ a la ne f (h f refl))
 
-pub step_ok : (start : Op → ℕ → Start) (n registers k : ℕ) (w : Nodes) (e : Event) → Inv n registers k w → StepKept start n registers k w (step_of n registers w e)
+pub step_ok : (start : Op → ℕ → Start) (n registers k : ℕ) (w : Nodes) (e : Event) → Inv n registers k w
+    → StepKept start n registers k w (step_of n registers w e)
 step_ok start n registers k w (Call p op) I =
     cond_both (nat_lt p n && (not (is_some (w p).state.running) && (nat_lt (register_of op) registers && nat_lt (w p).state.calls MOST_OPERATIONS))) (Some (p, CallStep op)) None (StepKept start n registers k w)
     (λ e.

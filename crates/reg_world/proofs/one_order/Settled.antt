@@ -1,5 +1,6 @@
 -- Where nothing is pending, no process is busy and all copies are equal.
-use Rattle.std.proofs.Common.{◌≡◌, ℕ, zero, suc, ◌+◌, ◌<◌, max, Bool, true, false, not, List, [], ◌∷◌, ◌++◌, length, replicate, Option, Some, None, refl, sym, ap, ◌∙◌, subst, inl, inr, arith}
+use Rattle.std.proofs.Common.{◌≡◌, ℕ, zero, suc, ◌+◌, ◌<◌, max, Bool, true, false, not, List, [], ◌∷◌, ◌++◌, length}
+use Rattle.std.proofs.Common.{replicate, Option, Some, None, refl, sym, ap, ◌∙◌, subst, inl, inr, arith}
 use Rattle.std.specs.Prelude.{cond, ◌==◌, ◌&&◌, count_by, slice_index_or}
 use Rattle.std.specs.List.{filter, list_any}
 use Rattle.std.proofs.lemmas.Bool.{cond_both, cases_Bool, eqb-false, eq-eqb, and_from, false≢true}
@@ -11,13 +12,17 @@ use Rattle.reg_frames.specs.declared.bodies.Body.TheVariants.{Cast, Ack}
 use Rattle.reg_frames.specs.declared.bodies.Frame.{Frame}
 use Rattle.reg_frames.specs.declared.bodies.Frame.TheVariants.{Numbered, Got}
 use Rattle.reg_front.specs.declared.starts.Start.{Start}
-use Rattle.reg_front.specs.declared.starts.Start.TheVariants.{Cast as Casts, CastAndAnswer as CastsAndAnswers, Look as Looks, Hold as Holds}
+use Rattle.reg_front.specs.declared.starts.Start.TheVariants.{Cast as Casts, CastAndAnswer as CastsAndAnswers}
+use Rattle.reg_front.specs.declared.starts.Start.TheVariants.{Look as Looks, Hold as Holds}
 use Rattle.reg_process.specs.declared.steps.Step.{Step}
 use Rattle.reg_process.specs.declared.steps.Step.TheVariants.{Call, Take, Tick}
 use Rattle.reg_process.specs.declared.events.Event.{Event}
 use Rattle.reg_base.specs.Order.{In, Rising, insert}
 use Rattle.reg_base.specs.Memory.{memory_after}
-use Rattle.reg_process.specs.Process.{Peer, no_peer, pending_of, State, Running, Own, Held, is_clear, is_own, peer_at, stamp_at, cast_at, clear_casts, casts_before, up_to_own, reply_after, reply_of, still, delivered_state, called, taken, accepted, accepts, queues, cast_made, quiet, got_frames, unsettled, ops_of}
+use Rattle.reg_process.specs.Process.{Peer, no_peer, pending_of, State, Running, Own, Held, is_clear, is_own, peer_at}
+use Rattle.reg_process.specs.Process.{stamp_at, cast_at, clear_casts, casts_before, up_to_own, reply_after, reply_of}
+use Rattle.reg_process.specs.Process.{still, delivered_state, called, taken, accepted, accepts, queues, cast_made}
+use Rattle.reg_process.specs.Process.{quiet, got_frames, unsettled, ops_of}
 use Rattle.reg_front.specs.Fronts.{MayStart, KeepsLaws}
 use Rattle.reg_world.specs.Nodes.{Node, Nodes, after_step}
 use Rattle.reg_world.specs.NodeParts.{nodes_after, NothingPending}
@@ -42,7 +47,8 @@ Runs s None = Unit {0}
 Runs s (Some (Own stamp op)) = In (record { stamp = stamp; op = op }) s.held
 Runs s (Some (Held op)) = 0 < unsettled s
 
-pub count_parts : (f p : Delivered → Bool) (xs : List Delivered) → count_by f (filter p xs) + count_by f (filter (λ c. not (p c)) xs) ≡ count_by f xs
+pub count_parts : (f p : Delivered → Bool) (xs : List Delivered)
+    → count_by f (filter p xs) + count_by f (filter (λ c. not (p c)) xs) ≡ count_by f xs
 count_parts f p [] = refl
 count_parts f p (x ∷ xs) = go (p x) (count_parts f p xs)
   where
@@ -50,7 +56,8 @@ count_parts f p (x ∷ xs) = go (p x) (count_parts f p xs)
     go true e = let a = count_cons f x (filter p xs) in let b = count_cons f x xs in omega (arith, a, b, e)
     go false e = let a = count_cons f x (filter (λ c. not (p c)) xs) in let b = count_cons f x xs in omega (arith, a, b, e)
 
-still_runs : (s : State) (running : Option Running) → Runs s running → Runs (delivered_state s) (still (reply_of s (clear_casts s) running) running)
+still_runs : (s : State) (running : Option Running) → Runs s running
+    → Runs (delivered_state s) (still (reply_of s (clear_casts s) running) running)
 still_runs s None h = tt
 still_runs s (Some (Own stamp op)) h =
     let ds = clear_casts s in
@@ -72,7 +79,8 @@ IsRunning x = Runs x.state x.state.running
 
 module _ (x : Node) (R : IsRunning x) where
   -- a held read still waits where one more is held
-  pub longer : (s1 : State) (c : Delivered) (running : Option Running) → s1.me ≡ x.state.me → s1.held ≡ insert c x.state.held → Runs x.state running → Runs s1 running
+  pub longer : (s1 : State) (c : Delivered) (running : Option Running) → s1.me ≡ x.state.me
+      → s1.held ≡ insert c x.state.held → Runs x.state running → Runs s1 running
   longer s1 c None m e h = tt
   longer s1 c (Some (Own stamp op)) m e h = subst (In (record { stamp = stamp; op = op })) (sym e) (insert_old _ c x.state.held h)
   longer s1 c (Some (Held op)) m e h =
@@ -107,11 +115,13 @@ module _ (x : Node) (R : IsRunning x) where
   step_runs start (Take a f) laws = taken_runs a f
   step_runs start Tick laws = R
 
-pub runs_after : (start : Op → ℕ → Start) (w : Nodes) (m : Option (ℕ × Step)) → KeepsLaws start → ((p : ℕ) → IsRunning (w p)) → (p : ℕ) → IsRunning (nodes_after start w m p)
+pub runs_after : (start : Op → ℕ → Start) (w : Nodes) (m : Option (ℕ × Step)) → KeepsLaws start
+    → ((p : ℕ) → IsRunning (w p)) → (p : ℕ) → IsRunning (nodes_after start w m p)
 runs_after start w None laws R = R
 runs_after start w (Some m) laws R = λ q. put_cases IsRunning w m.0 (after_step start (w m.0) m.1) q (λ _. step_runs (w m.0) (R m.0) start m.1 laws) (λ _. R q)
 
-pub whole_runs : (start : Op → ℕ → Start) (n registers : ℕ) (events : List Event) → KeepsLaws start → (p : ℕ) → IsRunning ((whole start n registers events).nodes p)
+pub whole_runs : (start : Op → ℕ → Start) (n registers : ℕ) (events : List Event) → KeepsLaws start → (p : ℕ)
+    → IsRunning ((whole start n registers events).nodes p)
 whole_runs start n registers events laws =
     along start n registers (λ v. (p : ℕ) → IsRunning (v.nodes p)) (λ p. tt)
     (λ es e h. let w = whole start n registers es in runs_after start w.nodes (move_of n registers w e) laws h) events
@@ -125,7 +135,8 @@ not_running s None h e = refl
 not_running s (Some (Own stamp op)) h e = absurd (subst (In (record { stamp = stamp; op = op })) e h)
 not_running s (Some (Held op)) h e = absurd (let z = ap (count_by (is_own s)) e in omega (arith, h, z))
 
-pub same_deliveries : (xs ys rest : List Delivered) → Rising ys → xs ++ rest ≡ ys → ((c : Delivered) → In c ys → In c xs) → xs ≡ ys
+pub same_deliveries : (xs ys rest : List Delivered) → Rising ys → xs ++ rest ≡ ys
+    → ((c : Delivered) → In c ys → In c xs) → xs ≡ ys
 same_deliveries xs ys [] r e h = sym (append-nil xs) ∙ e
 same_deliveries xs ys (z ∷ rest) r e h =
     absurd (below_irrefl z.stamp (rising_cut xs (z ∷ rest) z z (subst Rising (sym e) r) (h z (subst (In z) e (in_right z xs (z ∷ rest) (inl refl)))) (inl refl)))

@@ -24,8 +24,11 @@ count_of x q r = cond (r == q) (length x.queued) (peer_at x.state r).expected
 
 -- The casts are those among the first bodies of each process.
 pub record Known (n : ℕ) (casts : List Delivered) (count : ℕ → ℕ) (queued : ℕ → List Body) : Type 0 where
-  pub sound : (c : Delivered) → In c casts → (c.stamp.process < n) × ((i : ℕ) × (i < count c.stamp.process) × (slice_get (queued c.stamp.process) i ≡ Some (Cast c.stamp.time c.op)))
-  pub complete : (r i t : ℕ) (op : Op) → r < n → i < count r → slice_get (queued r) i ≡ Some (Cast t op) → In (cast_at t r op) casts
+  pub sound : (c : Delivered) → In c casts
+      → (c.stamp.process < n)
+      × ((i : ℕ) × (i < count c.stamp.process) × (slice_get (queued c.stamp.process) i ≡ Some (Cast c.stamp.time c.op)))
+  pub complete : (r i t : ℕ) (op : Op) → r < n → i < count r → slice_get (queued r) i ≡ Some (Cast t op)
+      → In (cast_at t r op) casts
 
 abbrev pub queues_of : Nodes → ℕ → List Body
 queues_of w r = (w r).queued
@@ -52,7 +55,8 @@ time_at_most t u p h = grind arith
 
 module _ (n registers k : ℕ) (w : Nodes) (I : Inv n registers k w) where
   -- a cast that is clear at q was delivered there
-  pub clear_is_delivered : (q : ℕ) → q < n → (c : Delivered) → IsMade n w c → IsClear (w q).state c.stamp → In c (w q).deliveries
+  pub clear_is_delivered : (q : ℕ) → q < n → (c : Delivered) → IsMade n w c → IsClear (w q).state c.stamp
+      → In c (w q).deliveries
   clear_is_delivered q l c m h =
       let p = c.stamp.process in
       let L = I.local q l in
@@ -82,7 +86,8 @@ module _ (n registers k : ℕ) (w : Nodes) (I : Inv n registers k w) where
   held_made q l c h = let r = (I.known q l).sound c (in_right c (w q).deliveries (w q).state.held h) in (r.0, (r.1.0, r.1.2))
 
   -- a cast that q hasn't delivered stands above all that it has
-  pub undelivered_above : (q : ℕ) → q < n → (c d : Delivered) → IsMade n w c → (In c (w q).deliveries → ⊥) → In d (w q).deliveries → Below d.stamp c.stamp
+  pub undelivered_above : (q : ℕ) → q < n → (c d : Delivered) → IsMade n w c → (In c (w q).deliveries → ⊥)
+      → In d (w q).deliveries → Below d.stamp c.stamp
   undelivered_above q l c d m ne h = elim (below_or d.stamp c.stamp) [
     | inl b ↦ b
     | inr a ↦ absurd (ne (clear_is_delivered q l c m (clear_down' a)))
@@ -112,7 +117,8 @@ module _ (n registers k : ℕ) (w : Nodes) (I : Inv n registers k w) where
       same_op (inr (inl l)) = let r = (I.sent p m.0).rises m.1.0 h.1.0 _ _ at_c at_d l in absurd (omega (arith, r))
       same_op (inr (inr l)) = let r = (I.sent p m.0).rises h.1.0 m.1.0 _ _ at_d at_c l in absurd (omega (arith, r))
 
-  pub one_order : (p q : ℕ) → p < n → q < n → IsPrefixOf (w p).deliveries (w q).deliveries ⊎ IsPrefixOf (w q).deliveries (w p).deliveries
+  pub one_order : (p q : ℕ) → p < n → q < n
+      → IsPrefixOf (w p).deliveries (w q).deliveries ⊎ IsPrefixOf (w q).deliveries (w p).deliveries
   one_order p q l m =
       prefixes (w p).deliveries (w q).deliveries (I.local p l).deliveries_rise (I.local q m).deliveries_rise (deliveries_closed p q l m) (deliveries_closed q p m l)
       (λ c d i j e. made_once c d (delivered_made p l c i) (delivered_made q m d j) e)

@@ -1,5 +1,6 @@
 -- What a run keeps of each of its beginnings: all that was told, and that what is told later is of later events.
-use Rattle.std.proofs.Common.{◌≡◌, ℕ, ◌+◌, ◌-◌, ◌≤◌, List, [], ◌∷◌, ◌++◌, length, map, Option, Some, None, refl, sym, ap, ◌∙◌, subst, inl, inr, arith, append_assoc, length-append}
+use Rattle.std.proofs.Common.{◌≡◌, ℕ, ◌+◌, ◌-◌, ◌≤◌, List, [], ◌∷◌, ◌++◌, length, map, Option, Some, None, refl, sym}
+use Rattle.std.proofs.Common.{ap, ◌∙◌, subst, inl, inr, arith, append_assoc, length-append}
 use Rattle.std.proofs.lemmas.Bool.{cases_order}
 use Rattle.std.proofs.lemmas.List.{append-nil}
 use Rattle.reg_base.specs.declared.memory.Op.{Op}
@@ -17,7 +18,8 @@ use Rattle.reg_process.specs.declared.events.Event.{Event}
 use Rattle.reg_world.specs.declared.order.First.{First}
 use Rattle.reg_world.specs.declared.order.CopyRead.{CopyRead}
 use Rattle.reg_world.specs.Nodes.{unseen}
-use Rattle.reg_world.specs.World.{World, op_id, calls_in, answers_in, casts_in, reads_in, first_of, delivered_of, move_of, moved, happens, empty_world, whole}
+use Rattle.reg_world.specs.World.{World, op_id, calls_in, answers_in, casts_in, reads_in, first_of, delivered_of}
+use Rattle.reg_world.specs.World.{move_of, moved, happens, empty_world, whole}
 use Rattle.reg_world.proofs.lists.Members.{from_end}
 use Rattle.reg_world.proofs.run.Along.{run_parts, one_more}
 
@@ -26,7 +28,8 @@ module _ (start : Op → ℕ → Start) (n registers : ℕ) where
   abbrev IsAgain : World → Type 0
   IsAgain w = whole start n registers w.accepted ≡ w
 
-  pub again_moved : (w : World) (e : Event) (m : Option (ℕ × Step)) → move_of n registers w e ≡ m → IsAgain w → IsAgain (moved start w e m)
+  pub again_moved : (w : World) (e : Event) (m : Option (ℕ × Step)) → move_of n registers w e ≡ m → IsAgain w
+      → IsAgain (moved start w e m)
   again_moved w e None is h = h
   again_moved w e (Some m) is h = run_parts start n registers w.accepted (e ∷ []) (empty_world n registers) ∙ (ap (λ z. happens start n registers z e) h ∙ ap (moved start w e) is)
 
@@ -50,7 +53,8 @@ answer_event at id (Some y) x (inr f) = absurd f
 pub record IsBeginning (u w : World) : Type 0 where
   pub order : (rest : List First) × (w.order ≡ u.order ++ rest)
   pub reads : (rest : List CopyRead) × (w.reads ≡ u.reads ++ rest)
-  pub history : (rest : List Entry) × (w.history ≡ u.history ++ rest) × ((x : Entry) → In x rest → length u.accepted ≤ event_of x)
+  pub history : (rest : List Entry) × (w.history ≡ u.history ++ rest)
+      × ((x : Entry) → In x rest → length u.accepted ≤ event_of x)
   pub count : length u.accepted ≤ length w.accepted
 
 begins_itself : (w : World) → IsBeginning w w
@@ -61,7 +65,8 @@ begins_itself w = record {
   count = omega arith;
 }
 
-begins_moved : (start : Op → ℕ → Start) (u w : World) (e : Event) (m : Option (ℕ × Step)) → IsBeginning u w → IsBeginning u (moved start w e m)
+begins_moved : (start : Op → ℕ → Start) (u w : World) (e : Event) (m : Option (ℕ × Step)) → IsBeginning u w
+    → IsBeginning u (moved start w e m)
 begins_moved start u w e None B = B
 begins_moved start u w e (Some m) B =
     let S : State = (w.nodes m.0).state in
@@ -97,7 +102,8 @@ abbrev Begun : (Op → ℕ → Start) → ℕ → ℕ → ℕ → World → Type
 Begun start n registers t w = (before : List Event) × (length (whole start n registers before).accepted ≡ t) × IsBeginning (whole start n registers before) w
 
 -- a run was once as long as each number up to its length
-pub begun : (start : Op → ℕ → Start) (n registers : ℕ) (events : List Event) (t : ℕ) → t ≤ length (whole start n registers events).accepted → Begun start n registers t (whole start n registers events)
+pub begun : (start : Op → ℕ → Start) (n registers : ℕ) (events : List Event) (t : ℕ)
+    → t ≤ length (whole start n registers events).accepted → Begun start n registers t (whole start n registers events)
 begun start n registers =
     from_end (λ es. (t : ℕ) → t ≤ length (whole start n registers es).accepted → Begun start n registers t (whole start n registers es))
     (λ t le. ([], (let z : 0 ≡ t = omega arith in z), begins_itself (whole start n registers [])))

@@ -1,5 +1,6 @@
 -- A run as the proofs see it: with the past of each process beside it.
-use Rattle.std.specs.Prelude.{ℕ, ◌+◌, ◌-◌, List, [], ◌∷◌, ◌++◌, map, replicate, Option, Some, None, slice_get, take, ◌≡◌, ◌<◌, ◌≤◌, ◌⊎◌, length}
+use Rattle.std.specs.Prelude.{ℕ, ◌+◌, ◌-◌, List, [], ◌∷◌, ◌++◌, map, replicate, Option, Some, None, slice_get, take}
+use Rattle.std.specs.Prelude.{◌≡◌, ◌<◌, ◌≤◌, ◌⊎◌, length}
 use Rattle.reg_base.specs.declared.stamps.Stamp.{Stamp}
 use Rattle.reg_base.specs.declared.stamps.Delivered.{Delivered}
 use Rattle.reg_base.specs.declared.memory.Op.{Op}
@@ -74,7 +75,8 @@ firsts at casts = map (λ (c : Delivered). record { cast = c; at = at }) casts
 -- what one move makes of each part
 abbrev pub order_after : (Op → ℕ → Start) → Trace → Option (ℕ × Step) → List First
 order_after start v None = v.order
-order_after start v (Some m) = v.order ++ firsts v.count (unseen (casts_of v.order) (step start (v.nodes m.0).state m.1).1.delivered)
+order_after start v (Some m) =
+    v.order ++ firsts v.count (unseen (casts_of v.order) (step start (v.nodes m.0).state m.1).1.delivered)
 
 abbrev pub count_after : ℕ → Option (ℕ × Step) → ℕ
 count_after k None = k
@@ -82,7 +84,8 @@ count_after k (Some m) = k + 1
 
 abbrev pub pasts_after : (Op → ℕ → Start) → Trace → Option (ℕ × Step) → ℕ → Past
 pasts_after start v None = v.pasts
-pasts_after start v (Some m) = put v.pasts m.0 (past_after v.count (v.nodes m.0).state (v.pasts m.0) m.1 (step start (v.nodes m.0).state m.1))
+pasts_after start v (Some m) =
+    put v.pasts m.0 (past_after v.count (v.nodes m.0).state (v.pasts m.0) m.1 (step start (v.nodes m.0).state m.1))
 
 abbrev pub after : (Op → ℕ → Start) → Trace → Option (ℕ × Step) → Trace
 after start v m = record { nodes = nodes_after start v.nodes m; count = count_after v.count m; order = order_after start v m; pasts = pasts_after start v m }
@@ -105,9 +108,11 @@ no_pasts p = record { calls = []; answers = [] }
 
 -- the run of these events
 abbrev pub traced : (Op → ℕ → Start) → ℕ → ℕ → List Event → Trace
-traced start n registers events = traced_by (whole start n registers events) (pasts_along start n registers events (empty_world n registers) no_pasts)
+traced start n registers events =
+    traced_by (whole start n registers events) (pasts_along start n registers events (empty_world n registers) no_pasts)
 
--- The casts in the order of their first deliveries are the longest list of deliveries: each list of deliveries is a prefix of it, and one list of deliveries is it.
+-- The casts in the order of their first deliveries are the longest list of deliveries: each list of deliveries is a
+-- prefix of it, and one list of deliveries is it.
 pub record OrderIsLongest (n : ℕ) (w : Trace) : Type 0 where
   pub each : (p : ℕ) → p < n → IsPrefixOf (w.nodes p).deliveries (casts_of w.order)
   pub one : 0 < n → (p : ℕ) × (p < n) × ((w.nodes p).deliveries ≡ casts_of w.order)
@@ -122,15 +127,18 @@ RepliesRight n registers w =
 abbrev pub cast_of : Stamp → Op → Delivered
 cast_of stamp op = record { stamp = stamp; op = op }
 
--- Where an answer stands: at its own cast, or anywhere if it is always Done; one from the copy after all own casts called
+-- Where an answer stands: at its own cast, or anywhere if it is always Done; one from the copy after all own casts
+-- called
 -- before it, and before all called after it.
 abbrev pub Stands : List Delivered → List Called → ℕ → ℕ → Called → Option Stamp → Type 0
-Stands deliveries calls number place d (Some stamp) = ((m : Memory) → answer_of d.op m ≡ Done) ⊎ (slice_get deliveries place ≡ Some (cast_of stamp d.op))
+Stands deliveries calls number place d (Some stamp) =
+    ((m : Memory) → answer_of d.op m ≡ Done) ⊎ (slice_get deliveries place ≡ Some (cast_of stamp d.op))
 Stands deliveries calls number place d None =
     (j : ℕ) (e : Called) (stamp : Stamp) → slice_get calls j ≡ Some e → e.cast ≡ Some stamp →
     ((j < number → In (cast_of stamp e.op) (take place deliveries)) × (number < j → In (cast_of stamp e.op) (take place deliveries) → ⊥))
 
--- Each answer is to its call, is the memory's after the first casts of the order, as many as its place says, and stands there.
+-- Each answer is to its call, is the memory's after the first casts of the order, as many as its place says, and stands
+-- there.
 abbrev pub HistoryRight : ℕ → ℕ → Trace → Type 0
 HistoryRight n registers w =
     (p : ℕ) (a : Answered) → p < n → In a (w.pasts p).answers →
@@ -141,7 +149,8 @@ HistoryRight n registers w =
 
 -- the call that made the cast of this stamp, with its operation; its place is its number
 abbrev pub IsCalled : List Called → Stamp → Op → Type 0
-IsCalled calls stamp op = (number : ℕ) × (d : Called) × (slice_get calls number ≡ Some d) × (d.cast ≡ Some stamp) × (d.op ≡ op)
+IsCalled calls stamp op =
+    (number : ℕ) × (d : Called) × (slice_get calls number ≡ Some d) × (d.cast ≡ Some stamp) × (d.op ≡ op)
 
 -- Each cast made was called at its process, with its operation.
 abbrev pub CastsCalled : ℕ → Trace → Type 0
@@ -160,5 +169,8 @@ NeverFalls (f ∷ fs) = ((g : First) → In g fs → f.at ≤ g.at) × NeverFall
 -- A cast's first delivery is not before its call and, where it is answered, not after its answer.
 pub record TimesRight (n : ℕ) (order : List First) (pasts : ℕ → Past) : Type 0 where
   pub never_falls : NeverFalls order
-  pub after_call : (p number : ℕ) (d : Called) (f : First) → p < n → slice_get (pasts p).calls number ≡ Some d → In f order → d.cast ≡ Some f.cast.stamp → d.at ≤ f.at
-  pub before_answer : (p : ℕ) (a : Answered) (d : Called) (stamp : Stamp) → p < n → In a (pasts p).answers → slice_get (pasts p).calls a.number ≡ Some d → d.cast ≡ Some stamp → (f : First) × In f order × (f.cast ≡ cast_of stamp d.op) × (f.at ≤ a.at)
+  pub after_call : (p number : ℕ) (d : Called) (f : First) → p < n → slice_get (pasts p).calls number ≡ Some d
+      → In f order → d.cast ≡ Some f.cast.stamp → d.at ≤ f.at
+  pub before_answer : (p : ℕ) (a : Answered) (d : Called) (stamp : Stamp) → p < n → In a (pasts p).answers
+      → slice_get (pasts p).calls a.number ≡ Some d → d.cast ≡ Some stamp
+      → (f : First) × In f order × (f.cast ≡ cast_of stamp d.op) × (f.at ≤ a.at)

@@ -1,5 +1,6 @@
 -- The facts by places in the order, from the laws.
-use Rattle.std.proofs.Common.{◌≡◌, ℕ, zero, suc, ◌<◌, List, [], ◌∷◌, take, Option, Some, None, sym, ap, ◌∙◌, subst, inl, inr, arith}
+use Rattle.std.proofs.Common.{◌≡◌, ℕ, zero, suc, ◌<◌, List, [], ◌∷◌, take, Option, Some, None, sym, ap, ◌∙◌, subst, inl}
+use Rattle.std.proofs.Common.{inr, arith}
 use Rattle.std.specs.Prelude.{slice_get}
 use Rattle.std.proofs.lemmas.Option.{same_Some, none-some}
 use Rattle.std.proofs.lemmas.Bool.{cases_lt, cases_order}
@@ -23,10 +24,12 @@ use Rattle.reg_world.proofs.one_memory.Named.{casts_called}
 use Rattle.reg_world.proofs.one_memory.Copied.{copies_change_nothing}
 use Rattle.reg_world.proofs.one_memory.History.{PastsOk, whole_pasts, history_right}
 
-rising_at : (xs : List Delivered) (i j : ℕ) (a b : Delivered) → Rising xs → slice_get xs i ≡ Some a → slice_get xs j ≡ Some b → i < j → Below a.stamp b.stamp
+rising_at : (xs : List Delivered) (i j : ℕ) (a b : Delivered) → Rising xs → slice_get xs i ≡ Some a
+    → slice_get xs j ≡ Some b → i < j → Below a.stamp b.stamp
 rising_at [] i j a b r p q l = absurd (none-some a p)
 rising_at (x ∷ xs) i zero a b r p q l = absurd (omega arith)
-rising_at (x ∷ xs) zero (suc j) a b r p q l = subst (λ (z : Delivered). Below z.stamp b.stamp) (same_Some x a p) (r.0 b (place_in xs j b q))
+rising_at (x ∷ xs) zero (suc j) a b r p q l =
+    subst (λ (z : Delivered). Below z.stamp b.stamp) (same_Some x a p) (r.0 b (place_in xs j b q))
 rising_at (x ∷ xs) (suc i) (suc j) a b r p q l = rising_at xs i j a b r.1 p q (omega arith)
 
 in_at : {X : Type 0} (x : X) (xs : List X) → In x xs → (k : ℕ) × (slice_get xs k ≡ Some x)
@@ -34,7 +37,8 @@ in_at x [] h = absurd h
 in_at x (y ∷ xs) (inl e) = (0, ap Some (sym e))
 in_at x (y ∷ xs) (inr h) = let r = in_at x xs h in (suc r.0, r.1)
 
-in_take_at : {X : Type 0} (x : X) (m : ℕ) (xs : List X) → In x (take m xs) → (k : ℕ) × (k < m) × (slice_get xs k ≡ Some x)
+in_take_at : {X : Type 0} (x : X) (m : ℕ) (xs : List X) → In x (take m xs)
+    → (k : ℕ) × (k < m) × (slice_get xs k ≡ Some x)
 in_take_at x zero [] h = absurd h
 in_take_at x zero (y ∷ xs) h = absurd h
 in_take_at x (suc m) [] h = absurd h
@@ -47,7 +51,8 @@ take_at_in x zero (y ∷ xs) k l e = absurd (omega arith)
 take_at_in x (suc m) (y ∷ xs) zero l e = inl (sym (same_Some y x e))
 take_at_in x (suc m) (y ∷ xs) (suc k) l e = inr (take_at_in x m xs k (omega arith) e)
 
-pub run_facts : (start : Op → ℕ → Start) (n registers : ℕ) (events : List Event) → KeepsLaws start → RunFacts n registers (traced start n registers events)
+pub run_facts : (start : Op → ℕ → Start) (n registers : ℕ) (events : List Event) → KeepsLaws start
+    → RunFacts n registers (traced start n registers events)
 run_facts start n registers events laws =
     let w = traced start n registers events in
     let k0 = w.count in

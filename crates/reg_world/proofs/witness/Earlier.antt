@@ -1,5 +1,6 @@
 -- Updates stand after what was answered before their call: the run up to that answer has delivered no cast of theirs.
-use Rattle.std.proofs.Common.{◌≡◌, ◌≢◌, ℕ, ◌+◌, ◌<◌, ◌≤◌, ◌⊎◌, inl, inr, List, length, refl, ap, sym, ◌∙◌, subst, arith, length-append}
+use Rattle.std.proofs.Common.{◌≡◌, ◌≢◌, ℕ, ◌+◌, ◌<◌, ◌≤◌, ◌⊎◌, inl, inr, List, length, refl, ap, sym, ◌∙◌, subst, arith}
+use Rattle.std.proofs.Common.{length-append}
 use Rattle.std.proofs.lemmas.Bool.{cases_order}
 use Rattle.reg_base.specs.declared.memory.OpId.{OpId}
 use Rattle.reg_base.specs.declared.memory.Op.{Op}
@@ -18,7 +19,8 @@ use Rattle.reg_world.specs.declared.order.First.{First}
 use Rattle.reg_world.specs.declared.order.CopyRead.{CopyRead}
 use Rattle.reg_world.specs.Runs.{Run}
 use Rattle.reg_world.specs.Keys.{Key, IsBelow, HasKey, Copied, Delivered, Lost, Keyed, IsWitness}
-use Rattle.reg_world.specs.RealTime.{IsEarlier, IsCallOf, WaitsForDelivery, AnswersNothingFirst, KeepsUpdates, KeepsAllUpdates, KeepsRealTime}
+use Rattle.reg_world.specs.RealTime.{IsEarlier, IsCallOf, WaitsForDelivery, AnswersNothingFirst, KeepsUpdates}
+use Rattle.reg_world.specs.RealTime.{KeepsAllUpdates, KeepsRealTime}
 use Rattle.reg_world.specs.World.{World, whole}
 use Rattle.reg_world.proofs.lists.Bodies.{place_first, place_split}
 use Rattle.reg_world.proofs.lists.Members.{in_at, at_in}
@@ -187,7 +189,10 @@ module _ (start : Op → ℕ → Start) (n registers : ℕ) (laws : KeepsLaws st
 pub casts_wait : (start : Op → ℕ → Start) → CastsAll start → AnswersNothingFirst start
 casts_wait start all op u first = let z = sym (all op u) ∙ first in absurd (let bad : ⊥ = cc in bad)
 
-pub keeps_real_time : (start : Op → ℕ → Start) (n registers : ℕ) (all : CastsAll start) (events : List Event) (ids : List OpId) → IsWitness (R start n registers (laws_of start all) events) ids → KeepsRealTime (whole start n registers events).history ids
+pub keeps_real_time : (start : Op → ℕ → Start) (n registers : ℕ) (all : CastsAll start) (events : List Event)
+    (ids : List OpId)
+    → IsWitness (R start n registers (laws_of start all) events) ids
+    → KeepsRealTime (whole start n registers events).history ids
 keeps_real_time start n registers all events ids wit i j a b at1 at2 earlier =
     let laws = laws_of start all in
     let ok = is_run start n registers laws events in

@@ -1,5 +1,6 @@
 -- Where every operation is cast, first deliveries lie between call and answer.
-use Rattle.std.proofs.Common.{◌≡◌, ℕ, zero, suc, ◌<◌, ◌≤◌, List, [], ◌∷◌, map, Option, Some, None, refl, sym, ap, ◌∙◌, subst, inl, inr, arith}
+use Rattle.std.proofs.Common.{◌≡◌, ℕ, zero, suc, ◌<◌, ◌≤◌, List, [], ◌∷◌, map, Option, Some, None, refl, sym, ap, ◌∙◌}
+use Rattle.std.proofs.Common.{subst, inl, inr, arith}
 use Rattle.std.specs.Prelude.{slice_get}
 use Rattle.std.proofs.lemmas.Option.{same_Some, none-some}
 use Rattle.reg_base.specs.declared.stamps.Stamp.{Stamp}
@@ -18,7 +19,8 @@ use Rattle.reg_process.specs.declared.events.Event.{Event}
 use Rattle.reg_world.specs.declared.order.First.{First}
 use Rattle.reg_world.specs.Runs.{Cast}
 use Rattle.reg_world.specs.World.{World}
-use Rattle.reg_world.proofs.run.Traced.{Called as PastCall, Answered as PastAnswer, First as PastFirst, Trace, called_in, NeverFalls, TimesRight, plain}
+use Rattle.reg_world.proofs.run.Traced.{Called as PastCall, Answered as PastAnswer, First as PastFirst, Trace}
+use Rattle.reg_world.proofs.run.Traced.{called_in, NeverFalls, TimesRight, plain}
 use Rattle.reg_world.proofs.witness.Times.{laws_of, times_right}
 use Rattle.reg_world.proofs.one_memory.Copied.{each_call}
 use Rattle.reg_world.proofs.lists.Bodies.{place_in}
@@ -34,17 +36,20 @@ use Rattle.reg_world.proofs.witness.Grounds.{IsRealTime}
 abbrev MadeCast : PastCall → Type 0
 MadeCast d = d.cast ≡ None → ⊥
 
-step_casts : (start : Op → ℕ → Start) → CastsAll start → (at : ℕ) (s : State) (e : Step) (d : PastCall) → In d (called_in at e (step start s e).1.cast) → MadeCast d
+step_casts : (start : Op → ℕ → Start) → CastsAll start → (at : ℕ) (s : State) (e : Step) (d : PastCall)
+    → In d (called_in at e (step start s e).1.cast) → MadeCast d
 step_casts start all at s (Call op) =
     subst (λ st. (d : PastCall) → In d (called_in at (Call op) (called s op st).1.cast) → MadeCast d) (sym (all op (unsettled s)))
     (λ d i. elim i [ inl e ↦ (λ none. none-some _ (sym none ∙ ap (λ (z : PastCall). z.cast) e)) | inr f ↦ absurd f ])
 step_casts start all at s (Take a f) = λ d i. absurd i
 step_casts start all at s Tick = λ d i. absurd i
 
-falls_never : (fs : List PastFirst) (i j : ℕ) (a b : PastFirst) → NeverFalls fs → slice_get fs i ≡ Some a → slice_get fs j ≡ Some b → i < j → a.at ≤ b.at
+falls_never : (fs : List PastFirst) (i j : ℕ) (a b : PastFirst) → NeverFalls fs → slice_get fs i ≡ Some a
+    → slice_get fs j ≡ Some b → i < j → a.at ≤ b.at
 falls_never [] i j a b h p q l = absurd (none-some a p)
 falls_never (f ∷ fs) i zero a b h p q l = absurd (omega arith)
-falls_never (f ∷ fs) zero (suc j) a b h p q l = subst (λ (z : PastFirst). z.at ≤ b.at) (same_Some f a p) (h.0 b (place_in fs j b q))
+falls_never (f ∷ fs) zero (suc j) a b h p q l =
+    subst (λ (z : PastFirst). z.at ≤ b.at) (same_Some f a p) (h.0 b (place_in fs j b q))
 falls_never (f ∷ fs) (suc i) (suc j) a b h p q l = falls_never fs i j a b h.1 p q (omega arith)
 
 plain_at : (fs : List First) (k : ℕ) (c : First) → IsAt fs k c → slice_get (map plain fs) k ≡ Some (plain c)

@@ -24,7 +24,8 @@ before_self : (s : Stamp) → Below s s → ⊥
 before_self s h = before_not_after s s h h
 
 -- places in the order go by stamps
-place_below : (r : Run) → IsRun r → (i j : ℕ) (a b : First) → IsAt r.order i a → IsAt r.order j b → Below a.stamp b.stamp → i < j
+place_below : (r : Run) → IsRun r → (i j : ℕ) (a b : First) → IsAt r.order i a → IsAt r.order j b
+    → Below a.stamp b.stamp → i < j
 place_below r ok i j a b at1 at2 before = go (cases_order i j)
   where
     go : (i ≡ j) ⊎ ((i < j) ⊎ (j < i)) → i < j
@@ -35,7 +36,8 @@ place_below r ok i j a b at1 at2 before = go (cases_order i j)
     go (inr (inr gt)) = absurd (before_not_after a.stamp b.stamp before (ok.rising j i b a at2 at1 gt))
 
 -- an id stands once in the order
-pub order_once : (r : Run) → IsRun r → (i j : ℕ) (a b : First) → IsAt r.order i a → IsAt r.order j b → a.id ≡ b.id → i ≡ j
+pub order_once : (r : Run) → IsRun r → (i j : ℕ) (a b : First) → IsAt r.order i a → IsAt r.order j b → a.id ≡ b.id
+    → i ≡ j
 order_once r ok i j a b at1 at2 same = go (cases_order i j)
   where
     stamps : a.stamp ≡ b.stamp
@@ -56,13 +58,17 @@ key_once r ok id k l (Copied q in1 is1 e1) (Copied p in2 is2 e2) =
   where
     same_le : {a b : ℕ} → a ≡ b → a ≤ b
     same_le e = omega arith
-key_once r ok id k l (Copied q in1 is1 e1) (Delivered n c at2 is2 kept e2) = absurd ((ok.copied q in1).no_cast (cast_of c) (ok.delivered n c at2) (is2 ∙ sym is1))
-key_once r ok id k l (Copied q in1 is1 e1) (Lost d in2 is2 waits fin e2) = absurd ((ok.copied q in1).no_cast d in2 (is2 ∙ sym is1))
-key_once r ok id k l (Delivered n c at1 is1 kept e1) (Copied q in2 is2 e2) = absurd ((ok.copied q in2).no_cast (cast_of c) (ok.delivered n c at1) (is1 ∙ sym is2))
+key_once r ok id k l (Copied q in1 is1 e1) (Delivered n c at2 is2 kept e2) =
+    absurd ((ok.copied q in1).no_cast (cast_of c) (ok.delivered n c at2) (is2 ∙ sym is1))
+key_once r ok id k l (Copied q in1 is1 e1) (Lost d in2 is2 waits fin e2) =
+    absurd ((ok.copied q in1).no_cast d in2 (is2 ∙ sym is1))
+key_once r ok id k l (Delivered n c at1 is1 kept e1) (Copied q in2 is2 e2) =
+    absurd ((ok.copied q in2).no_cast (cast_of c) (ok.delivered n c at1) (is1 ∙ sym is2))
 key_once r ok id k l (Delivered n c at1 is1 kept1 e1) (Delivered m d at2 is2 kept2 e2) =
     e1 ∙ (ap (λ (i : ℕ). key i 1 0 0) (order_once r ok n m c d at1 at2 (is1 ∙ sym is2)) ∙ sym e2)
 key_once r ok id k l (Delivered n c at1 is1 kept e1) (Lost d in2 is2 waits fin e2) = absurd (waits n c at1 is1)
-key_once r ok id k l (Lost d in1 is1 waits fin e1) (Copied q in2 is2 e2) = absurd ((ok.copied q in2).no_cast d in1 (is1 ∙ sym is2))
+key_once r ok id k l (Lost d in1 is1 waits fin e1) (Copied q in2 is2 e2) =
+    absurd ((ok.copied q in2).no_cast d in1 (is1 ∙ sym is2))
 key_once r ok id k l (Lost d in1 is1 waits fin e1) (Delivered n c at2 is2 kept e2) = absurd (waits n c at2 is2)
 key_once r ok id k l (Lost d in1 is1 waits1 fin1 e1) (Lost b in2 is2 waits2 fin2 e2) =
     e1 ∙ (ap (λ (c : Cast). key (length r.order) 2 c.stamp.time c.stamp.process) (ok.one_cast d b in1 in2 (is1 ∙ sym is2)) ∙ sym e2)
@@ -77,7 +83,8 @@ below_at : (k l x y : Key) → k ≡ x → l ≡ y → IsBelow x y → IsBelow k
 below_at k l x y e1 e2 h = subst (λ (z : Key). IsBelow z l) (sym e1) (subst (λ (z : Key). IsBelow x z) (sym e2) h)
 
 -- the keys of one process rise with its numbers
-pub own_below : (r : Run) → IsRun r → (a b : OpId) (k l : Key) → HasKey r a k → HasKey r b l → a.process ≡ b.process → a.number < b.number → IsBelow k l
+pub own_below : (r : Run) → IsRun r → (a b : OpId) (k l : Key) → HasKey r a k → HasKey r b l → a.process ≡ b.process
+    → a.number < b.number → IsBelow k l
 own_below r ok a b k l (Copied q in1 is1 e1) (Copied p in2 is2 e2) same lt =
     let pq : q.id.process ≡ p.id.process = cc in
     let le : q.place ≤ p.place = ok.places q p in1 in2 pq (weaker (numbers is1 is2 lt)) in

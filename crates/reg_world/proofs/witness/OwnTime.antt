@@ -10,7 +10,8 @@ use Rattle.reg_checkers.proofs.Places.{same_at, at_take, in_take}
 use Rattle.reg_checkers.proofs.Histories.{events_rise}
 use Rattle.reg_world.specs.RealTime.{IsEarlier, KeepsOwnTime}
 
-number_rises : (n registers : ℕ) (h : List Entry) → IsHistory n registers h → (a b : OpId) → IsEarlier h a b → a.process ≡ b.process → a.number < b.number
+number_rises : (n registers : ℕ) (h : List Entry) → IsHistory n registers h → (a b : OpId) → IsEarlier h a b
+    → a.process ≡ b.process → a.number < b.number
 number_rises n registers h good a b (s, t, answer, op, (i, ans), (j, call), less) same = go (cases_order i j)
   where
     not_same : {x y : Entry} → x ≡ y → x ≡ Answered s a answer → y ≡ Called t b op → ⊥
@@ -26,5 +27,7 @@ number_rises n registers h good a b (s, t, answer, op, (i, ans), (j, call), less
         ((good j (Called t b op) call).next a.number).1 was
     go (inr (inr after)) = let z = events_rise n registers h good j i (Called t b op) (Answered s a answer) call ans after in absurd (omega (arith, z, less))
 
-pub own_time : (n registers : ℕ) (h : List Entry) (ids : List OpId) → IsHistory n registers h → IsSerial registers h ids → KeepsOwnTime h ids
-own_time n registers h ids good serial i j a b at1 at2 earlier same = serial.own_order i j a b at1 at2 same (number_rises n registers h good a b earlier same)
+pub own_time : (n registers : ℕ) (h : List Entry) (ids : List OpId) → IsHistory n registers h → IsSerial registers h ids
+    → KeepsOwnTime h ids
+own_time n registers h ids good serial i j a b at1 at2 earlier same =
+    serial.own_order i j a b at1 at2 same (number_rises n registers h good a b earlier same)

@@ -1,5 +1,6 @@
 -- The first deliveries are a point order.
-use Rattle.std.proofs.Common.{◌≡◌, ℕ, zero, suc, ◌+◌, ◌<◌, ◌≤◌, inl, List, [], ◌∷◌, map, Some, refl, ap, sym, ◌∙◌, subst, arith}
+use Rattle.std.proofs.Common.{◌≡◌, ℕ, zero, suc, ◌+◌, ◌<◌, ◌≤◌, inl, List, [], ◌∷◌, map, Some, refl, ap, sym, ◌∙◌}
+use Rattle.std.proofs.Common.{subst, arith}
 use Rattle.std.proofs.lemmas.Option.{same_Some}
 use Rattle.reg_base.specs.declared.memory.OpId.{OpId}
 use Rattle.reg_base.specs.declared.memory.Op.{Op}
@@ -9,27 +10,33 @@ use Rattle.reg_checkers.specs.declared.entries.Point.{Point}
 use Rattle.reg_checkers.specs.History.{IsAt, IsCalled, IsAnswered}
 use Rattle.reg_checkers.specs.Orders.{IsSerial, IsPointOrder}
 use Rattle.reg_world.specs.Runs.{Run}
-use Rattle.reg_world.specs.Keys.{Key, key, IsBelow, IsKept, HasKey, Copied, Delivered, Lost, Keyed, IsByKeys, Keeps, Nothing, Takes, Leaves, ArePoints}
+use Rattle.reg_world.specs.Keys.{Key, key, IsBelow, IsKept, HasKey, Copied, Delivered, Lost, Keyed, IsByKeys, Keeps}
+use Rattle.reg_world.specs.Keys.{Nothing, Takes, Leaves, ArePoints}
 use Rattle.reg_checkers.proofs.Places.{at_map}
 use Rattle.reg_world.proofs.witness.Once.{cast_of}
 use Rattle.reg_world.proofs.witness.Serial.{witness_serial}
 use Rattle.reg_world.proofs.witness.Grounds.{IsRun, IsRealTime}
 
 -- what is kept stood in the list, and in the same order
-pub keeps_at : {X : Type 0} {P : X → Type 0} {xs ys : List X} → Keeps P xs ys → (i : ℕ) (y : X) → IsAt ys i y → (k : ℕ) × IsAt xs k y
+pub keeps_at : {X : Type 0} {P : X → Type 0} {xs ys : List X} → Keeps P xs ys → (i : ℕ) (y : X) → IsAt ys i y
+    → (k : ℕ) × IsAt xs k y
 keeps_at Nothing i y at = absurd cc
 keeps_at (Leaves out rest) i y at = let r = keeps_at rest i y at in (suc r.0, r.1)
 keeps_at (Takes here rest) zero y at = (0, at)
 keeps_at (Takes here rest) (suc i) y at = let r = keeps_at rest i y at in (suc r.0, r.1)
 
-pub keeps_order : {X : Type 0} {P : X → Type 0} {xs ys : List X} → Keeps P xs ys → (i j : ℕ) (a b : X) → IsAt ys i a → IsAt ys j b → i < j
+pub keeps_order : {X : Type 0} {P : X → Type 0} {xs ys : List X} → Keeps P xs ys → (i j : ℕ) (a b : X) → IsAt ys i a
+    → IsAt ys j b → i < j
     → (k : ℕ) × (l : ℕ) × IsAt xs k a × IsAt xs l b × (k < l)
 keeps_order Nothing i j a b at1 at2 lt = absurd cc
-keeps_order (Leaves out rest) i j a b at1 at2 lt = let r = keeps_order rest i j a b at1 at2 lt in (suc r.0, suc r.1, r.2, r.3, omega (arith, r.4))
+keeps_order (Leaves out rest) i j a b at1 at2 lt =
+    let r = keeps_order rest i j a b at1 at2 lt in (suc r.0, suc r.1, r.2, r.3, omega (arith, r.4))
 keeps_order (Takes here rest) zero zero a b at1 at2 lt = absurd (omega arith)
-keeps_order (Takes here rest) zero (suc j) a b at1 at2 lt = let r = keeps_at rest j b at2 in (0, suc r.0, at1, r.1, omega arith)
+keeps_order (Takes here rest) zero (suc j) a b at1 at2 lt =
+    let r = keeps_at rest j b at2 in (0, suc r.0, at1, r.1, omega arith)
 keeps_order (Takes here rest) (suc i) zero a b at1 at2 lt = absurd (omega arith)
-keeps_order (Takes here rest) (suc i) (suc j) a b at1 at2 lt = let r = keeps_order rest i j a b at1 at2 (omega arith) in (suc r.0, suc r.1, r.2, r.3, omega (arith, r.4))
+keeps_order (Takes here rest) (suc i) (suc j) a b at1 at2 lt =
+    let r = keeps_order rest i j a b at1 at2 (omega arith) in (suc r.0, suc r.1, r.2, r.3, omega (arith, r.4))
 
 -- each kept cast with the key of its place, n being the place of the first
 abbrev keyed_of : {P : First → Type 0} {xs ys : List First} → ℕ → Keeps P xs ys → List Keyed
@@ -37,7 +44,8 @@ keyed_of n Nothing = []
 keyed_of n (Takes {x = x} here rest) = record { id = x.id; key = key n 1 0 0 } ∷ keyed_of (suc n) rest
 keyed_of n (Leaves out rest) = keyed_of (suc n) rest
 
-keyed_ids : {P : First → Type 0} {xs ys : List First} (n : ℕ) (k : Keeps P xs ys) → map (λ e. e.id) (keyed_of n k) ≡ map (λ c. c.id) ys
+keyed_ids : {P : First → Type 0} {xs ys : List First} (n : ℕ) (k : Keeps P xs ys)
+    → map (λ e. e.id) (keyed_of n k) ≡ map (λ c. c.id) ys
 keyed_ids n Nothing = refl
 keyed_ids n (Takes {x = x} here rest) = ap (λ ids. x.id ∷ ids) (keyed_ids (suc n) rest)
 keyed_ids n (Leaves out rest) = keyed_ids (suc n) rest
@@ -46,12 +54,14 @@ keyed_ids n (Leaves out rest) = keyed_ids (suc n) rest
 abbrev Told : (First → Type 0) → List First → ℕ → Keyed → Type 0
 Told P xs n e = (j : ℕ) × (c : First) × IsAt xs j c × P c × (e ≡ record { id = c.id; key = key (n + j) 1 0 0 })
 
-told_next : {P : First → Type 0} (x : First) (xs : List First) (n : ℕ) (e : Keyed) → Told P xs (suc n) e → Told P (x ∷ xs) n e
+told_next : {P : First → Type 0} (x : First) (xs : List First) (n : ℕ) (e : Keyed) → Told P xs (suc n) e
+    → Told P (x ∷ xs) n e
 told_next x xs n e (j, c, at, p, is) =
     let sum : suc n + j ≡ n + suc j = omega arith in
     (suc j, c, at, p, is ∙ ap (λ (k : ℕ). record { id = c.id; key = key k 1 0 0 }) sum)
 
-keyed_each : {P : First → Type 0} {xs ys : List First} (n : ℕ) (k : Keeps P xs ys) (i : ℕ) (e : Keyed) → IsAt (keyed_of n k) i e → Told P xs n e
+keyed_each : {P : First → Type 0} {xs ys : List First} (n : ℕ) (k : Keeps P xs ys) (i : ℕ) (e : Keyed)
+    → IsAt (keyed_of n k) i e → Told P xs n e
 keyed_each n Nothing i e at = absurd cc
 keyed_each n (Leaves {x = x} {xs = xs} out rest) i e at = told_next x xs n e (keyed_each (suc n) rest i e at)
 keyed_each n (Takes {x = x} here rest) zero e at =
@@ -59,7 +69,8 @@ keyed_each n (Takes {x = x} here rest) zero e at =
     (0, x, refl, here, sym (same_Some (record { id = x.id; key = key n 1 0 0 }) e at) ∙ ap (λ (k : ℕ). record { id = x.id; key = key k 1 0 0 }) sum)
 keyed_each n (Takes {x = x} {xs = xs} here rest) (suc i) e at = told_next x xs n e (keyed_each (suc n) rest i e at)
 
-keyed_all : {P : First → Type 0} {xs ys : List First} (n : ℕ) (k : Keeps P xs ys) (j : ℕ) (c : First) → IsAt xs j c → P c
+keyed_all : {P : First → Type 0} {xs ys : List First} (n : ℕ) (k : Keeps P xs ys) (j : ℕ) (c : First) → IsAt xs j c
+    → P c
     → (i : ℕ) × IsAt (keyed_of n k) i (record { id = c.id; key = key (n + j) 1 0 0 })
 keyed_all n Nothing j c at p = absurd cc
 keyed_all n (Takes {x = x} here rest) zero c at p =
@@ -75,18 +86,21 @@ keyed_all n (Leaves {x = x} out rest) (suc j) c at p =
     let sum : suc n + j ≡ n + suc j = omega arith in
     (r.0, r.1 ∙ ap (λ (k : ℕ). Some (record { id = c.id; key = key k 1 0 0 })) sum)
 
-later_place : {P : First → Type 0} (xs : List First) (n m : ℕ) (e : Keyed) → Told P xs n e → m < n → IsBelow (key m 1 0 0) e.key
+later_place : {P : First → Type 0} (xs : List First) (n m : ℕ) (e : Keyed) → Told P xs n e → m < n
+    → IsBelow (key m 1 0 0) e.key
 later_place xs n m e (j, c, at, p, is) lt =
     let place : e.key.place ≡ n + j = ap (λ (f : Keyed). f.key.place) is in inl (omega arith)
 
-keyed_rising : {P : First → Type 0} {xs ys : List First} (n : ℕ) (k : Keeps P xs ys) (i j : ℕ) (a b : Keyed) → IsAt (keyed_of n k) i a → IsAt (keyed_of n k) j b → i < j → IsBelow a.key b.key
+keyed_rising : {P : First → Type 0} {xs ys : List First} (n : ℕ) (k : Keeps P xs ys) (i j : ℕ) (a b : Keyed)
+    → IsAt (keyed_of n k) i a → IsAt (keyed_of n k) j b → i < j → IsBelow a.key b.key
 keyed_rising n Nothing i j a b at1 at2 lt = absurd cc
 keyed_rising n (Leaves out rest) i j a b at1 at2 lt = keyed_rising (suc n) rest i j a b at1 at2 lt
 keyed_rising n (Takes here rest) zero zero a b at1 at2 lt = absurd (omega arith)
 keyed_rising n (Takes {x = x} {xs = xs} here rest) zero (suc j) a b at1 at2 lt =
     subst (λ (e : Keyed). IsBelow e.key b.key) (same_Some (record { id = x.id; key = key n 1 0 0 }) a at1) (later_place xs (suc n) n b (keyed_each (suc n) rest j b at2) (omega arith))
 keyed_rising n (Takes here rest) (suc i) zero a b at1 at2 lt = absurd (omega arith)
-keyed_rising n (Takes here rest) (suc i) (suc j) a b at1 at2 lt = keyed_rising (suc n) rest i j a b at1 at2 (omega arith)
+keyed_rising n (Takes here rest) (suc i) (suc j) a b at1 at2 lt =
+    keyed_rising (suc n) rest i j a b at1 at2 (omega arith)
 
 abbrev point_of : First → Point
 point_of c = record { id = c.id; at = c.at }
@@ -151,5 +165,7 @@ module _ (r : Run) (ok : IsRun r) (real : IsRealTime r) (cs : List First) (kept 
   point_order : IsPointOrder r.registers r.history (map point_of cs)
   point_order = record { selection = serial.selection; legal = serial.legal; called = called; answered = answered; rising = rising }
 
-pub points_order : (r : Run) (ps : List Point) → IsRun r → IsRealTime r → ArePoints r ps → IsPointOrder r.registers r.history ps
-points_order r ps ok real (cs, kept, same) = subst (λ (xs : List Point). IsPointOrder r.registers r.history xs) (sym same) (point_order r ok real cs kept)
+pub points_order : (r : Run) (ps : List Point) → IsRun r → IsRealTime r → ArePoints r ps
+    → IsPointOrder r.registers r.history ps
+points_order r ps ok real (cs, kept, same) =
+    subst (λ (xs : List Point). IsPointOrder r.registers r.history xs) (sym same) (point_order r ok real cs kept)

@@ -1,5 +1,6 @@
 -- What the orders of a run rest on, of every run.
-use Rattle.std.proofs.Common.{◌≡◌, ◌≢◌, ℕ, zero, suc, ◌<◌, ◌≤◌, List, [], ◌∷◌, length, map, take, Option, Some, None, refl, sym, ap, ◌∙◌, subst, inl, inr, arith}
+use Rattle.std.proofs.Common.{◌≡◌, ◌≢◌, ℕ, zero, suc, ◌<◌, ◌≤◌, List, [], ◌∷◌, length, map, take, Option, Some, None}
+use Rattle.std.proofs.Common.{refl, sym, ap, ◌∙◌, subst, inl, inr, arith}
 use Rattle.std.specs.Prelude.{slice_get}
 use Rattle.std.proofs.lemmas.Bool.{cases_order, false≢true}
 use Rattle.std.proofs.lemmas.List.{length-map}
@@ -22,7 +23,8 @@ use Rattle.reg_world.specs.declared.order.First.{First}
 use Rattle.reg_world.specs.declared.order.CopyRead.{CopyRead}
 use Rattle.reg_world.specs.Runs.{Cast, Run, IsWaiting, memory_of}
 use Rattle.reg_world.specs.World.{World, delivered_of, run_of, whole}
-use Rattle.reg_world.proofs.run.Traced.{Called as PastCall, Answered as PastAnswer, Trace, casts_of, cast_of, Stands, traced}
+use Rattle.reg_world.proofs.run.Traced.{Called as PastCall, Answered as PastAnswer, Trace, casts_of, cast_of, Stands}
+use Rattle.reg_world.proofs.run.Traced.{traced}
 use Rattle.reg_world.proofs.witness.Facts.{IsCastAt, IsWaiting as WaitsInTrace, memory_at, RunFacts}
 use Rattle.reg_world.proofs.witness.Bridge.{run_facts}
 use Rattle.reg_world.proofs.lists.Bodies.{place_in}
@@ -71,7 +73,8 @@ module _ (start : Op → ℕ → Start) (n registers : ℕ) (laws : KeepsLaws st
   pub in_trace : (k : ℕ) (c : First) → IsAt W.order k c → slice_get (casts_of V.order) k ≡ Some (delivered_of c)
   in_trace k c at = ap (λ l. slice_get l k) (sym same_casts) ∙ IsAt-map delivered_of W.order k c at
 
-  pub from_trace : (k : ℕ) (d : Delivered) → slice_get (casts_of V.order) k ≡ Some d → (c : First) × IsAt W.order k c × (delivered_of c ≡ d)
+  pub from_trace : (k : ℕ) (d : Delivered) → slice_get (casts_of V.order) k ≡ Some d
+      → (c : First) × IsAt W.order k c × (delivered_of c ≡ d)
   from_trace k d at = at_map delivered_of W.order k d (ap (λ l. slice_get l k) same_casts ∙ at)
 
   same_memory : (k : ℕ) → memory_at registers V k ≡ memory_of R k
@@ -91,7 +94,8 @@ module _ (start : Op → ℕ → Start) (n registers : ℕ) (laws : KeepsLaws st
   first_at k c at = in_at (cast_of_first c) W.casts (J.first c (place_in W.order k c at))
 
   -- two casts of one stamp have one id
-  pub one_id : (a b : Cast) → ((k : ℕ) × IsAt W.casts k a) → ((k : ℕ) × IsAt W.casts k b) → a.stamp ≡ b.stamp → a.id ≡ b.id
+  pub one_id : (a b : Cast) → ((k : ℕ) × IsAt W.casts k a) → ((k : ℕ) × IsAt W.casts k b) → a.stamp ≡ b.stamp
+      → a.id ≡ b.id
   one_id a b i j e =
       let x = cast_at a i in
       let y = cast_at b j in
@@ -122,7 +126,8 @@ module _ (start : Op → ℕ → Start) (n registers : ℕ) (laws : KeepsLaws st
       let x = cast_at d i in
       (x.0.at, subst (λ o. IsCalled W.history d.id x.0.at o) x.3 (in_at (Called x.0.at d.id x.0.op) W.history (J.calls d.id x.0 x.1)))
 
-  pub no_cast : (id : OpId) (d : PastCall) → IsPastCall n V.pasts id d → d.cast ≡ None → (c : Cast) → ((k : ℕ) × IsAt W.casts k c) → c.id ≢ id
+  pub no_cast : (id : OpId) (d : PastCall) → IsPastCall n V.pasts id d → d.cast ≡ None → (c : Cast)
+      → ((k : ℕ) × IsAt W.casts k c) → c.id ≢ id
   no_cast id d call none c i same =
       let x = cast_at c i in
       let one : x.0 ≡ d = same_call id x.0 d (subst (λ z. IsPastCall n V.pasts z x.0) same x.1) call in
@@ -170,7 +175,9 @@ module _ (start : Op → ℕ → Start) (n registers : ℕ) (laws : KeepsLaws st
         ]
       ]
 
-  pub came : (id : OpId) (a : PastAnswer) (d : PastCall) → IsPastAnswer n V.pasts id a → IsPastCall n V.pasts id d → slice_get (V.pasts id.process).calls a.number ≡ Some d → (o : Option Stamp) → d.cast ≡ o → Came R id d.op a.reply.place
+  pub came : (id : OpId) (a : PastAnswer) (d : PastCall) → IsPastAnswer n V.pasts id a → IsPastCall n V.pasts id d
+      → slice_get (V.pasts id.process).calls a.number ≡ Some d → (o : Option Stamp) → d.cast ≡ o
+      → Came R id d.op a.reply.place
   came id a d given call at None none =
       FromCopy (in_at (record { id = id; place = a.reply.place }) W.reads (J.reads id a d given call none))
       (λ up. false≢true (sym (F.copied id.process a.number d at none) ∙ up))
@@ -189,7 +196,9 @@ module _ (start : Op → ℕ → Start) (n registers : ℕ) (laws : KeepsLaws st
       ]
 
   -- an answer with its call: within the order, how it came, and that it is the memory's
-  pub told_reply : (id : OpId) (a : PastAnswer) (d : PastCall) → IsPastAnswer n V.pasts id a → IsPastCall n V.pasts id d → (a.reply.place ≤ length W.order) × Came R id d.op a.reply.place × (a.reply.answer ≡ answer_of d.op (memory_of R a.reply.place))
+  pub told_reply : (id : OpId) (a : PastAnswer) (d : PastCall) → IsPastAnswer n V.pasts id a → IsPastCall n V.pasts id d
+      → (a.reply.place ≤ length W.order) × Came R id d.op a.reply.place
+      × (a.reply.answer ≡ answer_of d.op (memory_of R a.reply.place))
   told_reply id a d given call =
       let p = id.process in
       let at : slice_get (V.pasts p).calls a.number ≡ Some d = subst (λ k. slice_get (V.pasts p).calls k ≡ Some d) (sym given.2) call.1 in

@@ -30,7 +30,8 @@ use Rattle.reg_world.proofs.lists.Members.{in_at, at_in, map_in}
 use Rattle.reg_world.proofs.one_memory.Joined.{Joined}
 use Rattle.reg_world.proofs.one_memory.Added.{cast_of_first, IsPastCall}
 use Rattle.reg_world.proofs.one_memory.Kept.{call_of}
-use Rattle.reg_world.proofs.witness.Premises.{W, V, J, G, K, same_casts, first_at, ordered, told_reply, one_id, from_trace}
+use Rattle.reg_world.proofs.witness.Premises.{W, V, J, G, K, same_casts, first_at, ordered, told_reply, one_id}
+use Rattle.reg_world.proofs.witness.Premises.{from_trace}
 use Rattle.reg_world.proofs.one_order.NodeLaws.{inv_of, no_refusal}
 
 module _ (start : Op → ℕ → Start) (n registers : ℕ) (laws : KeepsLaws start) (events : List Event) where

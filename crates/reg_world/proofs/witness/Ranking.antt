@@ -1,5 +1,6 @@
 -- Lists sorted by rank, then by process, then by number.
-use Rattle.std.proofs.Common.{◌≡◌, ◌≢◌, ℕ, ◌<◌, ◌⊎◌, Bool, true, false, not, List, refl, sym, ap, ◌∙◌, subst, inl, inr, arith}
+use Rattle.std.proofs.Common.{◌≡◌, ◌≢◌, ℕ, ◌<◌, ◌⊎◌, Bool, true, false, not, List, refl, sym, ap, ◌∙◌, subst, inl, inr}
+use Rattle.std.proofs.Common.{arith}
 use Rattle.std.specs.Prelude.{◌&&◌}
 use Rattle.std.specs.List.Sorted.{ties}
 use Rattle.std.specs.Ordering.{nat_cmp, is_lt}
@@ -57,7 +58,8 @@ up a b e ne = elim (compare a b) [
 ]
 
 tied_self : (x : Ranked) → ties lower x x ≡ true
-tied_self x = rw (same_is x.rank x.rank refl, same_is x.id.process x.id.process refl, same_is x.id.number x.id.number refl)
+tied_self x =
+    rw (same_is x.rank x.rank refl, same_is x.id.process x.id.process refl, same_is x.id.number x.id.number refl)
 
 tied_same : (x a : Ranked) → ties lower x a ≡ true → a ≡ x
 tied_same x a e = elim (compare x a) [

@@ -16,7 +16,8 @@ use Rattle.reg_world.proofs.witness.Once.{cast_of, before_not_after}
 use Rattle.reg_world.proofs.witness.Grounds.{IsCopied, IsRun, Came, AtDelivery, AtOnce, FromCopy, IsOrdered}
 
 -- an id stands once in the order
-stands_once : (r : Run) → IsOrdered r → (i j : ℕ) (a b : First) → IsAt r.order i a → IsAt r.order j b → a.id ≡ b.id → i ≡ j
+stands_once : (r : Run) → IsOrdered r → (i j : ℕ) (a b : First) → IsAt r.order i a → IsAt r.order j b → a.id ≡ b.id
+    → i ≡ j
 stands_once r ok i j a b at1 at2 same = go (cases_order i j)
   where
     stamps : a.stamp ≡ b.stamp

@@ -1,5 +1,6 @@
 -- The witness of a run is a serial order.
-use Rattle.std.proofs.Common.{◌≡◌, ◌≢◌, ℕ, zero, suc, ◌<◌, ◌⊎◌, inl, inr, List, [], ◌∷◌, map, length, refl, ap, ap₂, sym, ◌∙◌, subst, arith}
+use Rattle.std.proofs.Common.{◌≡◌, ◌≢◌, ℕ, zero, suc, ◌<◌, ◌⊎◌, inl, inr, List, [], ◌∷◌, map, length, refl, ap, ap₂}
+use Rattle.std.proofs.Common.{sym, ◌∙◌, subst, arith}
 use Rattle.std.proofs.lemmas.Bool.{cases_order, cases_eq}
 use Rattle.std.proofs.lemmas.Option.{same_Some}
 use Rattle.reg_base.specs.declared.memory.OpId.{OpId}
@@ -25,7 +26,8 @@ same_id a b = go (cases_eq a.process b.process) (cases_eq a.number b.number)
     go (inr p) other = inr (λ e. p (ap (λ (x : OpId). x.process) e))
 
 -- the id stands in the order, or nowhere in it
-in_order : (xs : List First) (id : OpId) → ((k : ℕ) × (c : First) × IsAt xs k c × (c.id ≡ id)) ⊎ ((k : ℕ) (c : First) → IsAt xs k c → c.id ≢ id)
+in_order : (xs : List First) (id : OpId)
+    → ((k : ℕ) × (c : First) × IsAt xs k c × (c.id ≡ id)) ⊎ ((k : ℕ) (c : First) → IsAt xs k c → c.id ≢ id)
 in_order [] id = inr (λ k c at. absurd cc)
 in_order (x ∷ xs) id = go (same_id x.id id) (in_order xs id)
   where
@@ -53,7 +55,8 @@ finished_has_key r ok id fin = go (ok.finished id fin)
 
 -- what has a key may stand in an order
 key_may_stand : (r : Run) → IsRun r → (id : OpId) (k : Key) → HasKey r id k → MayStand r.history id
-key_may_stand r ok id k (Copied q in' is e) = inl (subst (λ (x : OpId). IsFinished r.history x) is (ok.copied q in').finished)
+key_may_stand r ok id k (Copied q in' is e) =
+    inl (subst (λ (x : OpId). IsFinished r.history x) is (ok.copied q in').finished)
 key_may_stand r ok id k (Delivered n c at is (inl up) e) =
     let made = ok.called (cast_of c) (ok.delivered n c at) in
     inr (made.0, c.op, subst (λ (x : OpId). IsCalled r.history x made.0 c.op) is made.1, up)
@@ -135,4 +138,5 @@ module _ (r : Run) (ok : IsRun r) (w : List Keyed) (keyed : IsByKeys r w) where
   }
 
 pub witness_serial : (r : Run) (ids : List OpId) → IsRun r → IsWitness r ids → IsSerial r.registers r.history ids
-witness_serial r ids ok (w, keyed, same) = subst (λ (xs : List OpId). IsSerial r.registers r.history xs) (sym same) (serial r ok w keyed)
+witness_serial r ids ok (w, keyed, same) =
+    subst (λ (xs : List OpId). IsSerial r.registers r.history xs) (sym same) (serial r ok w keyed)

@@ -1,5 +1,6 @@
 -- First deliveries lie between call and answer, where every operation is cast.
-use Rattle.std.proofs.Common.{◌≡◌, ℕ, ◌+◌, ◌-◌, ◌<◌, ◌≤◌, max, List, [], ◌∷◌, ◌++◌, length, Option, Some, None, refl, sym, ap, ◌∙◌, subst, inl, inr, arith}
+use Rattle.std.proofs.Common.{◌≡◌, ℕ, ◌+◌, ◌-◌, ◌<◌, ◌≤◌, max, List, [], ◌∷◌, ◌++◌, length, Option, Some, None, refl}
+use Rattle.std.proofs.Common.{sym, ap, ◌∙◌, subst, inl, inr, arith}
 use Rattle.std.specs.Prelude.{◌==◌, ◌&&◌, slice_get}
 use Rattle.std.specs.List.{list_any}
 use Rattle.std.proofs.lemmas.Bool.{cond_both, eqb-true, and_parts}
@@ -17,11 +18,15 @@ use Rattle.reg_front.specs.declared.starts.Start.TheVariants.{Cast as Casts}
 use Rattle.reg_process.specs.declared.steps.Step.{Step}
 use Rattle.reg_process.specs.declared.steps.Step.TheVariants.{Call, Take, Tick}
 use Rattle.reg_base.specs.Order.{In, insert}
-use Rattle.reg_process.specs.Process.{State, Running, Own, Held, is_clear, stamp_at, cast_at, clear_casts, casts_before, reply_after, reply_of, cast_made, called, taken, accepted, accepts, queues, quiet, got_frames, peer_at, unsettled, step, Outcome}
+use Rattle.reg_process.specs.Process.{State, Running, Own, Held, is_clear, stamp_at, cast_at, clear_casts, casts_before}
+use Rattle.reg_process.specs.Process.{reply_after, reply_of, cast_made, called, taken, accepted, accepts, queues, quiet}
+use Rattle.reg_process.specs.Process.{got_frames, peer_at, unsettled, step, Outcome}
 use Rattle.reg_front.specs.Fronts.{MayStart, KeepsLaws, CastsAll}
 use Rattle.reg_world.specs.Nodes.{Node, op_in, after_step, unseen}
 use Rattle.reg_world.specs.NodeParts.{nodes_after}
-use Rattle.reg_world.proofs.run.Traced.{Trace, casts_of, Called, Answered, Past, answered_in, past_after, pasts_after, cast_of, NeverFalls, TimesRight, First, firsts, order_after, count_after, called_in, traced}
+use Rattle.reg_world.proofs.run.Traced.{Trace, casts_of, Called, Answered, Past, answered_in, past_after, pasts_after}
+use Rattle.reg_world.proofs.run.Traced.{cast_of, NeverFalls, TimesRight, First, firsts, order_after, count_after}
+use Rattle.reg_world.proofs.run.Traced.{called_in, traced}
 use Rattle.reg_process.specs.declared.events.Event.{Event}
 use Rattle.reg_world.proofs.one_order.Acts.{put_cases}
 use Rattle.reg_world.proofs.one_order.Runs.{StepKept}
@@ -45,7 +50,10 @@ pub laws_of : (start : Op → ℕ → Start) → CastsAll start → KeepsLaws st
 laws_of start all op u = subst (MayStart op u) (sym (all op u)) tt
 
 -- where the reply is of an own cast, that is delivered
-own_reply : (s : State) (running : Option Running) (k : ℕ) (calls : List Called) (r : Reply) (d : Called) (stamp : Stamp) → Runs s running → RunsAs k calls running → reply_of s (clear_casts s) running ≡ Some r → slice_get calls (k - 1) ≡ Some d → d.cast ≡ Some stamp → In (cast_of stamp d.op) (clear_casts s)
+own_reply : (s : State) (running : Option Running) (k : ℕ) (calls : List Called) (r : Reply) (d : Called)
+    (stamp : Stamp)
+    → Runs s running → RunsAs k calls running → reply_of s (clear_casts s) running ≡ Some r
+    → slice_get calls (k - 1) ≡ Some d → d.cast ≡ Some stamp → In (cast_of stamp d.op) (clear_casts s)
 own_reply s None k calls r d stamp runs last e at c = absurd (let bad : ⊥ = cc in bad)
 own_reply s (Some (Own st op)) k calls r d stamp runs last e at c =
     let same : d ≡ record { op = op; at = last.1.0; cast = Some st } = same_Some _ _ (sym at ∙ last.1.1) in
@@ -99,7 +107,9 @@ module _ (p at : ℕ) (x : Node) (h : Past) (W : Runs x.state x.state.running) (
   step_own start all Tick = λ y d stamp e q c. absurd (none-some y e)
 
   -- a new call's stamp is above the clock
-  pub step_late : (start : Op → ℕ → Start) → CastsAll start → (e : Step) (d : Called) (stamp : Stamp) → In d (called_in at e (step start x.state e).1.cast) → d.cast ≡ Some stamp → (stamp.process ≡ x.state.me) × (x.state.clock < stamp.time)
+  pub step_late : (start : Op → ℕ → Start) → CastsAll start → (e : Step) (d : Called) (stamp : Stamp)
+      → In d (called_in at e (step start x.state e).1.cast) → d.cast ≡ Some stamp
+      → (stamp.process ≡ x.state.me) × (x.state.clock < stamp.time)
   step_late start all (Call op) =
       subst (λ st. (d : Called) (stamp : Stamp) → In d (called_in at (Call op) (called x.state op st).1.cast) → d.cast ≡ Some stamp → (stamp.process ≡ x.state.me) × (x.state.clock < stamp.time)) (sym (all op (unsettled x.state)))
       (λ d stamp i c. elim i [
@@ -132,7 +142,8 @@ first_in [] c h = absurd h
 first_in (g ∷ order) c (inl e) = (g, inl refl, sym e)
 first_in (g ∷ order) c (inr h) = let r = first_in order c h in (r.0, inr r.1, r.2)
 
-falls_append : (fs gs : List First) → NeverFalls fs → NeverFalls gs → ((f g : First) → In f fs → In g gs → f.at ≤ g.at) → NeverFalls (fs ++ gs)
+falls_append : (fs gs : List First) → NeverFalls fs → NeverFalls gs → ((f g : First) → In f fs → In g gs → f.at ≤ g.at)
+    → NeverFalls (fs ++ gs)
 falls_append [] gs a b h = b
 falls_append (f ∷ fs) gs a b h = (λ g i. elim (in_cases g fs gs i) [ inl j ↦ a.0 g j | inr j ↦ h f g (inl refl) j ], falls_append fs gs a.1 b (λ x y i j. h x y (inr i) j))
 
@@ -145,7 +156,11 @@ pub record TimesOk (n count : ℕ) (order : List First) (pasts : ℕ → Past) :
   pub order_below : (f : First) → In f order → f.at < count
   pub calls_below : (p number : ℕ) (d : Called) → p < n → slice_get (pasts p).calls number ≡ Some d → d.at < count
 
-times_after : (start : Op → ℕ → Start) (n registers k : ℕ) (w : Trace) (m : Option (ℕ × Step)) → CastsAll start → WorldInv n registers k w → StepKept start n registers k w.nodes m → ((p : ℕ) → IsRunning (w.nodes p)) → PastsOk n w → Ordered n (nodes_after start w.nodes m) (casts_of (order_after start w m)) → TimesOk n w.count w.order w.pasts → TimesOk n (count_after w.count m) (order_after start w m) (pasts_after start w m)
+times_after : (start : Op → ℕ → Start) (n registers k : ℕ) (w : Trace) (m : Option (ℕ × Step)) → CastsAll start
+    → WorldInv n registers k w → StepKept start n registers k w.nodes m → ((p : ℕ) → IsRunning (w.nodes p))
+    → PastsOk n w → Ordered n (nodes_after start w.nodes m) (casts_of (order_after start w m))
+    → TimesOk n w.count w.order w.pasts
+    → TimesOk n (count_after w.count m) (order_after start w m) (pasts_after start w m)
 times_after start n registers k w None all V K W P O T = T
 times_after start n registers k w (Some m) all V K W P O T =
     let p = m.0 in
@@ -220,7 +235,8 @@ times_after start n registers k w (Some m) all V K W P O T =
           at;
     }
 
-pub times_right : (start : Op → ℕ → Start) (n registers : ℕ) (events : List Event) → CastsAll start → let v = traced start n registers events in TimesRight n v.order v.pasts
+pub times_right : (start : Op → ℕ → Start) (n registers : ℕ) (events : List Event) → CastsAll start
+    → let v = traced start n registers events in TimesRight n v.order v.pasts
 times_right start n registers events all =
     (along start n registers (λ v. TimesOk n v.count v.order v.pasts)
     (record {

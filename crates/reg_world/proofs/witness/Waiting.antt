@@ -6,7 +6,8 @@ use Rattle.reg_base.specs.declared.memory.Op.TheVariants.{Read, Write, Swap, Com
 use Rattle.reg_base.specs.Memory.{IsBlind}
 use Rattle.reg_base.proofs.Operations.{compare_and_swap_tells}
 use Rattle.reg_front.specs.declared.starts.Start.{Start}
-use Rattle.reg_front.specs.declared.starts.Start.TheVariants.{CastAndAnswer as CastsAndAnswers, Look as Looks, Hold as Holds}
+use Rattle.reg_front.specs.declared.starts.Start.TheVariants.{CastAndAnswer as CastsAndAnswers, Look as Looks}
+use Rattle.reg_front.specs.declared.starts.Start.TheVariants.{Hold as Holds}
 use Rattle.reg_front.specs.Fronts.{MayStart, KeepsLaws}
 use Rattle.reg_front.specs.Table.{linear, local_read}
 use Rattle.reg_world.specs.RealTime.{WaitsForDelivery, AnswersNothingFirst}
@@ -21,13 +22,16 @@ read_waits start laws register u first =
     let done = subst (MayStart (Read register) u) first (laws (Read register) u) in
     let bad = done [] in absurd (let z : ⊥ = cc in z)
 
-pub swap_waits : (start : Op → ℕ → Start) → KeepsLaws start → (register value : ℕ) → WaitsForDelivery start (Swap register value)
+pub swap_waits : (start : Op → ℕ → Start) → KeepsLaws start → (register value : ℕ)
+    → WaitsForDelivery start (Swap register value)
 swap_waits start laws register value u first =
     let done = subst (MayStart (Swap register value) u) first (laws (Swap register value) u) in
     let bad = done [] in absurd (let z : ⊥ = cc in z)
 
-pub compare_and_swap_waits : (start : Op → ℕ → Start) → KeepsLaws start → (register expected value : ℕ) → WaitsForDelivery start (CompareAndSwap register expected value)
-compare_and_swap_waits start laws register expected value = tells_waits start laws (CompareAndSwap register expected value) (compare_and_swap_tells register expected value)
+pub compare_and_swap_waits : (start : Op → ℕ → Start) → KeepsLaws start → (register expected value : ℕ)
+    → WaitsForDelivery start (CompareAndSwap register expected value)
+compare_and_swap_waits start laws register expected value =
+    tells_waits start laws (CompareAndSwap register expected value) (compare_and_swap_tells register expected value)
 
 pub linear_waits : AnswersNothingFirst linear
 linear_waits op u first = absurd (let z : ⊥ = cc in z)

@@ -25,7 +25,8 @@ below_place a b h = grind arith
 -- keys that are left, after the first c casts of the order
 pub record IsLeft (r : Run) (w : List Keyed) (c : ℕ) : Type 0 where
   pub low : (i : ℕ) (e : Keyed) → IsAt w i e → c ≤ e.key.place
-  pub updates : (j : ℕ) (d : First) → c ≤ j → IsAt r.order j d → IsUpdate d.op → (i : ℕ) × (e : Keyed) × IsAt w i e × (e.key ≡ key j 1 0 0)
+  pub updates : (j : ℕ) (d : First) → c ≤ j → IsAt r.order j d → IsUpdate d.op
+      → (i : ℕ) × (e : Keyed) × IsAt w i e × (e.key ≡ key j 1 0 0)
 
 abbrev pub Each : Run → List Keyed → Type 0
 Each r w = (i : ℕ) (e : Keyed) → IsAt w i e → HasKey r e.id e.key
@@ -52,9 +53,11 @@ no_update r e w c rising left j d low high at up = go (left.updates j d low at u
         let place : f.key.place ≡ j = ap (λ (k : Key). k.place) is in
         omega arith
 
-memory_at_head : (r : Run) (e : Keyed) (w : List Keyed) (c : ℕ) → Rising (e ∷ w) → IsLeft r (e ∷ w) c → e.key.place ≤ length r.order
+memory_at_head : (r : Run) (e : Keyed) (w : List Keyed) (c : ℕ) → Rising (e ∷ w) → IsLeft r (e ∷ w) c
+    → e.key.place ≤ length r.order
     → memory_of r e.key.place ≡ memory_of r c
-memory_at_head r e w c rising left fits = gap_to r c e.key.place (left.low 0 e refl) fits (no_update r e w c rising left)
+memory_at_head r e w c rising left fits =
+    gap_to r c e.key.place (left.low 0 e refl) fits (no_update r e w c rising left)
 
 -- the updates from a place on are left after the head, if the head is none of them
 left_behind : (r : Run) (e : Keyed) (w : List Keyed) (c n : ℕ) → IsLeft r (e ∷ w) c → c ≤ n
@@ -71,7 +74,8 @@ abbrev pub IsLost : Run → OpId → Type 0
 IsLost r id = (d : Cast) × ((k : ℕ) × IsAt r.casts k d) × (d.id ≡ id) × IsWaiting r id
 
 -- such casts are legal on any memory
-walk_lost : (r : Run) → IsRun r → (w : List Keyed) (m : Memory) → ((i : ℕ) (e : Keyed) → IsAt w i e → IsLost r e.id) → LegalFrom r.history m (map (λ e. e.id) w)
+walk_lost : (r : Run) → IsRun r → (w : List Keyed) (m : Memory) → ((i : ℕ) (e : Keyed) → IsAt w i e → IsLost r e.id)
+    → LegalFrom r.history m (map (λ e. e.id) w)
 walk_lost r ok [] m each = tt
 walk_lost r ok (e ∷ w) m each =
     let lost = each 0 e refl in
@@ -85,7 +89,8 @@ walk_lost r ok (e ∷ w) m each =
     )
 
 -- what stands above a lost cast's key is lost
-lost_above : (r : Run) → IsRun r → (id : OpId) (k : Key) (b : Key) → HasKey r id k → b.place ≡ length r.order → b.kind ≡ 2 → IsBelow b k → IsLost r id
+lost_above : (r : Run) → IsRun r → (id : OpId) (k : Key) (b : Key) → HasKey r id k → b.place ≡ length r.order
+    → b.kind ≡ 2 → IsBelow b k → IsLost r id
 lost_above r ok id k b (Copied q in' id_is is) place kind below =
     let fits = (ok.copied q in').within in
     let p : k.place ≡ q.place = ap (λ (k : Key). k.place) is in
@@ -104,7 +109,8 @@ lost_above r ok id k b (Delivered place' c at id_is kept is) place kind below =
 lost_above r ok id k b (Lost d in' id_is waits finished is) place kind below = (d, in', id_is, waits)
 
 -- what stands above a delivered cast's key has a later place
-place_above : (r : Run) (id : OpId) (k : Key) (n : ℕ) → HasKey r id k → n < length r.order → IsBelow (key n 1 0 0) k → suc n ≤ k.place
+place_above : (r : Run) (id : OpId) (k : Key) (n : ℕ) → HasKey r id k → n < length r.order → IsBelow (key n 1 0 0) k
+    → suc n ≤ k.place
 place_above r id k n (Copied q in' id_is is) lt below =
     let t : k.kind ≡ 0 = ap (λ (k : Key). k.kind) is in go k n t below
   where
@@ -140,7 +146,8 @@ step r e w c n at op same called right next rest = (
   subst (λ (m : Memory). LegalFrom r.history m (map (λ e. e.id) w)) (next ∙ ap (λ (m : Memory). after op m) same) rest,
 )
 
-head : (r : Run) → IsRun r → (e : Keyed) (w : List Keyed) (c : ℕ) → Each r (e ∷ w) → Rising (e ∷ w) → IsLeft r (e ∷ w) c → HasKey r e.id e.key → Rest r w
+head : (r : Run) → IsRun r → (e : Keyed) (w : List Keyed) (c : ℕ) → Each r (e ∷ w) → Rising (e ∷ w) → IsLeft r (e ∷ w) c
+    → HasKey r e.id e.key → Rest r w
     → LegalFrom r.history (memory_of r c) (map (λ e. e.id) (e ∷ w))
 head r ok e w c each rising left (Copied q in' id_is is) rest =
     let facts = ok.copied q in' in
@@ -183,7 +190,8 @@ head r ok e w c each rising left (Lost d in' id_is waits finished is) rest =
     all zero f at = subst (λ (g : Keyed). IsLost r g.id) (same_Some e f at) (d, in', id_is, waits)
     all (suc i) f at = lost_above r ok f.id f.key e.key (each (suc i) f at) (ap (λ (k : Key). k.place) is) (ap (λ (k : Key). k.kind) is) (above_head e w rising i f at)
 
-pub walk : (r : Run) → IsRun r → (w : List Keyed) (c : ℕ) → Each r w → Rising w → IsLeft r w c → LegalFrom r.history (memory_of r c) (map (λ e. e.id) w)
+pub walk : (r : Run) → IsRun r → (w : List Keyed) (c : ℕ) → Each r w → Rising w → IsLeft r w c
+    → LegalFrom r.history (memory_of r c) (map (λ e. e.id) w)
 walk r ok [] c each rising left = tt
 walk r ok (e ∷ w) c each rising left =
     head r ok e w c each rising left (each 0 e refl) (λ n rest. walk r ok w n (λ i f at. each (suc i) f at) (λ i j a b ha hb lt. rising (suc i) (suc j) a b ha hb (omega arith)) rest)

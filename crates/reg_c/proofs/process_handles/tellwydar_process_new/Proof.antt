@@ -1,4 +1,5 @@
--- `tellwydar_process_new` hands out the pointer to what `open` made: a result is taken apart, and the handle is lent to `put` and comes back.
+-- `tellwydar_process_new` hands out the pointer to what `open` made: a result is taken apart, and the handle is lent to
+-- `put` and comes back.
 use Rattle.std.proofs.Common.{◌≡◌, ◌<◌, ℕ, List, [], ◌∷◌, ◌++◌, refl, ap, ◌∙◌, lit<, arith, w8, w32, MutBor}
 use Rattle.std.proofs.raw_atomic.Walks.{proved}
 use Rattle.std.proofs.alloc.Shapes.{after, head, arm_body}
@@ -15,12 +16,15 @@ use prog.Wp.{Wp, after_seq, at_return}
 use contract.Monad.{fact}
 use contract.Running.{tables}
 use types.Logic.{sem}
-use types.Kit.{Post as After, any_q, ‵, raw, ◌⊛◌, some, later, at_ret, ◌$◌, ◌∵◌, !, qed, move, keep, drop, use1, use2, use3, split, join, fsplit, fjoin, feq_i, feq_l, pick, await, rewrite, suffices, frame, show, assume, group, done}
+use types.Kit.{Post as After, any_q, ‵, raw, ◌⊛◌, some, later, at_ret, ◌$◌, ◌∵◌, !, qed, move, keep, drop, use1, use2}
+use types.Kit.{use3, split, join, fsplit, fjoin, feq_i, feq_l, pick, await, rewrite, suffices, frame, show, assume}
+use types.Kit.{group, done}
 use types.Run.{enter, addr, of_opd, lit, stop, fld, no_more, and_then, first, switches_on, exec, returns}
 use types.Part.{whole, sub}
 use types.Match.{live, vrt, in_variant}
 use types.Tokens.{lft_new, lft_end}
-use types.ByLocal.{alloc_all, pass_all, free_all, look_at, get, get_in, get_tag, through, sets, sets_last, lands_as, env}
+use types.ByLocal.{alloc_all, pass_all, free_all, look_at, get, get_in, get_tag, through, sets, sets_last, lands_as}
+use types.ByLocal.{env}
 use denote.Builtin.{u8, u32, unit}
 use denote.Exit.{yes}
 use denote.Laws.{Is, shows}

@@ -52,4 +52,5 @@ loop-place-preserved g c =
     }
 
 pub returns : goal.returns
-returns g c = none_wrong c.args.shape.registers c.args.facts.now c.loop-place.place (omega arith) c.loop-place.invariant.right
+returns g c =
+    none_wrong c.args.shape.registers c.args.facts.now c.loop-place.place (omega arith) c.loop-place.invariant.right

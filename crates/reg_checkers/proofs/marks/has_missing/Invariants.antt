@@ -7,4 +7,5 @@ use Rattle.reg_checkers.specs.Table.{Marked}
 use Rattle.reg_checkers.proofs.marks.has_missing.Given as goal
 
 abbrev pub invariant-loop-i : goal.invariant-loop-i
-invariant-loop-i g l = (j t : ℕ) (id : OpId) (a : Answer) → j < l.i → IsAt l.entries j (Answered t id a) → Marked l.rows id
+invariant-loop-i g l =
+    (j t : ℕ) (id : OpId) (a : Answer) → j < l.i → IsAt l.entries j (Answered t id a) → Marked l.rows id

@@ -11,14 +11,16 @@ blank_point : Point
 blank_point = record { id = record { process = 0; number = 0 }; at = 0 }
 
 -- one more id
-one_more : (ps : List Point) (i : ℕ) (d : Point) → i < length ps → ids_of (take (i + 1) ps) ≡ ids_of (take i ps) ++ (get_or ps i d).id ∷ []
+one_more : (ps : List Point) (i : ℕ) (d : Point) → i < length ps
+    → ids_of (take (i + 1) ps) ≡ ids_of (take i ps) ++ (get_or ps i d).id ∷ []
 one_more ps i d less = ap (λ n. ids_of (take n ps)) (add-one i) ∙ ap ids_of (take-suc ps i d less) ∙ map-append (λ (p : Point). p.id) (take i ps) (get_or ps i d ∷ [])
 
 so_many : (ps : List Point) (i : ℕ) → i < length ps → length (ids_of (take i ps)) ≡ i
 so_many ps i less = length-map (take i ps) (λ (p : Point). p.id) ∙ length-take-le i ps (omega (arith, less))
 
 pub loop-point-init : goal.loop-point-init
-loop-point-init g c = record { items = c.in_ok-ids.ensures.items; room = let z = c.in_ok-ids.ensures.capacity in omega (arith, z) }
+loop-point-init g c =
+    record { items = c.in_ok-ids.ensures.items; room = let z = c.in_ok-ids.ensures.capacity in omega (arith, z) }
 
 pub push_reserved-requires : goal.push_reserved-requires
 push_reserved-requires g c =

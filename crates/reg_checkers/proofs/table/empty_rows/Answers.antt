@@ -4,7 +4,8 @@ use Rattle.reg_checkers.proofs.Tables.{none_more}
 use Rattle.reg_checkers.proofs.table.empty_rows.Goals as goal
 
 pub loop-p-init : goal.loop-p-init
-loop-p-init g c = record { len = c.new-rows.ensures.len; none = λ id. ap (λ (rows : Rows _). cell rows id) c.new-rows.ensures.items }
+loop-p-init g c =
+    record { len = c.new-rows.ensures.len; none = λ id. ap (λ (rows : Rows _). cell rows id) c.new-rows.ensures.items }
 
 pub loop-p-preserved : goal.loop-p-preserved
 loop-p-preserved g c = record {

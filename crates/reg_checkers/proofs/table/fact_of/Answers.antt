@@ -1,4 +1,5 @@
-use Rattle.std.proofs.Common.{◌≡◌, ◌<◌, ◌≤◌, ℕ, List, length, get_or, Option, None, Some, Vec, option_and_then, slice_get, refl, sym, ap, ◌∙◌, arith}
+use Rattle.std.proofs.Common.{◌≡◌, ◌<◌, ◌≤◌, ℕ, List, length, get_or, Option, None, Some, Vec, option_and_then}
+use Rattle.std.proofs.Common.{slice_get, refl, sym, ap, ◌∙◌, arith}
 use Rattle.std.proofs.lemmas.Option.{slice_get_past, slice_get_read}
 use Rattle.std.specs.Borrow.{Bor}
 use Rattle.std.specs.Option.{option_copied}
@@ -13,7 +14,8 @@ no_row : {A : Type 0} (rows : Rows A) (id : OpId) (p : ℕ) → p ≡ id.process
 no_row {A = A} rows id p same past =
     ap (λ (o : Option (Vec Fact A)). option_and_then (λ (r : Vec Fact A). slice_get r.items id.number) o) (slice_get_past rows id.process (omega (arith, same, past)))
 
-in_row : {A : Type 0} (rows : Rows A) (id : OpId) (p : ℕ) (row : Vec Fact A) → p ≡ id.process → p < length rows → row ≡ get_or rows p row → cell rows id ≡ slice_get row.items id.number
+in_row : {A : Type 0} (rows : Rows A) (id : OpId) (p : ℕ) (row : Vec Fact A) → p ≡ id.process → p < length rows
+    → row ≡ get_or rows p row → cell rows id ≡ slice_get row.items id.number
 in_row rows id p row same within read =
     cell_of rows id row (slice_get_read rows (length rows) id.process row refl (omega (arith, same, within)) (read ∙ ap (λ (k : ℕ). get_or rows k row) same))
 

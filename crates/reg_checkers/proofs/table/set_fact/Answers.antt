@@ -5,7 +5,8 @@ use Rattle.reg_checkers.proofs.Tables.{changed_by_set, has_row}
 use Rattle.reg_checkers.proofs.table.set_fact.Goals as goal
 
 pub index_mut-requires : goal.index_mut-requires
-index_mut-requires g c = let inside = has_row c.args.rows.now.items c.args.id c.requires in omega (arith, inside, c.from.ensures)
+index_mut-requires g c =
+    let inside = has_row c.args.rows.now.items c.args.id c.requires in omega (arith, inside, c.from.ensures)
 
 pub returns-clause-changed : goal.returns-clause-changed
 returns-clause-changed g c =

@@ -5,7 +5,10 @@ use Rattle.reg_history.specs.Refusals.{RefusesReportLine}
 use Rattle.reg_commands.proofs.checking.read_report_text.Goals as goal
 
 -- the line that is told is the one that is refused
-refused : (text : List ℕ) (line : ℕ) (why : ReadWhy) → (Line line why ≡ OutOfMemory) ⊎ ((number : ℕ) × (told : ReadWhy) × (Line line why ≡ Line number told) × RefusesReportLine number told text) → RefusesReportLine line why text
+refused : (text : List ℕ) (line : ℕ) (why : ReadWhy)
+    → (Line line why ≡ OutOfMemory)
+    ⊎ ((number : ℕ) × (told : ReadWhy) × (Line line why ≡ Line number told) × RefusesReportLine number told text)
+    → RefusesReportLine line why text
 refused text line why (inl e) = absurd (cc)
 refused text line why (inr (number, told, e, r)) =
     let a : line ≡ number = cc in

@@ -5,7 +5,10 @@ use Rattle.reg_inputs.specs.Refusals.{RefusesLine}
 use Rattle.reg_commands.proofs.replaying.read_schedule.Goals as goal
 
 -- the line that is told is the one that is refused
-refused : (text : List ℕ) (line : ℕ) (why : Why) → (Line line why ≡ OutOfMemory) ⊎ ((number : ℕ) × (told : Why) × (Line line why ≡ Line number told) × RefusesLine number told text) → RefusesLine line why text
+refused : (text : List ℕ) (line : ℕ) (why : Why)
+    → (Line line why ≡ OutOfMemory)
+    ⊎ ((number : ℕ) × (told : Why) × (Line line why ≡ Line number told) × RefusesLine number told text)
+    → RefusesLine line why text
 refused text line why (inl e) = absurd (cc)
 refused text line why (inr (number, told, e, r)) =
     let a : line ≡ number = cc in

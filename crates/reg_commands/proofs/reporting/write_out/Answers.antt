@@ -2,7 +2,8 @@ use Rattle.std.proofs.Common.{◌≡◌, ◌∙◌, refl, sym}
 use Rattle.reg_history.specs.declared.report_faults.WriteFault.TheVariants.{Write as WriteFailed}
 use Rattle.reg_history.specs.Reports.{report_text}
 use Rattle.reg_commands.proofs.Sending.{writing_failed, flush_failed, told_part}
-use Rattle.reg_commands.proofs.reporting.write_out.Goals.{then-is_err-via-then-is_err, then-is_err-via-else-is_err+then-is_err-2}
+use Rattle.reg_commands.proofs.reporting.write_out.Goals.{then-is_err-via-then-is_err}
+use Rattle.reg_commands.proofs.reporting.write_out.Goals.{then-is_err-via-else-is_err+then-is_err-2}
 use Rattle.reg_commands.proofs.reporting.write_out.Goals as goal
 
 pub returns-then-is_err : goal.returns-then-is_err

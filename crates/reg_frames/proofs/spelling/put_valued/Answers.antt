@@ -1,7 +1,8 @@
 use Rattle.std.proofs.Common.{◌≡◌, ℕ, List, [], ◌∷◌, ◌++◌, ◌∙◌, ap, ap₂, append_assoc}
 use Rattle.reg_frames.proofs.spelling.put_valued.Goals as goal
 
-three : (old a b c x y low high : List ℕ) (kind : ℕ) → a ≡ old ++ kind ∷ [] → b ≡ a ++ x → c ≡ b ++ y → x ≡ low → y ≡ high → c ≡ old ++ kind ∷ (low ++ high)
+three : (old a b c x y low high : List ℕ) (kind : ℕ) → a ≡ old ++ kind ∷ [] → b ≡ a ++ x → c ≡ b ++ y → x ≡ low
+    → y ≡ high → c ≡ old ++ kind ∷ (low ++ high)
 three old a b c x y low high kind first second third is_low is_high =
     let parts : c ≡ ((old ++ kind ∷ []) ++ x) ++ y = third ∙ ap (λ (t : List ℕ). t ++ y) (second ∙ ap (λ (t : List ℕ). t ++ x) first) in
     let joined : ((old ++ kind ∷ []) ++ x) ++ y ≡ old ++ kind ∷ (x ++ y) = append_assoc (old ++ kind ∷ []) x y ∙ append_assoc old (kind ∷ []) (x ++ y) in

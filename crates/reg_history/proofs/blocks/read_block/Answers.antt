@@ -1,4 +1,5 @@
-use Rattle.std.proofs.Common.{Option, None, Some, inl, sym, subst, arith, rules, ◌≡◌, ◌<◌, ℕ, ◌+◌, List, [], ◌∷◌, ◌++◌, refl, ap, ◌∙◌}
+use Rattle.std.proofs.Common.{Option, None, Some, inl, sym, subst, arith, rules, ◌≡◌, ◌<◌, ℕ, ◌+◌, List, [], ◌∷◌, ◌++◌}
+use Rattle.std.proofs.Common.{refl, ap, ◌∙◌}
 use Rattle.reg_text.specs.Reading.{IsBlock, IsNext}
 use Rattle.reg_text.proofs.Numbered.{asked_on, goes_on, stays}
 use Rattle.reg_text.proofs.Turns.{Taken, begins, steps, ended, refused, all_read, only_read}
@@ -9,10 +10,15 @@ use Rattle.reg_history.proofs.Stopping.{failure_passed_on, item_fails, not_faile
 use Rattle.reg_history.proofs.blocks.read_block.Goals as goal
 
 -- no block has a bad line next
-not_next : {X : Type 0} (line_of : X → List ℕ) (Fits : X → Type 0) (HasForm : List ℕ → Type 0) (n : ℕ) (old now : List (List ℕ)) (xs : List X) (i : ℕ) (next : Option (List ℕ)) (why : ReadWhy) → i < n → Taken line_of (λ _ x. Fits x) n old now xs i → IsNext now next → IsWrongNext (IsBadLine line_of Fits HasForm) next why
+not_next : {X : Type 0} (line_of : X → List ℕ) (Fits : X → Type 0) (HasForm : List ℕ → Type 0) (n : ℕ)
+    (old now : List (List ℕ)) (xs : List X) (i : ℕ) (next : Option (List ℕ)) (why : ReadWhy)
+    → i < n → Taken line_of (λ _ x. Fits x) n old now xs i → IsNext now next
+    → IsWrongNext (IsBadLine line_of Fits HasForm) next why
     → (ys : List X) (rest : List (List ℕ)) → IsBlock line_of (λ _ x. Fits x) n old rest ys → ⊥
-not_next line_of Fits HasForm n old now xs i None why l t comes bad ys rest b = ended line_of (λ _ x. Fits x) n old now xs i l t comes ys rest b
-not_next line_of Fits HasForm n old now xs i (Some line) why l t comes bad ys rest b = refused line_of (λ _ x. Fits x) n old now xs i l t line comes.0 comes.1 bad.none ys rest b
+not_next line_of Fits HasForm n old now xs i None why l t comes bad ys rest b =
+    ended line_of (λ _ x. Fits x) n old now xs i l t comes ys rest b
+not_next line_of Fits HasForm n old now xs i (Some line) why l t comes bad ys rest b =
+    refused line_of (λ _ x. Fits x) n old now xs i l t line comes.0 comes.1 bad.none ys rest b
 
 pub returns-in_err-item-clause-whole : goal.returns-in_err-item-clause-whole
 returns-in_err-item-clause-whole g c = λ ys rest b.

@@ -14,10 +14,13 @@ use Rattle.reg_history.proofs.Stopping.{item_fails}
 use Rattle.reg_history.proofs.blocks.read_entries.Goals as goal
 
 -- an entry in place, at a shape that is the history's
-at_shape : (h : Log) (shape : Extent) (e : Entry) → h.shape ≡ shape → IsNextOf h e → IsInPlace shape.processes shape.registers h.entries e
-at_shape h shape e same next = let P : Extent → Type 0 = λ s. IsInPlace s.processes s.registers h.entries e in subst P same next
+at_shape : (h : Log) (shape : Extent) (e : Entry) → h.shape ≡ shape → IsNextOf h e
+    → IsInPlace shape.processes shape.registers h.entries e
+at_shape h shape e same next =
+    let P : Extent → Type 0 = λ s. IsInPlace s.processes s.registers h.entries e in subst P same next
 
-not_both : (version : Version) (names : List (List ℕ)) (h : Log) (shape : Extent) (e y : Entry) → h.shape ≡ shape → (¬ IsNextOf h e) → e ≡ y → Follows version names shape h.entries y → ⊥
+not_both : (version : Version) (names : List (List ℕ)) (h : Log) (shape : Extent) (e y : Entry) → h.shape ≡ shape
+    → (¬ IsNextOf h e) → e ≡ y → Follows version names shape h.entries y → ⊥
 not_both version names h shape e y same none alike follows =
     let P : Entry → Type 0 = λ x. IsInPlace shape.processes shape.registers h.entries x in
     let Q : Extent → Type 0 = λ s. IsInPlace s.processes s.registers h.entries e in

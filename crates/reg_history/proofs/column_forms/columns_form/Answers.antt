@@ -3,7 +3,8 @@ use Rattle.reg_text.specs.Columns.{to_left, to_right}
 use Rattle.reg_history.proofs.column_forms.columns_form.Goals as goal
 
 pub returns-in_err-at-clause-whole : goal.returns-in_err-at-clause-whole
-returns-in_err-at-clause-whole c = λ at process number rest has. absurd (c.in_err-at.ensures.whole at _ has.at_fits has.spelled)
+returns-in_err-at-clause-whole c =
+    λ at process number rest has. absurd (c.in_err-at.ensures.whole at _ has.at_fits has.spelled)
 
 pub returns-in_err-process-clause-whole : goal.returns-in_err-process-clause-whole
 returns-in_err-process-clause-whole c = λ at process number rest has.

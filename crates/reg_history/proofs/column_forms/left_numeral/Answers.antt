@@ -6,7 +6,8 @@ use Rattle.reg_history.proofs.Numerals.{length_left, left_column}
 use Rattle.reg_history.proofs.column_forms.left_numeral.Goals as goal
 
 pub returns-in_err-column-clause-whole : goal.returns-in_err-column-clause-whole
-returns-in_err-column-clause-whole c = λ digits rest fits e. absurd (c.in_err-column.ensures.whole _ _ e (length_left c.args.places digits fits.short))
+returns-in_err-column-clause-whole c =
+    λ digits rest fits e. absurd (c.in_err-column.ensures.whole _ _ e (length_left c.args.places digits fits.short))
 
 pub returns-in_err-rest-clause-whole : goal.returns-in_err-rest-clause-whole
 returns-in_err-rest-clause-whole c = λ digits rest fits e.

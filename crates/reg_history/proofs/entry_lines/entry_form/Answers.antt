@@ -7,10 +7,12 @@ pub returns-in_err-at-clause-whole : goal.returns-in_err-at-clause-whole
 returns-in_err-at-clause-whole g c = λ h. absurd (c.in_err-at.ensures.whole h.0 h.1 h.2 h.3 h.4)
 
 pub returns-in_err-at-clause-beyond : goal.returns-in_err-at-clause-beyond
-returns-in_err-at-clause-beyond g c = λ at process number rest columns beyond. absurd (c.in_err-at.ensures.whole at process number rest columns)
+returns-in_err-at-clause-beyond g c =
+    λ at process number rest columns beyond. absurd (c.in_err-at.ensures.whole at process number rest columns)
 
 pub returns-in_err-at-clause-within : goal.returns-in_err-at-clause-within
-returns-in_err-at-clause-within g c = λ at process number rest columns inside. absurd (c.in_err-at.ensures.whole at process number rest columns)
+returns-in_err-at-clause-within g c =
+    λ at process number rest columns inside. absurd (c.in_err-at.ensures.whole at process number rest columns)
 
 pub returns-in_err-why-clause-whole : goal.returns-in_err-why-clause-whole
 returns-in_err-why-clause-whole g c = λ h.

@@ -11,17 +11,23 @@ use Rattle.reg_history.proofs.Tails.{no_answer}
 use Rattle.reg_history.proofs.entry_lines.read_entry.Goals as goal
 
 -- the line of an entry has columns
-no_columns : {A : Type 0} (version : Version) (names : List (List ℕ)) (line : List ℕ) → ((at process number : ℕ) (rest : List ℕ) → ColumnsFit version at process number → ¬ (line ≡ columns_text at process number rest))
+no_columns : {A : Type 0} (version : Version) (names : List (List ℕ)) (line : List ℕ)
+    → ((at process number : ℕ) (rest : List ℕ) → ColumnsFit version at process number
+    → ¬ (line ≡ columns_text at process number rest))
     → (e : Entry) → EntryFits version names e → line ≡ entry_text names e → A
-no_columns version names line none (Called at id op) fits same = absurd (none at id.process id.number (codes "call    " ++ op_text names op) fits.0 same)
-no_columns version names line none (Answered at id answer) fits same = absurd (none at id.process id.number (codes "answer  " ++ answer_text answer) fits.0 same)
+no_columns version names line none (Called at id op) fits same =
+    absurd (none at id.process id.number (codes "call    " ++ op_text names op) fits.0 same)
+no_columns version names line none (Answered at id answer) fits same =
+    absurd (none at id.process id.number (codes "answer  " ++ answer_text answer) fits.0 same)
 
 -- what was read of the columns is what they say
 abbrev AreColumns : Version → List ℕ → ℕ → ℕ → ℕ → List ℕ → Type 0
 AreColumns version line at process number rest =
     (a p n : ℕ) (r : List ℕ) → ColumnsFit version a p n → line ≡ columns_text a p n r → (at ≡ a) × (process ≡ p) × (number ≡ n) × (rest ≡ r)
 
-called : (version : Version) (names : List (List ℕ)) (line rest text : List ℕ) (at process number : ℕ) (read : Option Op) → AreColumns version line at process number rest → rest ≡ codes "call    " ++ text
+called : (version : Version) (names : List (List ℕ)) (line rest text : List ℕ) (at process number : ℕ)
+    (read : Option Op)
+    → AreColumns version line at process number rest → rest ≡ codes "call    " ++ text
     → ((r : List ℕ) → rest ≡ codes "call    " ++ r → text ≡ r) → ((op : Op) → OpFits names op → may_call version op ≡ true → text ≡ op_text names op → read ≡ Some op)
     → (e : Entry) → EntryFits version names e → line ≡ entry_text names e → option_map (λ op. Called at (record { process = process; number = number }) op) read ≡ Some e
 called version names line rest text at process number read columns marked only whole (Called a id op) fits same =
@@ -32,7 +38,9 @@ called version names line rest text at process number read columns marked only w
     let told = columns a id.process id.number (codes "answer  " ++ answer_text answer) fits.0 same in
     absurd (no_answer rest text (answer_text answer) marked told.3)
 
-answered : (version : Version) (names : List (List ℕ)) (line rest text : List ℕ) (at process number : ℕ) (read : Option Answer) → AreColumns version line at process number rest → ((r : List ℕ) → ¬ (rest ≡ codes "call    " ++ r))
+answered : (version : Version) (names : List (List ℕ)) (line rest text : List ℕ) (at process number : ℕ)
+    (read : Option Answer)
+    → AreColumns version line at process number rest → ((r : List ℕ) → ¬ (rest ≡ codes "call    " ++ r))
     → ((r : List ℕ) → rest ≡ codes "answer  " ++ r → text ≡ r) → ((answer : Answer) → AnswerFits answer → may_answer version answer ≡ true → text ≡ answer_text answer → read ≡ Some answer)
     → (e : Entry) → EntryFits version names e → line ≡ entry_text names e → option_map (λ answer. Answered at (record { process = process; number = number }) answer) read ≡ Some e
 answered version names line rest text at process number read columns none only whole (Called a id op) fits same =
@@ -43,7 +51,9 @@ answered version names line rest text at process number read columns none only w
     let found = whole answer fits.1 fits.2 (only (answer_text answer) told.3) in
     rw (found, told.0, told.1, told.2) refl
 
-neither : {A : Type 0} (version : Version) (names : List (List ℕ)) (line rest : List ℕ) (at process number : ℕ) → AreColumns version line at process number rest → ((r : List ℕ) → ¬ (rest ≡ codes "call    " ++ r)) → ((r : List ℕ) → ¬ (rest ≡ codes "answer  " ++ r))
+neither : {A : Type 0} (version : Version) (names : List (List ℕ)) (line rest : List ℕ) (at process number : ℕ)
+    → AreColumns version line at process number rest → ((r : List ℕ) → ¬ (rest ≡ codes "call    " ++ r))
+    → ((r : List ℕ) → ¬ (rest ≡ codes "answer  " ++ r))
     → (e : Entry) → EntryFits version names e → line ≡ entry_text names e → A
 neither version names line rest at process number columns none other (Called a id op) fits same =
     let told = columns a id.process id.number (codes "call    " ++ op_text names op) fits.0 same in
@@ -53,7 +63,8 @@ neither version names line rest at process number columns none other (Answered a
     absurd (other (answer_text answer) told.3)
 
 pub returns-in_err-at-clause-whole : goal.returns-in_err-at-clause-whole
-returns-in_err-at-clause-whole g c = λ e fits same. no_columns c.args.version c.args.names.now c.args.line.now c.in_err-at.ensures.whole e fits same
+returns-in_err-at-clause-whole g c =
+    λ e fits same. no_columns c.args.version c.args.names.now c.args.line.now c.in_err-at.ensures.whole e fits same
 
 pub returns-in_err-op-clause-whole : goal.returns-in_err-op-clause-whole
 returns-in_err-op-clause-whole g c = λ e fits same.

@@ -5,7 +5,8 @@ use Rattle.reg_text.proofs.Formed.{no_truth}
 use Rattle.reg_history.proofs.items.all_fit.Goals as goal
 
 -- one more fits
-fit_more : {X : Type 0} (Fits : X → Type 0) (xs : List X) (i : ℕ) (here : X) → slice_get xs i ≡ Some here → Fits here → ((k : ℕ) (x : X) → k < i → slice_get xs k ≡ Some x → Fits x)
+fit_more : {X : Type 0} (Fits : X → Type 0) (xs : List X) (i : ℕ) (here : X) → slice_get xs i ≡ Some here → Fits here
+    → ((k : ℕ) (x : X) → k < i → slice_get xs k ≡ Some x → Fits x)
     → (k : ℕ) (x : X) → k < i + 1 → slice_get xs k ≡ Some x → Fits x
 fit_more {X = X} Fits xs i here at fits before k x less is = go (cases_order k i)
   where

@@ -1,4 +1,5 @@
-use Rattle.std.proofs.Common.{[], arith, ℕ, ◌≡◌, ◌≤◌, ap, ◌∙◌, ◌∷◌, ◌++◌, codes, length, List, None, Result, Ok, Err, IfOk}
+use Rattle.std.proofs.Common.{[], arith, ℕ, ◌≡◌, ◌≤◌, ap, ◌∙◌, ◌∷◌, ◌++◌, codes, length, List, None, Result, Ok, Err}
+use Rattle.std.proofs.Common.{IfOk}
 use Rattle.std.specs.Fmt.{decimal}
 use Rattle.reg_base.specs.declared.limits.TheConstants.{MOST_REGISTERS}
 use Rattle.reg_base.specs.Names.{names_fault}
@@ -12,17 +13,21 @@ use Rattle.reg_history.specs.Refusals.{IsNewName, IsNoCount, IsNoNewName, IsWron
 use Rattle.reg_history.specs.Stops.{IsFirst}
 use Rattle.reg_history.proofs.Heads.{counted_first, counted_more}
 use Rattle.reg_history.proofs.PassedOn.{nothing_read}
-use Rattle.reg_history.proofs.Stopping.{count_fails, failure_as, failure_passed_on, fails_as, fails_behind, not_failed, on_behind, zero_fails}
+use Rattle.reg_history.proofs.Stopping.{count_fails, failure_as, failure_passed_on, fails_as, fails_behind, not_failed}
+use Rattle.reg_history.proofs.Stopping.{on_behind, zero_fails}
 use Rattle.reg_history.proofs.name_lines.read_newer_registers.Goals as goal
 
 -- the names after their count
-registered : (r : Result (List (List ℕ)) ReadFault) (old now left : List (List ℕ)) (count : ℕ) → old ≡ (codes "registers " ++ decimal count) ∷ now → count ≤ MOST_REGISTERS
+registered : (r : Result (List (List ℕ)) ReadFault) (old now left : List (List ℕ)) (count : ℕ)
+    → old ≡ (codes "registers " ++ decimal count) ∷ now → count ≤ MOST_REGISTERS
     → IfOk r (λ n. (now ≡ n ++ left) × (length n ≡ count) × (names_fault n ≡ None)) → IfOk r (λ n. (old ≡ registers_lines Two n left) × (names_fault n ≡ None) × (length n ≤ MOST_REGISTERS))
-registered (Ok n) old now left count e few h = (counted_names old now left n count e h.0 h.1, h.2, omega (arith, few, h.1))
+registered (Ok n) old now left count e few h =
+    (counted_names old now left n count e h.0 h.1, h.2, omega (arith, few, h.1))
 registered (Err f) old now left count e few h = tt
 
 pub returns-in_err-count-clause-whole : goal.returns-in_err-count-clause-whole
-returns-in_err-count-clause-whole g c = λ names rest ok few e. absurd (c.in_err-count.ensures.whole (length names) _ few e)
+returns-in_err-count-clause-whole g c =
+    λ names rest ok few e. absurd (c.in_err-count.ensures.whole (length names) _ few e)
 
 pub returns-then-count-eq0-clause-whole : goal.returns-then-count-eq0-clause-whole
 returns-then-count-eq0-clause-whole g c = λ names rest ok few e.

@@ -1,4 +1,5 @@
-use Rattle.std.proofs.Common.{None, Some, refl, sym, ap, inl, ◌∙◌, subst, arith, rules, ◌≡◌, ℕ, ◌+◌, List, [], ◌∷◌, ◌++◌, true, string_bytes}
+use Rattle.std.proofs.Common.{None, Some, refl, sym, ap, inl, ◌∙◌, subst, arith, rules, ◌≡◌, ℕ, ◌+◌, List, [], ◌∷◌}
+use Rattle.std.proofs.Common.{◌++◌, true, string_bytes}
 use Rattle.std.proofs.lemmas.List.{map-append}
 use Rattle.reg_base.specs.Names.{is_name, texts}
 use Rattle.reg_text.proofs.Numbered.{asked_on, goes_on, stays}

@@ -14,7 +14,8 @@ pub returns-in_default-clause-whole : goal.returns-in_default-clause-whole
 returns-in_default-clause-whole g c = λ front rest ok e. none_first (sym c.in_default.ensures.line ∙ e)
 
 pub returns-in_default-skip-clause-whole : goal.returns-in_default-skip-clause-whole
-returns-in_default-skip-clause-whole g c = λ front rest ok e. absurd (c.in_default-skip.ensures.whole front (first_line (sym c.in-Some.ensures.line ∙ e)))
+returns-in_default-skip-clause-whole g c =
+    λ front rest ok e. absurd (c.in_default-skip.ensures.whole front (first_line (sym c.in-Some.ensures.line ∙ e)))
 
 pub returns-then-not-is_front-clause-whole : goal.returns-then-not-is_front-clause-whole
 returns-then-not-is_front-clause-whole g c = λ front rest ok e.

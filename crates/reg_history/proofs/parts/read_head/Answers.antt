@@ -88,13 +88,16 @@ pub returns-in_err-version-clause-on : goal.returns-in_err-version-clause-on
 returns-in_err-version-clause-on g c = not_failed c.from_residual.result _ _ c.from_residual.ensures.1
 
 pub returns-in_err-front-clause-on : goal.returns-in_err-front-clause-on
-returns-in_err-front-clause-on g c = not_failed c.from_residual-in_err-front.result _ _ c.from_residual-in_err-front.ensures.1
+returns-in_err-front-clause-on g c =
+    not_failed c.from_residual-in_err-front.result _ _ c.from_residual-in_err-front.ensures.1
 
 pub returns-in_err-processes-clause-on : goal.returns-in_err-processes-clause-on
-returns-in_err-processes-clause-on g c = not_failed c.from_residual-in_err-processes.result _ _ c.from_residual-in_err-processes.ensures.1
+returns-in_err-processes-clause-on g c =
+    not_failed c.from_residual-in_err-processes.result _ _ c.from_residual-in_err-processes.ensures.1
 
 pub returns-in_err-names-clause-on : goal.returns-in_err-names-clause-on
-returns-in_err-names-clause-on g c = not_failed c.from_residual-in_err-names.result _ _ c.from_residual-in_err-names.ensures.1
+returns-in_err-names-clause-on g c =
+    not_failed c.from_residual-in_err-names.result _ _ c.from_residual-in_err-names.ensures.1
 
 pub returns-clause-on : goal.returns-clause-on
 returns-clause-on g c =

@@ -19,14 +19,18 @@ use Rattle.reg_history.proofs.PassedOn.{memory_passed_on, nothing_read}
 use Rattle.reg_history.proofs.parts.read_history.Goals as goal
 
 -- the block after a count
-block : (version : Version) (names : List (List ℕ)) (shape s : Extent) (old mid rest : List (List ℕ)) (n : ℕ) (ys : List Entry) → s ≡ shape
+block : (version : Version) (names : List (List ℕ)) (shape s : Extent) (old mid rest : List (List ℕ)) (n : ℕ)
+    (ys : List Entry)
+    → s ≡ shape
     → ((k : ℕ) (r : List (List ℕ)) → k ≤ MOST_ENTRIES → old ≡ (codes "history " ++ decimal k) ∷ r → (n ≡ k) × (mid ≡ r))
     → IsCounted (codes "history ") (entry_text names) (Follows version names shape) MOST_ENTRIES old rest ys → IsBlock (entry_text names) (Follows version names s) n mid rest ys
 block version names shape s old mid rest n ys same count b =
     let P : Extent → Type 0 = λ x. IsBlock (entry_text names) (Follows version names x) n mid rest ys in
     subst P (sym same) (block_of (codes "history ") (entry_text names) (Follows version names shape) MOST_ENTRIES n old mid rest ys count b)
 
-counted : (version : Version) (names : List (List ℕ)) (shape s : Extent) (old mid rest : List (List ℕ)) (n : ℕ) (ys : List Entry) → s ≡ shape → n ≤ MOST_ENTRIES → old ≡ (codes "history " ++ decimal n) ∷ mid
+counted : (version : Version) (names : List (List ℕ)) (shape s : Extent) (old mid rest : List (List ℕ)) (n : ℕ)
+    (ys : List Entry)
+    → s ≡ shape → n ≤ MOST_ENTRIES → old ≡ (codes "history " ++ decimal n) ∷ mid
     → IsBlock (entry_text names) (Follows version names s) n mid rest ys → IsCounted (codes "history ") (entry_text names) (Follows version names shape) MOST_ENTRIES old rest ys
 counted version names shape s old mid rest n ys same few e b =
     let P : Extent → Type 0 = λ x. IsCounted (codes "history ") (entry_text names) (Follows version names x) MOST_ENTRIES old rest ys in
@@ -63,10 +67,12 @@ pub overflow_cast-count : goal.overflow_cast-count
 overflow_cast-count g c = omega (arith, c.in_ok-count.ensures.read.1)
 
 pub returns-in_err-read_entries-clause-shape : goal.returns-in_err-read_entries-clause-shape
-returns-in_err-read_entries-clause-shape g c = nothing_read c.from_residual-in_err-read_entries.result _ _ c.from_residual-in_err-read_entries.ensures.1
+returns-in_err-read_entries-clause-shape g c =
+    nothing_read c.from_residual-in_err-read_entries.result _ _ c.from_residual-in_err-read_entries.ensures.1
 
 pub returns-in_err-read_entries-clause-read : goal.returns-in_err-read_entries-clause-read
-returns-in_err-read_entries-clause-read g c = nothing_read c.from_residual-in_err-read_entries.result _ _ c.from_residual-in_err-read_entries.ensures.1
+returns-in_err-read_entries-clause-read g c =
+    nothing_read c.from_residual-in_err-read_entries.result _ _ c.from_residual-in_err-read_entries.ensures.1
 
 pub returns-clause-shape : goal.returns-clause-shape
 returns-clause-shape g c = c.in_ok-read_entries.ensures.shape ∙ c.in-Ok.ensures.0
@@ -96,7 +102,8 @@ pub returns-in_err-count-clause-on : goal.returns-in_err-count-clause-on
 returns-in_err-count-clause-on g c = not_failed c.from_residual.result _ _ c.from_residual.ensures.1
 
 pub returns-in_err-read_entries-clause-on : goal.returns-in_err-read_entries-clause-on
-returns-in_err-read_entries-clause-on g c = not_failed c.from_residual-in_err-read_entries.result _ _ c.from_residual-in_err-read_entries.ensures.1
+returns-in_err-read_entries-clause-on g c =
+    not_failed c.from_residual-in_err-read_entries.result _ _ c.from_residual-in_err-read_entries.ensures.1
 
 pub returns-clause-on : goal.returns-clause-on
 returns-clause-on g c =

@@ -11,7 +11,8 @@ use Rattle.reg_history.specs.Refusals.{IsNoCount, IsWrongCounted, IsWrongItem}
 use Rattle.reg_history.specs.Stops.{IsFirst}
 use Rattle.reg_history.proofs.Counted.{block_of, counted_of}
 use Rattle.reg_history.proofs.Heads.{counted_first, counted_more}
-use Rattle.reg_history.proofs.Stopping.{count_fails, failure_as, failure_passed_on, fails_as, fails_behind, not_failed, on_behind}
+use Rattle.reg_history.proofs.Stopping.{count_fails, failure_as, failure_passed_on, fails_as, fails_behind, not_failed}
+use Rattle.reg_history.proofs.Stopping.{on_behind}
 use Rattle.reg_history.proofs.parts.read_order.Goals as goal
 
 pub returns-in_err-count-clause-whole : goal.returns-in_err-count-clause-whole

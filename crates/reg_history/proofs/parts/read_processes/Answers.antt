@@ -15,7 +15,8 @@ returns-then-processes-eq0-clause-whole c = λ n rest some few e.
     absurd (omega (arith, read.0, some))
 
 pub returns-clause-whole : goal.returns-clause-whole
-returns-clause-whole c = λ n rest some few e. c.in_ok-processes.ensures.whole n rest (omega (arith, few, c.most_processes.ensures)) e
+returns-clause-whole c =
+    λ n rest some few e. c.in_ok-processes.ensures.whole n rest (omega (arith, few, c.most_processes.ensures)) e
 
 pub returns-in_err-processes-clause-read : goal.returns-in_err-processes-clause-read
 returns-in_err-processes-clause-read c = nothing_read c.from_residual.result _ _ c.from_residual.ensures.1

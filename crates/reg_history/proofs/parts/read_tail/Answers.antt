@@ -1,4 +1,5 @@
-use Rattle.std.proofs.Common.{ℕ, ◌≡◌, ◌≤◌, List, [], ◌∷◌, ◌++◌, codes, length, get_or, Option, None, Some, inl, true, false, refl, ap, sym, ◌∙◌, arith}
+use Rattle.std.proofs.Common.{ℕ, ◌≡◌, ◌≤◌, List, [], ◌∷◌, ◌++◌, codes, length, get_or, Option, None, Some, inl, true}
+use Rattle.std.proofs.Common.{false, refl, ap, sym, ◌∙◌, arith}
 use Rattle.std.specs.Fmt.{decimal}
 use Rattle.std.specs.Str.{bytes_eq}
 use Rattle.std.proofs.lemmas.Bool.{false≢true}
@@ -45,11 +46,13 @@ no_line left None e = other_lines e
 no_line left (Some ps) e = no_points (decimal (length ps)) (first_line e)
 
 -- the points after their count
-block : (version : Version) (line : List ℕ) (left : List (List ℕ)) (count : ℕ) (ps : List Point) → PointsFit version (Some ps) → line ∷ left ≡ tail_lines (Some ps) → count ≡ length ps
+block : (version : Version) (line : List ℕ) (left : List (List ℕ)) (count : ℕ) (ps : List Point)
+    → PointsFit version (Some ps) → line ∷ left ≡ tail_lines (Some ps) → count ≡ length ps
     → IsBlock point_text (λ _ p. PointFits version p) count left (codes "end" ∷ []) ps
 block version line left count ps fit e same = record { lines = other_lines e; fit = fit.0; count = sym same }
 
-listed : (version : Version) (old : List (List ℕ)) (line : List ℕ) (left : List (List ℕ)) (count : ℕ) (ps : List Point) → old ≡ line ∷ left → line ≡ codes "points " ++ decimal count → count ≤ MOST_IDS
+listed : (version : Version) (old : List (List ℕ)) (line : List ℕ) (left : List (List ℕ)) (count : ℕ) (ps : List Point)
+    → old ≡ line ∷ left → line ≡ codes "points " ++ decimal count → count ≤ MOST_IDS
     → IsBlock point_text (λ _ p. PointFits version p) count left (codes "end" ∷ []) ps → (old ≡ tail_lines (Some ps)) × PointsFit version (Some ps)
 listed version old line left count ps is marked few b = (
   is ∙ ap (λ l. l ∷ left) (marked ∙ ap (λ n. codes "points " ++ decimal n) (sym b.count)) ∙ ap (λ l. (codes "points " ++ decimal (length ps)) ∷ l) b.lines,
@@ -57,11 +60,13 @@ listed version old line left count ps is marked few b = (
 )
 
 -- where the line is not the last one, points are listed
-counted : (version : Version) (old left : List (List ℕ)) (line : List ℕ) (P : Option (List Point) → Type 0) → old ≡ line ∷ left → ¬ (line ≡ codes "end")
+counted : (version : Version) (old left : List (List ℕ)) (line : List ℕ) (P : Option (List Point) → Type 0)
+    → old ≡ line ∷ left → ¬ (line ≡ codes "end")
     → ((ps : List Point) → PointsFit version (Some ps) → line ≡ codes "points " ++ decimal (length ps) → line ∷ left ≡ tail_lines (Some ps) → P (Some ps))
     → (points : Option (List Point)) → PointsFit version points → old ≡ tail_lines points → P points
 counted version old left line P is other whole None fit e = absurd (other (first_line (sym is ∙ e)))
-counted version old left line P is other whole (Some ps) fit e = let both = sym is ∙ e in whole ps fit (first_line both) both
+counted version old left line P is other whole (Some ps) fit e =
+    let both = sym is ∙ e in whole ps fit (first_line both) both
 
 pub returns-in_default-clause-read : goal.returns-in_default-clause-read
 returns-in_default-clause-read g c = tt
@@ -98,7 +103,8 @@ returns-in_err-expect_none-clause-stopped g c =
     (asked_on c.args.lines.now c.next.new.self c.in-Some.line.now c.next.new.self.left c.next.ensures.asked c.in-Some.ensures.line) (tail_further c.args.version) c.in_err-expect_none.ensures.stopped)
 
 pub returns-in_err-count-clause-read : goal.returns-in_err-count-clause-read
-returns-in_err-count-clause-read g c = nothing_read c.from_residual-in_err-count.result _ _ c.from_residual-in_err-count.ensures.1
+returns-in_err-count-clause-read g c =
+    nothing_read c.from_residual-in_err-count.result _ _ c.from_residual-in_err-count.ensures.1
 
 pub returns-in_err-count-clause-whole : goal.returns-in_err-count-clause-whole
 returns-in_err-count-clause-whole g c =
@@ -112,7 +118,8 @@ returns-in_err-count-clause-stopped g c =
     (stops_now (IsWrongTail c.args.version) c.args.lines.now c.next.new.self c.in_err-count.field-0.0 told.0 (Some c.in-Some.line.now) told.1 c.next.ensures.asked (c.next.new.self.left, c.in-Some.ensures.line) (inl (refl, (other_than c.in-Some.line.now c.as_slice.result.now (codes "end") c.if-eq.ensures c.as_slice.ensures, told.2))))
 
 pub returns-in_err-points-clause-read : goal.returns-in_err-points-clause-read
-returns-in_err-points-clause-read g c = nothing_read c.from_residual-in_err-points.result _ _ c.from_residual-in_err-points.ensures.1
+returns-in_err-points-clause-read g c =
+    nothing_read c.from_residual-in_err-points.result _ _ c.from_residual-in_err-points.ensures.1
 
 pub returns-in_err-points-clause-whole : goal.returns-in_err-points-clause-whole
 returns-in_err-points-clause-whole g c =

@@ -10,7 +10,10 @@ use Rattle.reg_text.proofs.Worded.{few}
 use Rattle.reg_history.proofs.WithinLimits.{HaveValues, all_fit}
 use Rattle.reg_history.proofs.reports.parts_fault.Goals as goal
 
-made : (r : Contents) → is_front r.front ≡ true → names_fault r.names ≡ None → 0 < r.shape.processes → r.shape.processes ≤ MOST_PROCESSES → r.shape.registers ≡ length r.names → IsHistory r.shape.processes r.shape.registers r.entries → HaveValues r.entries → InRange Three r.entries r.order r.points → IsReport r
+made : (r : Contents) → is_front r.front ≡ true → names_fault r.names ≡ None → 0 < r.shape.processes
+    → r.shape.processes ≤ MOST_PROCESSES → r.shape.registers ≡ length r.names
+    → IsHistory r.shape.processes r.shape.registers r.entries → HaveValues r.entries
+    → InRange Three r.entries r.order r.points → IsReport r
 made r f n some least same h v i = record { front = f; names = n; few_names = few r.names n; some_process = some; processes = least; registers = same; history = h; entries = all_fit r.names r.shape.processes r.shape.registers r.entries least same h v; range = i }
 
 pub returns : goal.returns

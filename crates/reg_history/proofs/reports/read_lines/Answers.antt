@@ -73,10 +73,12 @@ pub returns-in_err-version-clause-read : goal.returns-in_err-version-clause-read
 returns-in_err-version-clause-read g c = nothing_read c.from_residual.result _ _ c.from_residual.ensures.1
 
 pub returns-in_err-history-clause-read : goal.returns-in_err-history-clause-read
-returns-in_err-history-clause-read g c = nothing_read c.from_residual-in_err-history.result _ _ c.from_residual-in_err-history.ensures.1
+returns-in_err-history-clause-read g c =
+    nothing_read c.from_residual-in_err-history.result _ _ c.from_residual-in_err-history.ensures.1
 
 pub returns-in_err-order-clause-read : goal.returns-in_err-order-clause-read
-returns-in_err-order-clause-read g c = nothing_read c.from_residual-in_err-order.result _ _ c.from_residual-in_err-order.ensures.1
+returns-in_err-order-clause-read g c =
+    nothing_read c.from_residual-in_err-order.result _ _ c.from_residual-in_err-order.ensures.1
 
 pub returns-in_default-clause-read : goal.returns-in_default-clause-read
 returns-in_default-clause-read g c = tt

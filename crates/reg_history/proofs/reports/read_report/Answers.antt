@@ -11,7 +11,8 @@ use Rattle.reg_history.proofs.reports.read_report.Goals as goal
 abbrev pub Read : List (List ℕ) → Contents → Type 0
 Read ls r = (version : Version) × IsReportIn version r × (ls ≡ lines_in version r)
 
-told : (res : Result Contents ReadFault) (bs : List ℕ) (ls : List (List ℕ)) → ls ≡ lines_of bs → IfOk res (λ r. Read ls r) → IfOk res (λ r. SpellsReport bs r)
+told : (res : Result Contents ReadFault) (bs : List ℕ) (ls : List (List ℕ)) → ls ≡ lines_of bs
+    → IfOk res (λ r. Read ls r) → IfOk res (λ r. SpellsReport bs r)
 told (Ok r) bs ls e h = (h.0, h.1, text_with bs (lines_in h.0 r) (sym e ∙ h.2))
 told (Err f) bs ls e h = tt
 

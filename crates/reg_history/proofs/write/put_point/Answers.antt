@@ -4,7 +4,8 @@ use Rattle.std.proofs.lemmas.Fmt.{length-decimal-le}
 use Rattle.reg_history.proofs.write.put_point.Goals as goal
 
 pub write_digits-at-requires : goal.write_digits-at-requires
-write_digits-at-requires g c = (length-decimal-le 30 c.args.point.at (omega arith) (omega arith) (omega arith), omega arith)
+write_digits-at-requires g c =
+    (length-decimal-le 30 c.args.point.at (omega arith) (omega arith) (omega arith), omega arith)
 
 pub write_before-id-requires : goal.write_before-id-requires
 write_before-id-requires g c =

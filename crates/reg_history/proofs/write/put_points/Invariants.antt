@@ -6,4 +6,5 @@ use Rattle.reg_history.proofs.write.put_points.Given as goal
 
 -- the sink has the lines so far
 abbrev pub invariant-loop-point : goal.invariant-loop-point
-invariant-loop-point g l = Puts g.W.Write.contents l.initial.sink l.sink (lines_by point_text (take l.point-index l.points))
+invariant-loop-point g l =
+    Puts g.W.Write.contents l.initial.sink l.sink (lines_by point_text (take l.point-index l.points))

@@ -7,7 +7,8 @@ use Rattle.reg_history.proofs.Columned.{columns_joined, event_built, piece}
 use Rattle.reg_history.proofs.write.put_wide_columns.Goals as goal
 
 pub write_digits-start-requires : goal.write_digits-start-requires
-write_digits-start-requires g c = (length-decimal-le 10 c.args.at (omega arith) (omega arith) (omega arith), omega arith)
+write_digits-start-requires g c =
+    (length-decimal-le 10 c.args.at (omega arith) (omega arith) (omega arith), omega arith)
 
 pub returns : goal.returns
 returns g c =

@@ -1,7 +1,8 @@
 use Rattle.std.proofs.Common.{◌∷◌, refl, sym, ap, rules, ◌∙◌}
 use Rattle.reg_inputs.proofs.Fitting.{ended}
 use Rattle.reg_inputs.proofs.WordMisfits.{call_here}
-use Rattle.reg_inputs.proofs.TellWords.{next_cut, call_told, call_why, beyond_why, no_process_here, none_here, op_missing, no_call_alone}
+use Rattle.reg_inputs.proofs.TellWords.{next_cut, call_told, call_why, beyond_why, no_process_here, none_here}
+use Rattle.reg_inputs.proofs.TellWords.{op_missing, no_call_alone}
 use Rattle.reg_inputs.proofs.event_misfits.call_misfit.Goals as goal
 
 pub returns-in_default-clause-told : goal.returns-in_default-clause-told

@@ -1,6 +1,7 @@
 use Rattle.std.proofs.Common.{refl, rules}
 use Rattle.reg_inputs.proofs.WordMisfits.{event_here}
-use Rattle.reg_inputs.proofs.TellWords.{first_cut, event_told_call, event_told_take, event_told_tick, event_why_call, event_why_take, event_why_tick, no_event_here, no_event_words}
+use Rattle.reg_inputs.proofs.TellWords.{first_cut, event_told_call, event_told_take, event_told_tick, event_why_call}
+use Rattle.reg_inputs.proofs.TellWords.{event_why_take, event_why_tick, no_event_here, no_event_words}
 use Rattle.reg_inputs.proofs.event_misfits.event_misfit_by.Goals as goal
 
 pub returns-then-eq-clause-told : goal.returns-then-eq-clause-told

@@ -1,11 +1,14 @@
-use Rattle.std.proofs.Common.{rules, ◌+◌, ◌≤◌, slice_index_or, List, length, take, drop, sym, ap, subst, ◌∙◌, arith, refl}
+use Rattle.std.proofs.Common.{rules, ◌+◌, ◌≤◌, slice_index_or, List, length, take, drop, sym, ap, subst, ◌∙◌, arith}
+use Rattle.std.proofs.Common.{refl}
 use Rattle.std.proofs.lemmas.List.{take-append-drop, drop_more}
 use Rattle.reg_inputs.specs.declared.misfits.Wanted.{Wanted}
 use Rattle.reg_inputs.specs.declared.misfits.Wanted.TheVariants.{Event}
 use Rattle.reg_inputs.specs.Arguments.{FitAll, Reached, next_of}
-use Rattle.reg_inputs.proofs.Fitting.{reached_more, reached_all, stopped, ended, no_more, not_end, not_word, plain_at, first_is, take_all, take_next, lengths, none_left}
+use Rattle.reg_inputs.proofs.Fitting.{reached_more, reached_all, stopped, ended, no_more, not_end, not_word, plain_at}
+use Rattle.reg_inputs.proofs.Fitting.{first_is, take_all, take_next, lengths, none_left}
 use Rattle.reg_inputs.proofs.misfits.arguments_misfit.Goals as goal
-use Rattle.reg_inputs.proofs.misfits.arguments_misfit.Goals.{in_default-via-in-Some+else-fits, in_default-via-in_default}
+use Rattle.reg_inputs.proofs.misfits.arguments_misfit.Goals.{in_default-via-in-Some+else-fits}
+use Rattle.reg_inputs.proofs.misfits.arguments_misfit.Goals.{in_default-via-in_default}
 
 pub returns-in_default : goal.returns-in_default
 returns-in_default g c = λ words apart e.

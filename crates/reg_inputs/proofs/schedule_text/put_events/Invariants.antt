@@ -6,4 +6,5 @@ use Rattle.reg_inputs.proofs.schedule_text.put_events.Given as goal
 
 -- the sink has the lines so far
 abbrev pub invariant-loop-event : goal.invariant-loop-event
-invariant-loop-event g l = Puts g.W.Write.contents l.initial.sink l.sink (lines_by (event_text l.names) (take l.event-index l.events))
+invariant-loop-event g l =
+    Puts g.W.Write.contents l.initial.sink l.sink (lines_by (event_text l.names) (take l.event-index l.events))

@@ -9,13 +9,16 @@ use Rattle.reg_inputs.specs.Schedules.{Plan, event_text, EventFits}
 use Rattle.reg_text.proofs.Shaped.{shape_is}
 use Rattle.reg_inputs.proofs.schedules.read_plan.Goals as goal
 
-fits : (names ns : List (List ℕ)) (es : List Event) → names ≡ ns → AllFit (λ _ x. EventFits ns x) es → AllFit (λ _ x. EventFits names x) es
+fits : (names ns : List (List ℕ)) (es : List Event) → names ≡ ns → AllFit (λ _ x. EventFits ns x) es
+    → AllFit (λ _ x. EventFits names x) es
 fits names ns es e h = let P : List (List ℕ) → Type 0 = λ n. AllFit (λ _ x. EventFits n x) es in subst P (sym e) h
 
-lines : (names ns : List (List ℕ)) (es : List Event) (l : List (List ℕ)) → names ≡ ns → l ≡ map (event_text ns) es → l ≡ map (event_text names) es
+lines : (names ns : List (List ℕ)) (es : List Event) (l : List (List ℕ)) → names ≡ ns → l ≡ map (event_text ns) es
+    → l ≡ map (event_text names) es
 lines names ns es l e h = h ∙ ap (λ n. map (event_text n) es) (sym e)
 
-same_plan : (p : Plan) (shape : Extent) (names : List (List ℕ)) (front : Front) (events : List Event) → shape ≡ p.shape → names ≡ p.names → front ≡ p.front → events ≡ p.events
+same_plan : (p : Plan) (shape : Extent) (names : List (List ℕ)) (front : Front) (events : List Event) → shape ≡ p.shape
+    → names ≡ p.names → front ≡ p.front → events ≡ p.events
     → record { shape = shape; names = names; front = front; events = events } ≡ p
 same_plan p shape names front events a b d e = rw (a, b, d, e) refl
 

@@ -5,4 +5,5 @@ use Rattle.reg_inputs.proofs.Spelled.{Spelled}
 use Rattle.reg_inputs.proofs.scripts.script_of.Given as goal
 
 abbrev pub invariant-loop-value : goal.invariant-loop-value
-invariant-loop-value g l = (l.place ≡ l.value-index) × Spelled (op_data l.names) (OpFits l.names) l.lines l.value-index l.ops.items
+invariant-loop-value g l =
+    (l.place ≡ l.value-index) × Spelled (op_data l.names) (OpFits l.names) l.lines l.value-index l.ops.items

@@ -9,7 +9,8 @@ use Rattle.reg_inputs.specs.Loads.{IsScript, script_data}
 use Rattle.reg_inputs.proofs.Whole.{loads_same, names_same, scripts_read}
 use Rattle.reg_text.proofs.Shaped.{shape_is}
 use Rattle.reg_inputs.proofs.Loaded.{loaded}
-use Rattle.reg_inputs.proofs.Refused.{unknown_key, wrong_front, wrong_names, wrong_scripts, none_wrong, counted, shape_fits}
+use Rattle.reg_inputs.proofs.Refused.{unknown_key, wrong_front, wrong_names, wrong_scripts, none_wrong, counted}
+use Rattle.reg_inputs.proofs.Refused.{shape_fits}
 use Rattle.reg_inputs.proofs.workloads.workload_of.Goals as goal
 
 pub invariant_of-result : goal.invariant_of-result
@@ -64,7 +65,8 @@ unreachable-requires g c =
     c.in_default.not-Ok (record { processes = c.len.result; registers = c.count.result }) (c.new.ensures ∙ shape_fits c.len.result c.count.result c.in_ok-names.names some few c.count.ensures.well c.count.ensures.value)
 
 pub returns-then-not-has_known_keys-clause-refused : goal.returns-then-not-has_known_keys-clause-refused
-returns-then-not-has_known_keys-clause-refused g c = inr (inl (unknown_key (table_view c.args.table.now) (sym c.if-not-has_known_keys.ensures)))
+returns-then-not-has_known_keys-clause-refused g c =
+    inr (inl (unknown_key (table_view c.args.table.now) (sym c.if-not-has_known_keys.ensures)))
 
 pub returns-in_err-front-clause-refused : goal.returns-in_err-front-clause-refused
 returns-in_err-front-clause-refused g c =

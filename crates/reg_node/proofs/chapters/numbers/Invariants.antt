@@ -4,4 +4,5 @@ use Rattle.reg_node.proofs.chapters.numbers.Given as goal
 
 -- the numbers so far
 abbrev pub invariant-loop-place : goal.invariant-loop-place
-invariant-loop-place g l = (length l.numbers.items ≡ l.place) × (take (l.place * 8) l.bytes ≡ numbers_bytes l.numbers.items)
+invariant-loop-place g l =
+    (length l.numbers.items ≡ l.place) × (take (l.place * 8) l.bytes ≡ numbers_bytes l.numbers.items)

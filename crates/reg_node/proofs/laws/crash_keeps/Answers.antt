@@ -8,4 +8,5 @@ pub returns-clause-given : goal.returns-clause-given
 returns-clause-given c = crash_given
 
 pub returns-clause-bodies : goal.returns-clause-bodies
-returns-clause-bodies c = λ start first past n kept to number is le g. crash_bodies start first past n kept is to number le g
+returns-clause-bodies c =
+    λ start first past n kept to number is le g. crash_bodies start first past n kept is to number le g

@@ -12,7 +12,8 @@ loop-place-preserved c =
     }
 
 pub returns-in_default-clause-read : goal.returns-in_default-clause-read
-returns-in_default-clause-read c = heard_all _ _ _ _ c.loop-place.invariant.heard (no_line _ _ c.in_default.ensures.line)
+returns-in_default-clause-read c =
+    heard_all _ _ _ _ c.loop-place.invariant.heard (no_line _ _ c.in_default.ensures.line)
 
 pub returns-in-None-clause-read : goal.returns-in-None-clause-read
 returns-in-None-clause-read c = heard_all _ _ _ _ c.loop-place.invariant.heard (no_line _ _ c.in-None.ensures.line)

@@ -1,4 +1,5 @@
-use Rattle.std.proofs.Common.{◌≡◌, ℕ, ◌+◌, ◌<◌, List, ◌++◌, Option, None, length, get_or, take, ap, sym, ◌∙◌, append_assoc, append-nil, arith}
+use Rattle.std.proofs.Common.{◌≡◌, ℕ, ◌+◌, ◌<◌, List, ◌++◌, Option, None, length, get_or, take, ap, sym, ◌∙◌}
+use Rattle.std.proofs.Common.{append_assoc, append-nil, arith}
 use Rattle.std.specs.Prelude.{Vec}
 use Rattle.std.proofs.lemmas.List.{take_all, take_more}
 use Rattle.reg_base.specs.declared.memory.Op.{Op}
@@ -10,7 +11,9 @@ use Rattle.reg_outcomes.proofs.told.tell_process.Goals.{in-Some+in_ok-push, in_d
 use Rattle.reg_outcomes.proofs.told.tell_process.Goals as goal
 
 -- what one more entry told
-one_more : (p : ℕ) (h : List Entry) (k : ℕ) (e : Entry) (start old now : List ToldAnswer) (last : Option Op) → k < length h → old ≡ start ++ told_of p (take k h) → last ≡ last_in p None (take k h) → now ≡ old ++ told_at p last (get_or h k e) → now ≡ start ++ told_of p (take (k + 1) h)
+one_more : (p : ℕ) (h : List Entry) (k : ℕ) (e : Entry) (start old now : List ToldAnswer) (last : Option Op)
+    → k < length h → old ≡ start ++ told_of p (take k h) → last ≡ last_in p None (take k h)
+    → now ≡ old ++ told_at p last (get_or h k e) → now ≡ start ++ told_of p (take (k + 1) h)
 one_more p h k e start old now last inside before called is =
     let x = get_or h k e in
     let joined = ap (told_of p) (take_more h k e inside) ∙ told_push p None (take k h) x in
@@ -18,7 +21,8 @@ one_more p h k e start old now last inside before called is =
     ∙ append_assoc start (told_of p (take k h)) (told_at p (last_in p None (take k h)) x) ∙ ap (λ (l : List ToldAnswer). start ++ l) (sym joined)
 
 -- and the operation called last in it and those before it
-last_more : (p : ℕ) (h : List Entry) (k : ℕ) (e : Entry) (last now : Option Op) → k < length h → last ≡ last_in p None (take k h) → now ≡ called_last p last (get_or h k e) → now ≡ last_in p None (take (k + 1) h)
+last_more : (p : ℕ) (h : List Entry) (k : ℕ) (e : Entry) (last now : Option Op) → k < length h
+    → last ≡ last_in p None (take k h) → now ≡ called_last p last (get_or h k e) → now ≡ last_in p None (take (k + 1) h)
 last_more p h k e last now inside before is =
     let x = get_or h k e in
     is ∙ ap (λ l. called_last p l x) before ∙ sym (ap (last_in p None) (take_more h k e inside) ∙ last_push p None (take k h) x)

@@ -5,7 +5,8 @@ use Rattle.reg_outcomes.proofs.Leading.{few_operations, most_operations}
 use Rattle.reg_outcomes.proofs.turning.has_room.Goals as goal
 
 pub count_operations-operations-requires : goal.count_operations-operations-requires
-count_operations-operations-requires g c = few_operations (map (λ v. v.items) c.args.scripts.now) c.args.registers c.requires
+count_operations-operations-requires g c =
+    few_operations (map (λ v. v.items) c.args.scripts.now) c.args.registers c.requires
 
 pub overflow_mul-result : goal.overflow_mul-result
 overflow_mul-result g c =

@@ -2,7 +2,8 @@ use Rattle.std.proofs.Common.{◌≡◌, ◌∙◌, ℕ, length, map, refl, sym,
 use Rattle.std.proofs.lemmas.List.{length-map}
 use Rattle.reg_outcomes.specs.Interleavings.{Interleaving, first_stage}
 use Rattle.reg_outcomes.specs.Layers.{stage_of}
-use Rattle.reg_outcomes.proofs.Turns.{IsTurnAt, begins, goes_further, has_number, has_script_here, is_left, is_run, may_go, number_next, register_there, turn_at}
+use Rattle.reg_outcomes.proofs.Turns.{IsTurnAt, begins, goes_further, has_number, has_script_here, is_left, is_run}
+use Rattle.reg_outcomes.proofs.Turns.{may_go, number_next, register_there, turn_at}
 use Rattle.reg_outcomes.proofs.turning.take_turns.Goals as goal
 
 pub loop-turn-init : goal.loop-turn-init

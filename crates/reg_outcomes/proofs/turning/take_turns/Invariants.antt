@@ -5,4 +5,5 @@ use Rattle.reg_outcomes.proofs.turning.take_turns.Given as goal
 
 -- the turns so far were made
 abbrev pub invariant-loop-turn : goal.invariant-loop-turn
-invariant-loop-turn g l = IsUnderWay g.F.FrontEnd.start (map (λ v. v.items) l.scripts) l.registers l.outcome l.turn (stage_of l.stage) l.world
+invariant-loop-turn g l =
+    IsUnderWay g.F.FrontEnd.start (map (λ v. v.items) l.scripts) l.registers l.outcome l.turn (stage_of l.stage) l.world

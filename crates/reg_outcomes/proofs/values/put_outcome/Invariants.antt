@@ -6,4 +6,5 @@ use Rattle.reg_outcomes.proofs.values.put_outcome.Given as goal
 
 -- the values so far
 abbrev pub invariant-loop-told : goal.invariant-loop-told
-invariant-loop-told g l = Puts g.W.Write.contents l.initial.sink l.sink (flat_map told_text (take l.told-index l.outcome))
+invariant-loop-told g l =
+    Puts g.W.Write.contents l.initial.sink l.sink (flat_map told_text (take l.told-index l.outcome))

@@ -4,7 +4,8 @@ use Rattle.reg_process.proofs.Again.{replicate_more}
 use Rattle.reg_process.proofs.puts.new_inboxes.Goals as goal
 
 pub loop-i-init : goal.loop-i-init
-loop-i-init g c = record { items = c.in_ok-all.ensures.items; room = let z = c.in_ok-all.ensures.capacity in omega (arith, z) }
+loop-i-init g c =
+    record { items = c.in_ok-all.ensures.items; room = let z = c.in_ok-all.ensures.capacity in omega (arith, z) }
 
 pub loop-i-preserved : goal.loop-i-preserved
 loop-i-preserved g c = record {

@@ -5,4 +5,5 @@ use Rattle.reg_process.specs.Sending.{sent_frames}
 use Rattle.reg_process.proofs.puts.put_all.Given as goal
 
 abbrev pub invariant-loop-r : goal.invariant-loop-r
-invariant-loop-r g l = (l.frames.items ≡ puts (sent_frames l.sent) l.r) × (vec_capacity l.initial.frames ≤ vec_capacity l.frames)
+invariant-loop-r g l =
+    (l.frames.items ≡ puts (sent_frames l.sent) l.r) × (vec_capacity l.initial.frames ≤ vec_capacity l.frames)

@@ -3,7 +3,8 @@ use Rattle.reg_process.proofs.Outs.{length-outs, sent_all}
 use Rattle.reg_process.proofs.puts.queue_on_all.Goals as goal
 
 pub queue_for_others-requires-clause-me : goal.queue_for_others-requires-clause-me
-queue_for_others-requires-clause-me g c = let n = length-outs c.args.me c.args.outboxes.now in let h = c.requires.me in omega (arith, n, h)
+queue_for_others-requires-clause-me g c =
+    let n = length-outs c.args.me c.args.outboxes.now in let h = c.requires.me in omega (arith, n, h)
 
 pub overflow_cast-processes : goal.overflow_cast-processes
 overflow_cast-processes g c = let n = length-outs c.args.me c.args.outboxes.now in let e = c.processes-processes.ensures in let h = c.requires.few in omega (arith, n, e, h)

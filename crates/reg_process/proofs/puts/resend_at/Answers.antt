@@ -5,7 +5,9 @@ use Rattle.reg_process.specs.Parts.{nothing}
 use Rattle.reg_process.specs.Queued.{outs_of}
 use Rattle.reg_process.proofs.Again.{again_get, again_own, again_past, again_nowhere}
 use Rattle.reg_process.proofs.Outs.{again_same, length-outs}
-use Rattle.reg_process.proofs.puts.resend_at.Goals.{then-to-me-via-then-to-me, then-to-me-via-else-to-me+then-to-processes, then-to-me-via-else-to-me+else-to-processes+then-place-ge-MOST_RESENT}
+use Rattle.reg_process.proofs.puts.resend_at.Goals.{then-to-me-via-then-to-me}
+use Rattle.reg_process.proofs.puts.resend_at.Goals.{then-to-me-via-else-to-me+then-to-processes}
+use Rattle.reg_process.proofs.puts.resend_at.Goals.{then-to-me-via-else-to-me+else-to-processes+then-place-ge-MOST_RESENT}
 use Rattle.reg_process.proofs.puts.resend_at.Goals as goal
 
 pub returns-then-to-me : goal.returns-then-to-me

@@ -6,7 +6,8 @@ use Rattle.reg_reasons.proofs.WhyTold.{if_ok, tells_load}
 use Rattle.reg_reasons.proofs.refusals.tell_load.Goals as goal
 
 pub operations_of-requires : goal.operations_of-requires
-operations_of-requires g c = few_counted _ c.as_slice.result.now (ap ops_in (sym c.as_slice.ensures.value)) c.work.invariant
+operations_of-requires g c =
+    few_counted _ c.as_slice.result.now (ap ops_in (sym c.as_slice.ensures.value)) c.work.invariant
 
 pub returns : goal.returns
 returns g c =

@@ -4,4 +4,5 @@ use Rattle.reg_records.specs.Playing.{frames_on}
 use Rattle.reg_records.proofs.finding.first_place.Given as goal
 
 abbrev pub invariant-loop-place : goal.invariant-loop-place
-invariant-loop-place g l = (k : ℕ) → k < l.place → IsAt (frames_on g.F.FrontEnd.start l.world l.fn.from l.fn.to) k l.frame → ⊥
+invariant-loop-place g l =
+    (k : ℕ) → k < l.place → IsAt (frames_on g.F.FrontEnd.start l.world l.fn.from l.fn.to) k l.frame → ⊥

@@ -83,10 +83,12 @@ pub take-requires-2-clause-to : goal.take-requires-2-clause-to
 take-requires-2-clause-to g c = let e = (c.loop-number.invariant (λ _ _. 0) c.requires.again).moves.processes in let l = c.requires.from in omega (arith, e, l)
 
 -- at the end all were taken
-all_taken : (number end count : ℕ) → end - count ≤ number → (end - count ≤ end → number ≤ end) → end ≤ number → count ≤ end → number - (end - count) ≡ count
+all_taken : (number end count : ℕ) → end - count ≤ number → (end - count ≤ end → number ≤ end) → end ≤ number
+    → count ≤ end → number - (end - count) ≡ count
 all_taken number end count a b l w = let m = b (omega arith) in omega (arith, a, m, l, w)
 
-taken_all : (g : Over) (c : goal.After-take-arg-2-1 g) → c.loop-number.number - (c.frame_count-end.result - c.again_count-count.result) ≡ c.again_count-count.result
+taken_all : (g : Over) (c : goal.After-take-arg-2-1 g)
+    → c.loop-number.number - (c.frame_count-end.result - c.again_count-count.result) ≡ c.again_count-count.result
 taken_all g c =
     let e = end_is g.F.FrontEnd.start (λ _ _. 0) c.args.from c.args.to c.args.world.now c.requires.from c.requires.to c.requires.apart c.requires.again c.args.world.now in
     let a = c.again_count-count.ensures in

@@ -5,4 +5,4 @@ use Rattle.reg_records.specs.Receipts.{AreFinished}
 use Rattle.reg_records.proofs.telling.first_untold.Given as goal
 
 abbrev pub invariant-loop-process : goal.invariant-loop-process
-invariant-loop-process g l = (p : ℕ) (those : List Receipt) → p < l.process → IsAt (map (λ v. v.items) l.lists) p those → AreFinished l.entries p those
+invariant-loop-process g l = (p : ℕ) (those : List Receipt) → p < l.process → IsAt (map (λ v. v.items) l.receipts) p those → AreFinished l.entries p those

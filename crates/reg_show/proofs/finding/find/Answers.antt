@@ -9,10 +9,13 @@ use Rattle.reg_show.proofs.Reordering.{blamed, found_any, none_any}
 use Rattle.reg_show.proofs.finding.find.Goals as goal
 
 -- what was found of the report, by whether there is an order
-is_found : (kind : OrderKind) (r found : Contents) (o : Option Contents) → MatchOption o (HasNone kind r) (λ x. IsReordered kind r x) → o ≡ Some found → IsReordered kind r found
-is_found kind r found o h e = subst (λ (x : Option Contents). MatchOption x (HasNone kind r) (λ y. IsReordered kind r y)) e h
+is_found : (kind : OrderKind) (r found : Contents) (o : Option Contents)
+    → MatchOption o (HasNone kind r) (λ x. IsReordered kind r x) → o ≡ Some found → IsReordered kind r found
+is_found kind r found o h e =
+    subst (λ (x : Option Contents). MatchOption x (HasNone kind r) (λ y. IsReordered kind r y)) e h
 
-is_none : (kind : OrderKind) (r : Contents) (o : Option Contents) → MatchOption o (HasNone kind r) (λ x. IsReordered kind r x) → o ≡ None → HasNone kind r
+is_none : (kind : OrderKind) (r : Contents) (o : Option Contents)
+    → MatchOption o (HasNone kind r) (λ x. IsReordered kind r x) → o ≡ None → HasNone kind r
 is_none kind r o h e = subst (λ (x : Option Contents). MatchOption x (HasNone kind r) (λ y. IsReordered kind r y)) e h
 
 pub returns-in_err-found-clause-why : goal.returns-in_err-found-clause-why

@@ -2,7 +2,8 @@ use Rattle.std.proofs.Common.{◌∙◌, refl, sym}
 use Rattle.reg_inputs.specs.Schedules.{Plan}
 use Rattle.reg_inputs.specs.ScheduleText.{schedule_text}
 use Rattle.reg_commands.proofs.Sending.{writing_failed, flush_failed}
-use Rattle.reg_show.proofs.scheduling.send.Goals.{then-is_err-via-then-is_err, then-is_err-via-else-is_err+then-is_err-2}
+use Rattle.reg_show.proofs.scheduling.send.Goals.{then-is_err-via-then-is_err}
+use Rattle.reg_show.proofs.scheduling.send.Goals.{then-is_err-via-else-is_err+then-is_err-2}
 use Rattle.reg_show.proofs.scheduling.send.Goals as goal
 
 pub returns-then-is_err : goal.returns-then-is_err

@@ -6,4 +6,5 @@ use Rattle.reg_show_cli.proofs.program.put_topics.Given as goal
 
 -- the commands so far
 abbrev pub invariant-loop-topic : goal.invariant-loop-topic
-invariant-loop-topic g l = Puts g.W.Write.contents l.initial.sink l.sink (flat_map topic_lines (take l.topic-index l.topic-items))
+invariant-loop-topic g l =
+    Puts g.W.Write.contents l.initial.sink l.sink (flat_map topic_lines (take l.topic-index l.topic-items))

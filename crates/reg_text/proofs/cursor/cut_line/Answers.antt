@@ -5,7 +5,8 @@ use Rattle.reg_text.proofs.Split.{empty_is, last_is, line_first, none_left}
 use Rattle.reg_text.proofs.cursor.cut_line.Goals as goal
 
 pub returns-then-is_empty-clause-lines : goal.returns-then-is_empty-clause-lines
-returns-then-is_empty-clause-lines c = ap lines_of (empty_is c.args.text.now (sym c.is_empty.ensures ∙ c.if-is_empty.true)) ∙ none_left
+returns-then-is_empty-clause-lines c =
+    ap lines_of (empty_is c.args.text.now (sym c.is_empty.ensures ∙ c.if-is_empty.true)) ∙ none_left
 
 pub returns-then-place-text-clause-lines : goal.returns-then-place-text-clause-lines
 returns-then-place-text-clause-lines c =

@@ -1,6 +1,7 @@
 use Rattle.std.proofs.Common.{refl, sym, ◌∙◌}
 use Rattle.reg_text.proofs.Formed.{no_truth}
-use Rattle.reg_text.proofs.OpForms.{read_bad, read_good, write_told, write_form, swap_told, swap_form, cas_told, cas_form, IsNoWord, none_told, no_form}
+use Rattle.reg_text.proofs.OpForms.{read_bad, read_good, write_told, write_form, swap_told, swap_form, cas_told}
+use Rattle.reg_text.proofs.OpForms.{cas_form, IsNoWord, none_told, no_form}
 use Rattle.reg_text.proofs.forms.op_form.Goals as goal
 
 pub returns-then-not-is_word : goal.returns-then-not-is_word

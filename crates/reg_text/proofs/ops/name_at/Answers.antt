@@ -7,4 +7,5 @@ pub returns-in-None : goal.returns-in-None
 returns-in-None g c = missing c.args.names.now c.args.register (sym c.in-None.ensures)
 
 pub returns-in-Some : goal.returns-in-Some
-returns-in-Some g c = sym (get_or_from_slice_get c.args.names.now c.args.register c.in-Some.name.now [] (sym c.in-Some.ensures))
+returns-in-Some g c =
+    sym (get_or_from_slice_get c.args.names.now c.args.register c.in-Some.name.now [] (sym c.in-Some.ensures))

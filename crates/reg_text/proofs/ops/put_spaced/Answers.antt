@@ -6,7 +6,8 @@ use Rattle.reg_text.proofs.Spaced.{spaced}
 use Rattle.reg_text.proofs.ops.put_spaced.Goals as goal
 
 pub write_digits-start-requires : goal.write_digits-start-requires
-write_digits-start-requires g c = (length-decimal-le 21 c.args.number (omega arith) (omega arith) c.ranges.number.fits, omega arith)
+write_digits-start-requires g c =
+    (length-decimal-le 21 c.args.number (omega arith) (omega arith) c.ranges.number.fits, omega arith)
 
 pub overflow_sub-start : goal.overflow_sub-start
 overflow_sub-start g c =

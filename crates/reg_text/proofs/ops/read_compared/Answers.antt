@@ -38,7 +38,8 @@ returns-clause-read g c =
     c.in_ok-name.ensures.read.0 c.in_ok-expected.ensures.read.0 c.in_ok-register.ensures c.in_ok-expected-2.ensures.read.0 c.in_ok-value.ensures.read.0 in
     (t.0, t.1, c.in_ok-expected-2.ensures.read.1, c.in_ok-value.ensures.read.1)
 
-same : (a b c d e f : ℕ) → Some a ≡ Some b → Some c ≡ Some d → Some e ≡ Some f → ◌≡◌ {A = Option (ℕ × ℕ × ℕ)} (Some (a, c, e)) (Some (b, d, f))
+same : (a b c d e f : ℕ) → Some a ≡ Some b → Some c ≡ Some d → Some e ≡ Some f
+    → ◌≡◌ {A = Option (ℕ × ℕ × ℕ)} (Some (a, c, e)) (Some (b, d, f))
 same a b c d e f g h i = cc
 
 pub returns-clause-whole : goal.returns-clause-whole

@@ -1,6 +1,7 @@
 use Rattle.std.proofs.Common.{refl, ap, ◌∙◌, ◌++◌, codes}
 use Rattle.reg_text.proofs.NamesLack.{got_is}
-use Rattle.reg_text.proofs.Spelling.{read_same, unread, unwritten, unswapped, uncompared, write_same, swap_same, compare_same, unspelt}
+use Rattle.reg_text.proofs.Spelling.{read_same, unread, unwritten, unswapped, uncompared, write_same, swap_same}
+use Rattle.reg_text.proofs.Spelling.{compare_same, unspelt}
 use Rattle.reg_text.proofs.ops.read_op.Goals as goal
 
 pub returns-in-Some-clause-read : goal.returns-in-Some-clause-read

@@ -4,7 +4,8 @@ use Rattle.reg_text.proofs.Parts.{rest_of}
 use Rattle.reg_text.proofs.Worded.{cut_word}
 use Rattle.reg_text.proofs.words.next_word.Goals as goal
 
-behind : (bs front after : List ℕ) → bs ≡ front ++ after → take (length bs - length front) (drop (length front) bs) ≡ after
+behind : (bs front after : List ℕ) → bs ≡ front ++ after
+    → take (length bs - length front) (drop (length front) bs) ≡ after
 behind bs front after e = rest_of bs (length front) ∙ ap (drop (length front)) e ∙ drop-append_seam front after
 
 pub returns-in-Some-clause-read : goal.returns-in-Some-clause-read

@@ -1,4 +1,5 @@
-use Rattle.std.proofs.Common.{ℕ, ◌≡◌, ◌⊎◌, List, [], ◌∷◌, ◌++◌, codes, length, get_or, sym, ap, ◌∙◌, inl, inr, take, drop, arith}
+use Rattle.std.proofs.Common.{ℕ, ◌≡◌, ◌⊎◌, List, [], ◌∷◌, ◌++◌, codes, length, get_or, sym, ap, ◌∙◌, inl, inr, take}
+use Rattle.std.proofs.Common.{drop, arith}
 use Rattle.std.proofs.lemmas.Option.{none-some}
 use Rattle.std.proofs.lemmas.List.{take_all}
 use Rattle.reg_base.specs.Names.{texts, names_fault}
@@ -15,7 +16,9 @@ no_lines : {A : Type 0} {line : List ℕ} {rest : List (List ℕ)} → [] ≡ li
 no_lines e = absurd (omega (arith, ap length e))
 
 -- what is told of a line whose words may be wrong
-told_form : (why told : Why) (n : ℕ) (f : TextFault) (text line : List ℕ) → (told ≡ Form) ⊎ ((told ≡ why) × HasWords text) → f ≡ Line n told → line ≡ codes "registers" ++ text → ((t : List ℕ) → HasWords t → ¬ (line ≡ codes "registers" ++ t)) → (f ≡ OutOfMemory) ⊎ (f ≡ Line n Form)
+told_form : (why told : Why) (n : ℕ) (f : TextFault) (text line : List ℕ)
+    → (told ≡ Form) ⊎ ((told ≡ why) × HasWords text) → f ≡ Line n told → line ≡ codes "registers" ++ text
+    → ((t : List ℕ) → HasWords t → ¬ (line ≡ codes "registers" ++ t)) → (f ≡ OutOfMemory) ⊎ (f ≡ Line n Form)
 told_form why told n f text line (inl form) is e none = inr (is ∙ ap (Line n) form)
 told_form why told n f text line (inr p) is e none = absurd (none text p.1 e)
 
@@ -52,7 +55,9 @@ not_memory : {A : Type 0} (why : Why) → OfWords why ≡ NoMemory → A
 not_memory why e = absurd (cc)
 
 -- what is told of words that are refused
-told_words : (limit : ℕ) (ws : List (List ℕ)) (why told : Why) (n : ℕ) (f : TextFault) → (OfWords why ≡ NoMemory) ⊎ IsWordsWhy limit ws (OfWords why) → told ≡ why → f ≡ Line n told → (f ≡ OutOfMemory) ⊎ ((any : Why) × IsNamesWhy limit ws any × (f ≡ Line n any))
+told_words : (limit : ℕ) (ws : List (List ℕ)) (why told : Why) (n : ℕ) (f : TextFault)
+    → (OfWords why ≡ NoMemory) ⊎ IsWordsWhy limit ws (OfWords why) → told ≡ why → f ≡ Line n told
+    → (f ≡ OutOfMemory) ⊎ ((any : Why) × IsNamesWhy limit ws any × (f ≡ Line n any))
 told_words limit ws why told n f (inl e) same is = not_memory why e
 told_words limit ws why told n f (inr here) same is = inr (why, here, is ∙ ap (Line n) same)
 
@@ -62,7 +67,8 @@ returns-in-Ok-new-clause-read g c =
     (c.in-Some.ensures.line ∙ ap (λ l. l ∷ c.next.new.self.left) (c.in-Some-skip.ensures.read ∙ ap (λ l. codes "registers" ++ l) (c.in-Ok.ensures.read.0 ∙ ap names_text (sym made.0))), ap names_fault made.0 ∙ made.1)
 
 pub returns-in-Ok-new-clause-few : goal.returns-in-Ok-new-clause-few
-returns-in-Ok-new-clause-few g c = let size = ap length c.in-Ok-new.ensures.0 in omega (arith, size, c.in-Ok.ensures.read.1)
+returns-in-Ok-new-clause-few g c =
+    let size = ap length c.in-Ok-new.ensures.0 in omega (arith, size, c.in-Ok.ensures.read.1)
 
 pub returns-in-Ok-new-clause-whole : goal.returns-in-Ok-new-clause-whole
 returns-in-Ok-new-clause-whole g c = λ ns rest ok few e.

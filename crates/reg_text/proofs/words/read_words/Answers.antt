@@ -1,4 +1,5 @@
-use Rattle.std.proofs.Common.{arith, ℕ, ◌≡◌, ◌+◌, List, [], ◌∷◌, ◌++◌, sym, ap, ◌∙◌, subst, rules, string_bytes, inr, take}
+use Rattle.std.proofs.Common.{arith, ℕ, ◌≡◌, ◌+◌, List, [], ◌∷◌, ◌++◌, sym, ap, ◌∙◌, subst, rules, string_bytes, inr}
+use Rattle.std.proofs.Common.{take}
 use Rattle.std.proofs.lemmas.List.{map-append}
 use Rattle.reg_base.specs.Names.{texts}
 use Rattle.reg_text.proofs.Split.{empty_is}

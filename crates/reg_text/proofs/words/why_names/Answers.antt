@@ -7,7 +7,8 @@ pub loop-turn-init : goal.loop-turn-init
 loop-turn-init c = seen c.args.text.now
 
 pub returns-then-is_empty-clause-words : goal.returns-then-is_empty-clause-words
-returns-then-is_empty-clause-words c = λ ws are e. absurd (no_words c.args.text.now ws (sym c.is_empty.ensures ∙ c.if-is_empty.true) are.0 e)
+returns-then-is_empty-clause-words c =
+    λ ws are e. absurd (no_words c.args.text.now ws (sym c.is_empty.ensures ∙ c.if-is_empty.true) are.0 e)
 
 pub returns-then-not-is_word-clause-words : goal.returns-then-not-is_word-clause-words
 returns-then-not-is_word-clause-words c = λ ws are e.

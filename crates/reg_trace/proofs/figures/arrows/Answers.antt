@@ -1,4 +1,5 @@
-use Rattle.std.proofs.Common.{ℕ, ◌≡◌, ◌+◌, ◌<◌, List, [], ◌++◌, length, drop, get_or, Option, None, Some, refl, sym, ap, ◌∙◌, append_assoc, append-nil, arith}
+use Rattle.std.proofs.Common.{ℕ, ◌≡◌, ◌+◌, ◌<◌, List, [], ◌++◌, length, drop, get_or, Option, None, Some, refl, sym, ap}
+use Rattle.std.proofs.Common.{◌∙◌, append_assoc, append-nil, arith}
 use Rattle.std.specs.BTreeMap.{get}
 use Rattle.std.proofs.lemmas.List.{at_drop_more, at_drop_all}
 use Rattle.reg_process.specs.declared.events.Event.{Event}
@@ -11,16 +12,21 @@ use Rattle.reg_trace.proofs.figures.arrows.Goals as goal
 use Rattle.reg_trace.proofs.figures.arrows.Goals.{in-Take+in-Some+in_ok-push, in-Take+in_default-putter_of, in_default}
 
 -- after one more moment
-one_more : (all : List Fact) (k : ℕ) (f : Fact) (old new added : List Arrow) → k < length all → f ≡ get_or all k f → arrow_of all k f.event ≡ added → new ≡ old ++ added → old ++ arrows_in all k (drop k all) ≡ arrows_of all → new ++ arrows_in all (k + 1) (drop (k + 1) all) ≡ arrows_of all
+one_more : (all : List Fact) (k : ℕ) (f : Fact) (old new added : List Arrow) → k < length all → f ≡ get_or all k f
+    → arrow_of all k f.event ≡ added → new ≡ old ++ added → old ++ arrows_in all k (drop k all) ≡ arrows_of all
+    → new ++ arrows_in all (k + 1) (drop (k + 1) all) ≡ arrows_of all
 one_more all k f old new added l is own grown h =
     let rest : List Arrow = arrows_in all (k + 1) (drop (k + 1) all) in
     let step : arrows_in all k (drop k all) ≡ added ++ rest = at_drop_more (arrows_in all k) all k f l ∙ ap (λ (x : Fact). arrow_of all k x.event ++ rest) (sym is) ∙ ap (λ a. a ++ rest) own in
     ap (λ a. a ++ rest) grown ∙ append_assoc old added rest ∙ ap (λ a. old ++ a) (sym step) ∙ h
 
-taken : (all : List Fact) (k : ℕ) (e : Event) (from to place : ℕ) (found o : Option ℕ) → e ≡ Take from to place → found ≡ putter from to place all → found ≡ o → arrow_of all k e ≡ arrow_from k from to place o
-taken all k e from to place found o is finds was = ap (arrow_of all k) is ∙ ap (arrow_from k from to place) (sym finds ∙ was)
+taken : (all : List Fact) (k : ℕ) (e : Event) (from to place : ℕ) (found o : Option ℕ) → e ≡ Take from to place
+    → found ≡ putter from to place all → found ≡ o → arrow_of all k e ≡ arrow_from k from to place o
+taken all k e from to place found o is finds was =
+    ap (arrow_of all k) is ∙ ap (arrow_from k from to place) (sym finds ∙ was)
 
-no_take : (all : List Fact) (k : ℕ) (e : Event) → ((from to place : ℕ) → e ≡ Take from to place → ⊥) → arrow_of all k e ≡ []
+no_take : (all : List Fact) (k : ℕ) (e : Event) → ((from to place : ℕ) → e ≡ Take from to place → ⊥)
+    → arrow_of all k e ≡ []
 no_take all k (Call p op) h = refl
 no_take all k (Take from to place) h = absurd (h from to place refl)
 no_take all k (Tick p) h = refl

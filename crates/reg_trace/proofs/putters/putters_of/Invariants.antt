@@ -7,4 +7,5 @@ use Rattle.reg_trace.proofs.putters.putters_of.Given as goal
 
 -- of the events from here on, the first that put each frame
 abbrev pub invariant-loop-puts : goal.invariant-loop-puts
-invariant-loop-puts g l = (q : WirePlace) → get wire_place_cmp l.putters q ≡ position_from (puts_at q) l.puts (drop l.puts l.moments)
+invariant-loop-puts g l =
+    (q : WirePlace) → get wire_place_cmp l.putters q ≡ position_from (puts_at q) l.puts (drop l.puts l.moments)

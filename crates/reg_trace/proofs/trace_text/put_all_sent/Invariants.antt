@@ -6,4 +6,5 @@ use Rattle.reg_trace.proofs.trace_text.put_all_sent.Given as goal
 
 -- the sink has the lines so far
 abbrev pub invariant-loop-sent : goal.invariant-loop-sent
-invariant-loop-sent g l = Puts g.W.Write.contents l.initial.sink l.sink (lines_by (puts_line l.names l.from) (take l.sent-index l.all))
+invariant-loop-sent g l =
+    Puts g.W.Write.contents l.initial.sink l.sink (lines_by (puts_line l.names l.from) (take l.sent-index l.all))

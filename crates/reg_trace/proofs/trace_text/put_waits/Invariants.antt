@@ -6,4 +6,5 @@ use Rattle.reg_trace.proofs.trace_text.put_waits.Given as goal
 
 -- the sink has the lines so far
 abbrev pub invariant-loop-wait : goal.invariant-loop-wait
-invariant-loop-wait g l = Puts g.W.Write.contents l.initial.sink l.sink (lines_by holds_line (take l.wait-index l.waits))
+invariant-loop-wait g l =
+    Puts g.W.Write.contents l.initial.sink l.sink (lines_by holds_line (take l.wait-index l.waits))

@@ -5,4 +5,5 @@ use Rattle.reg_verify.proofs.gathering.check_apart.Given as goal
 
 -- no two logs so far are of one process
 abbrev pub invariant-loop-at : goal.invariant-loop-at
-invariant-loop-at g l = (i k : ℕ) (a b : Journal) → k < l.at → i < k → IsAt l.logs i a → IsAt l.logs k b → a.id.process ≢ b.id.process
+invariant-loop-at g l =
+    (i k : ℕ) (a b : Journal) → k < l.at → i < k → IsAt l.logs i a → IsAt l.logs k b → a.id.process ≢ b.id.process

@@ -5,7 +5,10 @@ use Rattle.reg_node.specs.Refusals.{RefusesAccount}
 use Rattle.reg_verify.proofs.verifying.read_record_text.Goals as goal
 
 -- the line that is told is the one that is refused
-refused : (text : List ℕ) (line : ℕ) (why : Why) → (Line line why ≡ OutOfMemory) ⊎ ((number : ℕ) × (told : Why) × (Line line why ≡ Line number told) × RefusesAccount number told text) → RefusesAccount line why text
+refused : (text : List ℕ) (line : ℕ) (why : Why)
+    → (Line line why ≡ OutOfMemory)
+    ⊎ ((number : ℕ) × (told : Why) × (Line line why ≡ Line number told) × RefusesAccount number told text)
+    → RefusesAccount line why text
 refused text line why (inl e) = absurd (cc)
 refused text line why (inr (number, told, e, r)) =
     let a : line ≡ number = cc in

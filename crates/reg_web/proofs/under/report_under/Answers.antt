@@ -8,4 +8,5 @@ returns-clause-shows g c =
     shows_same start _ c.args.schedule c.report_world.result (same_plan start c.args.schedule ran.field-0.front ran.field-0.names ran.field-0.world ran.ensures.ran ran.ensures.names ran.ensures.front) c.report_world.ensures.shows
 
 pub returns-clause-why : goal.returns-clause-why
-returns-clause-why g c = memory_blames g.F.FrontEnd.start c.args.schedule c.report_world.result c.report_world.ensures.why
+returns-clause-why g c =
+    memory_blames g.F.FrontEnd.start c.args.schedule c.report_world.result c.report_world.ensures.why

@@ -14,8 +14,12 @@ use Rattle.reg_workload.proofs.InOrder.{in_order}
 use Rattle.reg_workload.proofs.Fairness.{begins_fair}
 use Rattle.reg_workload.proofs.fair.play_fair.Goals as goal
 
-played : (start : Op → ℕ → Start) (shape : Extent) (scripts : List (List Op)) (budget : ℕ) (first last : Playing) (w : Made) → w ≡ last.made → last ≡ rounds start budget budget first → first ≡ new_play shape scripts → w ≡ (fair_play start shape scripts budget).made
-played start shape scripts budget first last w made went new = made ∙ ap Playing.made (went ∙ ap (rounds start budget budget) new)
+played : (start : Op → ℕ → Start) (shape : Extent) (scripts : List (List Op)) (budget : ℕ) (first last : Playing)
+    (w : Made)
+    → w ≡ last.made → last ≡ rounds start budget budget first → first ≡ new_play shape scripts
+    → w ≡ (fair_play start shape scripts budget).made
+played start shape scripts budget first last w made went new =
+    made ∙ ap Playing.made (went ∙ ap (rounds start budget budget) new)
 
 pub play_rounds-requires-clause-fair : goal.play_rounds-requires-clause-fair
 play_rounds-requires-clause-fair g c = begins_fair g.F.FrontEnd.start c.args.shape c.in_ok-player.player c.in_ok-player.ensures.made c.in_ok-player.ensures.cursors
@@ -42,13 +46,17 @@ pub play_rounds-requires-clause-going : goal.play_rounds-requires-clause-going
 play_rounds-requires-clause-going g c = ap Made.failed c.in_ok-player.ensures.made
 
 pub play_rounds-requires-clause-few : goal.play_rounds-requires-clause-few
-play_rounds-requires-clause-few g c = let none = ap (λ (m : Made). length m.accepted) c.in_ok-player.ensures.made in omega (arith, none)
+play_rounds-requires-clause-few g c =
+    let none = ap (λ (m : Made). length m.accepted) c.in_ok-player.ensures.made in omega (arith, none)
 
 pub returns-clause-rounds : goal.returns-clause-rounds
 returns-clause-rounds g c = played g.F.FrontEnd.start c.args.shape (map (λ v. v.items) c.args.scripts.now) c.args.budget c.in_ok-player.player c.play_rounds.new.player c.end.result.world c.end.ensures.world c.in_ok-play_rounds.ensures.value c.in_ok-player.ensures.value
 
 -- no play has more events than its scripts can bring about
-bounded : (start : Op → ℕ → Start) (shape : Extent) (scripts : List (List Op)) (budget : ℕ) (last : Playing) (w : Made) (finished : Bool) → length scripts ≡ shape.processes → IsPlay start shape scripts budget w finished → w ≡ last.made → IsFair start last → length w.accepted ≤ most_fair_events shape.processes scripts
+bounded : (start : Op → ℕ → Start) (shape : Extent) (scripts : List (List Op)) (budget : ℕ) (last : Playing) (w : Made)
+    (finished : Bool)
+    → length scripts ≡ shape.processes → IsPlay start shape scripts budget w finished → w ≡ last.made
+    → IsFair start last → length w.accepted ≤ most_fair_events shape.processes scripts
 bounded start shape scripts budget last w finished count P made F =
     let spent = subst (λ (m : Made). length m.accepted + left_in m.processes (run_in start m).nodes (cursor_at last) ≤ calls_in m.processes m.accepted * most_for_call m.processes) (sym made) F.spent in
     let here = subst (λ n. length w.accepted + left_in n (run_in start w).nodes (cursor_at last) ≤ calls_in n w.accepted * most_for_call n) P.processes spent in
@@ -62,4 +70,5 @@ returns-clause-few g c =
     bounded g.F.FrontEnd.start c.args.shape (map (λ v. v.items) c.args.scripts.now) c.args.budget c.play_rounds.new.player c.end.result.world c.end.result.finished (mapped _ c.args.scripts.now _ c.requires.count) (returns-clause-play g c) c.end.ensures.world c.in_ok-play_rounds.ensures.fair
 
 pub returns-clause-enough : goal.returns-clause-enough
-returns-clause-enough g c = λ less. let few = returns-clause-few g c in returns-clause-finished g c (omega (arith, few, less))
+returns-clause-enough g c =
+    λ less. let few = returns-clause-few g c in returns-clause-finished g c (omega (arith, few, less))

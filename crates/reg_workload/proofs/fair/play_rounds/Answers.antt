@@ -1,7 +1,8 @@
 use Rattle.std.proofs.Common.{arith, ◌≡◌, ◌≤◌, ◌+◌, ◌∙◌, sym, ap, length, rules}
 use Rattle.reg_workload.specs.Rounds.{round}
 use Rattle.reg_workload.proofs.Rounding.{round_full, rounds_more, rounds_end}
-use Rattle.reg_workload.proofs.fair.play_rounds.Goals.{then-branch-via-then-branch, then-branch-via-else-branch+then-events-before}
+use Rattle.reg_workload.proofs.fair.play_rounds.Goals.{then-branch-via-then-branch}
+use Rattle.reg_workload.proofs.fair.play_rounds.Goals.{then-branch-via-else-branch+then-events-before}
 use Rattle.reg_workload.proofs.fair.play_rounds.Goals as goal
 
 pub returns-then-branch-clause-value : goal.returns-then-branch-clause-value

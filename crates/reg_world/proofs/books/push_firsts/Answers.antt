@@ -17,7 +17,8 @@ pub loop-cast-init : goal.loop-cast-init
 loop-cast-init g c = record { same = refl; left = refl; room = (let room = c.requires.room in omega (arith, room)) }
 
 pub push_first-requires-clause-room : goal.push_first-requires-clause-room
-push_first-requires-clause-room g c = let room = c.loop-cast.invariant.room in omega (arith, room, c.loop-cast-test.true)
+push_first-requires-clause-room g c =
+    let room = c.loop-cast.invariant.room in omega (arith, room, c.loop-cast-test.true)
 
 pub returns-clause-same : goal.returns-clause-same
 returns-clause-same g c = c.loop-cast.invariant.same

@@ -2,4 +2,5 @@ use Rattle.reg_world.proofs.code.Entering.{IsSoFar}
 use Rattle.reg_world.proofs.books.push_firsts.Given as goal
 
 abbrev pub invariant-loop-cast : goal.invariant-loop-cast
-invariant-loop-cast g l = IsSoFar l.at l.last l.delivered l.initial.order.items l.initial.callers.items l.callers.items l.cast-index l.order
+invariant-loop-cast g l =
+    IsSoFar l.at l.last l.delivered l.initial.order.items l.initial.callers.items l.callers.items l.cast-index l.order

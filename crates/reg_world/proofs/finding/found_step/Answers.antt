@@ -13,9 +13,12 @@ pub returns-in-Call : goal.returns-in-Call
 returns-in-Call g c = rw c.in-Call.is (cc)
 
 pub returns-in-Take : goal.returns-in-Take
-returns-in-Take g c = rw c.in-Take.is (c.take_step.ensures ∙ ap (λ f. take_or f c.in-Take.from c.in-Take.to) c.frame_at.ensures)
+returns-in-Take g c =
+    rw c.in-Take.is (c.take_step.ensures ∙ ap (λ f. take_or f c.in-Take.from c.in-Take.to) c.frame_at.ensures)
 
-tick : (p count : ℕ) (t : Bool) → nat_lt p count ≡ t → cond {A = Result (ℕ × Step) WorldFault} t (Ok (p, Tick)) (Err NoProcess) ≡ cond (nat_lt p count) (Ok (p, Tick)) (Err NoProcess)
+tick : (p count : ℕ) (t : Bool) → nat_lt p count ≡ t
+    → cond {A = Result (ℕ × Step) WorldFault} t (Ok (p, Tick)) (Err NoProcess)
+    ≡ cond (nat_lt p count) (Ok (p, Tick)) (Err NoProcess)
 tick p count t is = sym (ap (λ (b : Bool). cond {A = Result (ℕ × Step) WorldFault} b (Ok (p, Tick)) (Err NoProcess)) is)
 
 pub returns-then-from-members : goal.returns-then-from-members

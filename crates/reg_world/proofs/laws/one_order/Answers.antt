@@ -1,6 +1,7 @@
 use Rattle.reg_world.proofs.witness.Promised.{longest, order_right, casts_right}
 use Rattle.reg_world.proofs.one_memory.Arrivals.{firsts_right}
-use Rattle.reg_world.proofs.one_order.NodeLaws.{deliveries_agree, all_deliveries_rise, deliveries_made, undelivered_later}
+use Rattle.reg_world.proofs.one_order.NodeLaws.{deliveries_agree, all_deliveries_rise, deliveries_made}
+use Rattle.reg_world.proofs.one_order.NodeLaws.{undelivered_later}
 use Rattle.reg_world.proofs.laws.one_order.Goals as goal
 
 pub returns-clause-agree : goal.returns-clause-agree

@@ -1,4 +1,5 @@
-use Rattle.reg_world.proofs.witness.Waiting.{tells_waits, read_waits, swap_waits, compare_and_swap_waits, linear_waits, local_read_waits}
+use Rattle.reg_world.proofs.witness.Waiting.{tells_waits, read_waits, swap_waits, compare_and_swap_waits, linear_waits}
+use Rattle.reg_world.proofs.witness.Waiting.{local_read_waits}
 use Rattle.reg_world.proofs.laws.what_waits.Goals as goal
 
 pub returns-clause-tells : goal.returns-clause-tells

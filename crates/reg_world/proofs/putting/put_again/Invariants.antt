@@ -5,4 +5,5 @@ use Rattle.reg_world.specs.Sent.{sent}
 use Rattle.reg_world.proofs.putting.put_again.Given as goal
 
 abbrev pub invariant-loop-to : goal.invariant-loop-to
-invariant-loop-to g l = g.W.WireStore.wires l.wires ≡ sent (puts (resent l.process.state) l.to) (g.W.WireStore.wires l.initial.wires)
+invariant-loop-to g l =
+    g.W.WireStore.wires l.wires ≡ sent (puts (resent l.process.state) l.to) (g.W.WireStore.wires l.initial.wires)

@@ -9,4 +9,5 @@ returns-clause-shown c = λ zero.
     subst P c.new-output.ensures.items (c.run_command-status.ensures.answered zero)
 
 pub returns-clause-quiet : goal.returns-clause-quiet
-returns-clause-quiet c = λ zero. ap (λ (v : Vec ℕ Global). v.items) (c.run_command-status.ensures.quiet zero) ∙ c.new-errors.ensures.items
+returns-clause-quiet c =
+    λ zero. ap (λ (v : Vec ℕ Global). v.items) (c.run_command-status.ensures.quiet zero) ∙ c.new-errors.ensures.items

@@ -17,4 +17,5 @@ pub returns-in-Swap : goal.returns-in-Swap
 returns-in-Swap c = let e = ap tells c.in-Swap.is in record { verdict = sym e; blind = not_blind c.args.self.now e }
 
 pub returns-in-CompareAndSwap : goal.returns-in-CompareAndSwap
-returns-in-CompareAndSwap c = let e = ap tells c.in-CompareAndSwap.is in record { verdict = sym e; blind = not_blind c.args.self.now e }
+returns-in-CompareAndSwap c =
+    let e = ap tells c.in-CompareAndSwap.is in record { verdict = sym e; blind = not_blind c.args.self.now e }

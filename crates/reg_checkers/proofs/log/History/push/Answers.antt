@@ -1,4 +1,5 @@
-use Rattle.std.proofs.Common.{◌≡◌, ◌<◌, ℕ, List, ◌∷◌, [], ◌++◌, set, length, get_or, refl, ap, sym, ◌∙◌, subst, arith, rules}
+use Rattle.std.proofs.Common.{◌≡◌, ◌<◌, ℕ, List, ◌∷◌, [], ◌++◌, set, length, get_or, refl, ap, sym, ◌∙◌, subst, arith}
+use Rattle.std.proofs.Common.{rules}
 use Rattle.reg_checkers.specs.declared.entries.Entry.{Entry}
 use Rattle.reg_checkers.specs.declared.place.Progress.{Progress}
 use Rattle.reg_checkers.specs.History.{IsInPlace}
@@ -7,12 +8,14 @@ use Rattle.reg_checkers.proofs.Keeping.{entry_within, is_numbered, kept_more}
 use Rattle.reg_checkers.proofs.log.History.push.Goals as goal
 
 -- the process of the entry has its progress
-inside : (count registers : ℕ) (es ys : List Entry) (ps : List Progress) (e : Entry) (i : ℕ) → IsKept count registers es ps → ys ≡ es → IsInPlace count registers ys e → i ≡ (id_of e).process → i < length ps
+inside : (count registers : ℕ) (es ys : List Entry) (ps : List Progress) (e : Entry) (i : ℕ)
+    → IsKept count registers es ps → ys ≡ es → IsInPlace count registers ys e → i ≡ (id_of e).process → i < length ps
 inside count registers es ys ps e i kept same may is =
     let lt : (id_of e).process < length ps = entry_within count registers es ps e kept (subst (λ (xs : List Entry). IsInPlace count registers xs e) same may) in
     omega arith
 
-more : (count registers : ℕ) (es ys zs : List Entry) (ps : List Progress) (e : Entry) (i : ℕ) (d v : Progress) → IsKept count registers es ps → ys ≡ es → IsInPlace count registers ys e → i ≡ (id_of e).process
+more : (count registers : ℕ) (es ys zs : List Entry) (ps : List Progress) (e : Entry) (i : ℕ) (d v : Progress)
+    → IsKept count registers es ps → ys ≡ es → IsInPlace count registers ys e → i ≡ (id_of e).process
     → zs ≡ es ++ e ∷ [] → v ≡ progress_after d e → d ≡ get_or ps i d → IsKept count registers zs (set ps i v)
 more count registers es ys zs ps e i d v kept same may is pushed next before =
     let lt : i < length ps = inside count registers es ys ps e i kept same may is in

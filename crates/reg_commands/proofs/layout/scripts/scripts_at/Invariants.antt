@@ -4,4 +4,5 @@ use Rattle.reg_inputs.specs.Loads.{IsScript}
 use Rattle.reg_commands.proofs.layout.scripts.scripts_at.Given as goal
 
 abbrev pub invariant-loop-process : goal.invariant-loop-process
-invariant-loop-process g l = (length l.all.items ≤ l.process) × AllFit (λ _ ops. IsScript l.names ops) (map (λ s. s.items) l.all.items)
+invariant-loop-process g l =
+    (length l.all.items ≤ l.process) × AllFit (λ _ ops. IsScript l.names ops) (map (λ s. s.items) l.all.items)

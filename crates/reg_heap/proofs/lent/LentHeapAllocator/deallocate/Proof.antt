@@ -10,7 +10,8 @@ use prog.Wp.{Env, WpFn}
 use contract.Monad.{fact, fact_i}
 use contract.Running.{tables}
 use types.Logic.{sem}
-use types.Kit.{‵, raw, ◌⊛◌, some, later, prop, ◌$◌, ◌∵◌, !, qed, by, move, keep, drop, use0, use1, use2, split, split3, join, pick, regoal, fsplit, fjoin, fpick, feq_l, feq_i, flt_i, await}
+use types.Kit.{‵, raw, ◌⊛◌, some, later, prop, ◌$◌, ◌∵◌, !, qed, by, move, keep, drop, use0, use1, use2, split, split3}
+use types.Kit.{join, pick, regoal, fsplit, fjoin, fpick, feq_l, feq_i, flt_i, await}
 use types.Part.{agg}
 use types.Run.{unit_lit, of_opd, no_more, and_then, returns, enter}
 use types.ByLocal.{alloc_all, pass_all, free_all, look_at, get, sets, lands_as, env}

@@ -21,7 +21,8 @@ use Rattle.std_alloc.proofs.Pairs.{pair_of, pair_val}
 use Rattle.linked_list_allocator.specs.Ownership.{bytes_at}
 use Rattle.linked_list_allocator.proofs.Values.{ptr_typed, list_val, list_own, list_told, list_made, list_typed}
 use mir.Syntax.{ty_ptr}
-use types.Kit.{‵, raw, ◌⊛◌, prop, at_ret, ◌$◌, ◌∵◌, !, qed, by, move, drop, use0, use1, use2, split, rewrite, regoal, fsplit, fjoin, fpick}
+use types.Kit.{‵, raw, ◌⊛◌, prop, at_ret, ◌$◌, ◌∵◌, !, qed, by, move, drop, use0, use1, use2, split, rewrite, regoal}
+use types.Kit.{fsplit, fjoin, fpick}
 use types.Part.{whole, sub, agg}
 use types.Run.{stop, fld, load, look, of_opd, no_more, and_then, first, blocks, exec, returns, enter}
 use types.ByLocal.{alloc_all, pass_all, free_all, look_at, get, get_in, through, sets, sets_last, env}

@@ -4,7 +4,8 @@ use Rattle.std.proofs.lemmas.Option.{same_Some}
 use Rattle.reg_checkers.specs.declared.entries.Point.{Point}
 use Rattle.reg_history.proofs.id_lines.PointListed.read.Goals as goal
 
-same_point : (p : Point) (process number at : ℕ) → process ≡ p.id.process → number ≡ p.id.number → Some at ≡ Some p.at → Some (record { id = record { process = process; number = number }; at = at }) ≡ Some p
+same_point : (p : Point) (process number at : ℕ) → process ≡ p.id.process → number ≡ p.id.number → Some at ≡ Some p.at
+    → Some (record { id = record { process = process; number = number }; at = at }) ≡ Some p
 same_point p process number at a b c = rw (a, b, same_Some at p.at c) refl
 
 pub returns-in_err-process-clause-whole : goal.returns-in_err-process-clause-whole

@@ -13,7 +13,9 @@ returns-in-Some-clause-first g c =
     ∙ ap (λ l. slice_get l 0) c.self.view_is
 
 pub returns-in-Some-clause-rising : goal.returns-in-Some-clause-rising
-returns-in-Some-clause-rising g c = subst Rising c.self.view_is (rises (heap_items c.self.inside.heap) c.self.invariant.1)
+returns-in-Some-clause-rising g c =
+    subst Rising c.self.view_is (rises (heap_items c.self.inside.heap) c.self.invariant.1)
 
 pub returns-in-None-clause-rising : goal.returns-in-None-clause-rising
-returns-in-None-clause-rising g c = subst Rising c.self.view_is (rises (heap_items c.self.inside.heap) c.self.invariant.1)
+returns-in-None-clause-rising g c =
+    subst Rising c.self.view_is (rises (heap_items c.self.inside.heap) c.self.invariant.1)

@@ -2,7 +2,8 @@ use Rattle.std.proofs.Common.{Some, length, arith}
 use Rattle.reg_checkers.specs.declared.entries.Entry.TheVariants.{Called, Answered}
 use Rattle.reg_checkers.proofs.Noting.{read_at}
 use Rattle.reg_checkers.proofs.Places.{within}
-use Rattle.reg_judge.proofs.Stepping.{answerer_fits, caller_fits, register_fits, step_answer, step_call, wait_answer, wait_call}
+use Rattle.reg_judge.proofs.Stepping.{answerer_fits, caller_fits, register_fits, step_answer, step_call, wait_answer}
+use Rattle.reg_judge.proofs.Stepping.{wait_call}
 use Rattle.reg_judge.proofs.search.Search.step.Goals as goal
 
 pub call-requires-clause-process : goal.call-requires-clause-process

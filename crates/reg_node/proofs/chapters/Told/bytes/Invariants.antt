@@ -5,4 +5,5 @@ use Rattle.reg_node.proofs.chapters.Told.bytes.Given as goal
 
 -- the numbers so far
 abbrev pub invariant-loop-count : goal.invariant-loop-count
-invariant-loop-count g l = l.bytes.items ≡ flags_of l.self ∷ (to_be_bytes w64 l.self.put ++ numbers_bytes (take l.count-index l.self.accepted))
+invariant-loop-count g l =
+    l.bytes.items ≡ flags_of l.self ∷ (to_be_bytes w64 l.self.put ++ numbers_bytes (take l.count-index l.self.accepted))

@@ -2,7 +2,8 @@ use Rattle.std.proofs.Common.{rules, [], ◌∷◌, inl, inr, ap, ◌∙◌}
 use Rattle.std.proofs.lemmas.Result.{err_from_is_err_and}
 use Rattle.reg_text.proofs.Numbered.{asked_on, goes_on, stopped_now, stopped_behind}
 use Rattle.reg_text.proofs.Worded.{few as few_names}
-use Rattle.reg_node.proofs.Heads.{first_line, front_line, processes_line, first_refused, second_refused, third_refused, fourth_refused}
+use Rattle.reg_node.proofs.Heads.{first_line, front_line, processes_line, first_refused, second_refused, third_refused}
+use Rattle.reg_node.proofs.Heads.{fourth_refused}
 use Rattle.reg_node.proofs.transcripts.record_text.read_head.Goals as goal
 
 pub returns-in_err-expect_line-clause-whole : goal.returns-in_err-expect_line-clause-whole

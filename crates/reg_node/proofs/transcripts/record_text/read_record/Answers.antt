@@ -9,13 +9,16 @@ use Rattle.reg_node.specs.RecordLines.{Account, recorded_text, RecordedFits}
 use Rattle.reg_node.proofs.Accounts.{steps_stopped}
 use Rattle.reg_node.proofs.transcripts.record_text.read_record.Goals as goal
 
-fits : (names ns : List (List ℕ)) (es : List Recorded) → names ≡ ns → AllFit (λ _ x. RecordedFits ns x) es → AllFit (λ _ x. RecordedFits names x) es
+fits : (names ns : List (List ℕ)) (es : List Recorded) → names ≡ ns → AllFit (λ _ x. RecordedFits ns x) es
+    → AllFit (λ _ x. RecordedFits names x) es
 fits names ns es e h = let P : List (List ℕ) → Type 0 = λ n. AllFit (λ _ x. RecordedFits n x) es in subst P (sym e) h
 
-lines : (names ns : List (List ℕ)) (es : List Recorded) (l : List (List ℕ)) → names ≡ ns → l ≡ map (recorded_text ns) es → l ≡ map (recorded_text names) es
+lines : (names ns : List (List ℕ)) (es : List Recorded) (l : List (List ℕ)) → names ≡ ns → l ≡ map (recorded_text ns) es
+    → l ≡ map (recorded_text names) es
 lines names ns es l e h = h ∙ ap (λ n. map (recorded_text n) es) (sym e)
 
-same_account : (a : Account) (front : Front) (shape : Extent) (names : List (List ℕ)) (steps : List Recorded) → front ≡ a.front → shape ≡ a.shape → names ≡ a.names → steps ≡ a.steps
+same_account : (a : Account) (front : Front) (shape : Extent) (names : List (List ℕ)) (steps : List Recorded)
+    → front ≡ a.front → shape ≡ a.shape → names ≡ a.names → steps ≡ a.steps
     → record { front = front; shape = shape; names = names; steps = steps } ≡ a
 same_account a front shape names steps b d e f = rw (b, d, e, f) refl
 

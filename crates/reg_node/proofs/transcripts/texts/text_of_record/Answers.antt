@@ -1,4 +1,5 @@
-use Rattle.std.proofs.Common.{◌≡◌, ◌<◌, ◌+◌, ℕ, List, [], ◌∷◌, ◌++◌, length, map, take, get_or, sym, ap, ◌∙◌, subst, append-nil}
+use Rattle.std.proofs.Common.{◌≡◌, ◌<◌, ◌+◌, ℕ, List, [], ◌∷◌, ◌++◌, length, map, take, get_or, sym, ap, ◌∙◌, subst}
+use Rattle.std.proofs.Common.{append-nil}
 use Rattle.std.proofs.lemmas.Grind.{flat_map-append}
 use Rattle.std.proofs.lemmas.List.{map-append, take_more}
 use Rattle.std.proofs.lemmas.Option.{slice_get-get_or}
@@ -12,12 +13,14 @@ use Rattle.reg_node.specs.RecordLines.{Account, head_lines, recorded_text}
 use Rattle.reg_node.proofs.transcripts.texts.text_of_record.Goals as goal
 
 -- a step that has no line is one of the record's
-unfit : (a : Account) (k : ℕ) (d : Recorded) (f : LineFault) → k < length a.steps → IsEntryFault a.names (get_or a.steps k d) f → IsRecordFault a f
+unfit : (a : Account) (k : ℕ) (d : Recorded) (f : LineFault) → k < length a.steps
+    → IsEntryFault a.names (get_or a.steps k d) f → IsRecordFault a f
 unfit a k d Unfit lt no_line = λ fits. no_line (fits k (get_or a.steps k d) (slice_get-get_or a.steps k d lt))
 unfit a k d OutOfMemory lt no_line = tt
 
 -- one line more
-line_more : (front : Front) (n : ℕ) (names : List (List ℕ)) (steps : List Recorded) (k : ℕ) (d : Recorded) → k < length steps
+line_more : (front : Front) (n : ℕ) (names : List (List ℕ)) (steps : List Recorded) (k : ℕ) (d : Recorded)
+    → k < length steps
     → text_of (head_lines front n names (map (recorded_text names) (take (k + 1) steps))) ≡ text_of (head_lines front n names (map (recorded_text names) (take k steps))) ++ (recorded_text names (get_or steps k d) ++ 10 ∷ [])
 line_more front n names steps k d lt =
     ap (λ (rs : List Recorded). text_of (head_lines front n names (map (recorded_text names) rs))) (take_more steps k d lt)
@@ -33,7 +36,9 @@ module _ (a : Account) (inside : Account) (view : inside ≡ a) (shown : List Re
   unfit_here d f no_line = unfit a k d f within
       (subst (λ (x : Account). IsEntryFault x.names (get_or x.steps k d) f) view (subst (λ (steps : List Recorded). IsEntryFault inside.names (get_or steps k d) f) same no_line))
 
-  pub line_here : (d : Recorded) (text new line bytes : List ℕ) → text ≡ text_of (head_lines a.front a.shape.processes a.names (map (recorded_text a.names) (take k a.steps))) → new ≡ text ++ (bytes ++ 10 ∷ []) → bytes ≡ line → line ≡ recorded_text inside.names (get_or shown k d)
+  pub line_here : (d : Recorded) (text new line bytes : List ℕ)
+      → text ≡ text_of (head_lines a.front a.shape.processes a.names (map (recorded_text a.names) (take k a.steps)))
+      → new ≡ text ++ (bytes ++ 10 ∷ []) → bytes ≡ line → line ≡ recorded_text inside.names (get_or shown k d)
       → new ≡ text_of (head_lines a.front a.shape.processes a.names (map (recorded_text a.names) (take (k + 1) a.steps)))
   line_here d text new line bytes so_far added are is =
       let whole : bytes ≡ recorded_text a.names (get_or a.steps k d) =

@@ -11,7 +11,8 @@ use Rattle.reg_outcomes.proofs.Numbering.{all_counted, first_counted, next_count
 use Rattle.reg_outcomes.proofs.interleavings.few.few_layers.Goals as goal
 
 pub count_operations-turn-end-requires : goal.count_operations-turn-end-requires
-count_operations-turn-end-requires g c = few_operations (map (λ v. v.items) c.args.scripts.now) c.args.registers c.requires.playable
+count_operations-turn-end-requires g c =
+    few_operations (map (λ v. v.items) c.args.scripts.now) c.args.registers c.requires.playable
 
 pub loop-turn-init : goal.loop-turn-init
 loop-turn-init g c =

@@ -5,4 +5,5 @@ use Rattle.reg_outcomes.proofs.interleavings.few.few_layers.Given as goal
 
 -- the layer after the turns so far
 abbrev pub invariant-loop-turn : goal.invariant-loop-turn
-invariant-loop-turn g l = IsFewSoFar (map (λ v. v.items) l.scripts) l.registers l.most l._turn (entries_of l.layer) l.stages
+invariant-loop-turn g l =
+    IsFewSoFar (map (λ v. v.items) l.scripts) l.registers l.most l._turn (entries_of l.layer) l.stages

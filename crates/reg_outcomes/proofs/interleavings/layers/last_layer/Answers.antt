@@ -6,13 +6,15 @@ use Rattle.reg_outcomes.specs.Interleavings.{Stage, first_stage}
 use Rattle.reg_outcomes.specs.Layers.{IsLayer, entries_of, operation_count, reached, stage_cmp, stage_of}
 use Rattle.reg_outcomes.proofs.Comparing.{stages_exact, stages_total}
 use Rattle.reg_outcomes.proofs.Entries.{apart}
-use Rattle.reg_outcomes.proofs.Layering.{few_stages, first_is, is_fault, narrow_at_first, narrow_at_next, next_is, none_wider}
+use Rattle.reg_outcomes.proofs.Layering.{few_stages, first_is, is_fault, narrow_at_first, narrow_at_next, next_is}
+use Rattle.reg_outcomes.proofs.Layering.{none_wider}
 use Rattle.reg_outcomes.proofs.Leading.{few_operations, ready}
 use Rattle.reg_outcomes.proofs.Numbering.{all_counted, first_counted, next_counted}
 use Rattle.reg_outcomes.proofs.interleavings.layers.last_layer.Goals as goal
 
 pub count_operations-turn-end-requires : goal.count_operations-turn-end-requires
-count_operations-turn-end-requires g c = few_operations (map (λ v. v.items) c.args.scripts.now) c.args.registers c.requires.playable
+count_operations-turn-end-requires g c =
+    few_operations (map (λ v. v.items) c.args.scripts.now) c.args.registers c.requires.playable
 
 pub loop-turn-init : goal.loop-turn-init
 loop-turn-init g c =

@@ -5,7 +5,8 @@ use Rattle.reg_outcomes.proofs.Stepping.{one_behind}
 use Rattle.reg_outcomes.proofs.interleavings.nevers.listed_within.Goals as goal
 
 pub returns-then-len-clause-list : goal.returns-then-len-clause-list
-returns-then-len-clause-list g c = let more = c.if-len.true in let count = c.len.ensures.len in omega (arith, more, count)
+returns-then-len-clause-list g c =
+    let more = c.if-len.true in let count = c.len.ensures.len in omega (arith, more, count)
 
 pub returns-then-len-clause-ordered : goal.returns-then-len-clause-ordered
 returns-then-len-clause-ordered g c = c.len.ensures.ordered

@@ -1,4 +1,5 @@
-use Rattle.std.proofs.Common.{rules, ◌≡◌, ◌+◌, ◌++◌, ◌∷◌, [], ℕ, ◌<◌, true, false, List, length, get_or, refl, ap, sym, ◌∙◌, subst, arith}
+use Rattle.std.proofs.Common.{rules, ◌≡◌, ◌+◌, ◌++◌, ◌∷◌, [], ℕ, ◌<◌, true, false, List, length, get_or, refl, ap, sym}
+use Rattle.std.proofs.Common.{◌∙◌, subst, arith}
 use Rattle.std.proofs.lemmas.List.{length-map}
 use Rattle.std.specs.Prelude.{Vec}
 use Rattle.std.proofs.Math.Dec.{ltb}
@@ -11,11 +12,14 @@ use Rattle.reg_outcomes.specs.Interleavings.{Interleaving}
 use Rattle.reg_outcomes.specs.Nevers.{tells}
 use Rattle.reg_outcomes.proofs.Combining.{AreFirstValues, at_told, none_new, one_new, values_all}
 use Rattle.reg_outcomes.proofs.Growing.{in_at}
-use Rattle.reg_outcomes.proofs.interleavings.nevers.values_at.Goals.{in-Some+then-not-contains+in_ok-push, in-Some+else-not-contains, in_default}
+use Rattle.reg_outcomes.proofs.interleavings.nevers.values_at.Goals.{in-Some+then-not-contains+in_ok-push}
+use Rattle.reg_outcomes.proofs.interleavings.nevers.values_at.Goals.{in-Some+else-not-contains, in_default}
 use Rattle.reg_outcomes.proofs.interleavings.nevers.values_at.Goals as goal
 
-found : (xs told : List ToldAnswer) (k : ℕ) (v : ToldAnswer) → xs ≡ told → ltb k (length xs) ≡ true → v ≡ get_or xs k v → IsAt told k v
-found xs told k v same lt is = subst (λ l. IsAt l k v) same (slice_get_read xs (length xs) k v refl (ltb-true k (length xs) lt) is)
+found : (xs told : List ToldAnswer) (k : ℕ) (v : ToldAnswer) → xs ≡ told → ltb k (length xs) ≡ true → v ≡ get_or xs k v
+    → IsAt told k v
+found xs told k v same lt is =
+    subst (λ l. IsAt l k v) same (slice_get_read xs (length xs) k v refl (ltb-true k (length xs) lt) is)
 
 past : (xs told : List ToldAnswer) (k : ℕ) (v : ToldAnswer) → xs ≡ told → ltb k (length xs) ≡ false → IsAt told k v → ⊥
 past xs told k v same le at =

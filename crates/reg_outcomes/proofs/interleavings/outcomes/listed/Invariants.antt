@@ -4,4 +4,5 @@ use Rattle.reg_outcomes.proofs.interleavings.outcomes.listed.Given as goal
 
 -- the outcomes so far, and those that are left
 abbrev pub invariant-loop-told : goal.invariant-loop-told
-invariant-loop-told g l = l.list.items ++ map interleaving_of l.told-iterator ≡ map interleaving_of l.fn.outcomes.entries
+invariant-loop-told g l =
+    l.list.items ++ map interleaving_of l.told-iterator ≡ map interleaving_of l.fn.outcomes.entries

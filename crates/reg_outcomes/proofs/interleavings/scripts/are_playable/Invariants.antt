@@ -5,4 +5,5 @@ use Rattle.reg_outcomes.proofs.interleavings.scripts.are_playable.Given as goal
 
 -- each script so far can be run
 abbrev pub invariant-loop-script : goal.invariant-loop-script
-invariant-loop-script g l = (k : ℕ) (d : List Op) → k < l.script-index → IsPlayable l.registers (get_or (map (λ v. v.items) l.scripts) k d)
+invariant-loop-script g l =
+    (k : ℕ) (d : List Op) → k < l.script-index → IsPlayable l.registers (get_or (map (λ v. v.items) l.scripts) k d)

@@ -6,4 +6,5 @@ use Rattle.reg_outcomes.proofs.interleavings.text.put_turns.Given as goal
 
 -- the turns so far
 abbrev pub invariant-loop-turn : goal.invariant-loop-turn
-invariant-loop-turn g l = Puts g.W.Write.contents l.initial.sink l.sink (flat_map (λ p. codes " " ++ decimal p) (take l.turn-index l.turns))
+invariant-loop-turn g l =
+    Puts g.W.Write.contents l.initial.sink l.sink (flat_map (λ p. codes " " ++ decimal p) (take l.turn-index l.turns))

@@ -9,7 +9,8 @@ abbrev blank : OpId
 blank = record { process = 0; number = 0 }
 
 pub loop-id-init : goal.loop-id-init
-loop-id-init g c = pointing_none c.args.finder.now.entries c.args.ids.now c.in_ok-points.points.items c.in_ok-points.ensures.items
+loop-id-init g c =
+    pointing_none c.args.finder.now.entries c.args.ids.now c.in_ok-points.points.items c.in_ok-points.ensures.items
 
 pub event_of_call-requires : goal.event_of_call-requires
 event_of_call-requires g c = c.requires.called c.loop-id.id-index _ (slice_get-get_or c.args.ids.now c.loop-id.id-index blank c.loop-id-test.true)

@@ -3,7 +3,8 @@ use Rattle.reg_outcomes.specs.declared.orders.before.Before.{Before}
 use Rattle.reg_outcomes.specs.Forced.{AreForced}
 use Rattle.reg_outcomes.proofs.Forced.{own_comes}
 use Rattle.reg_outcomes.proofs.orders.torn.put_all_known.Goals as goal
-use Rattle.reg_outcomes.proofs.orders.torn.put_all_known.Goals.{then-knows_more+then-put_known, then-knows_more+else-put_known, else-knows_more}
+use Rattle.reg_outcomes.proofs.orders.torn.put_all_known.Goals.{then-knows_more+then-put_known}
+use Rattle.reg_outcomes.proofs.orders.torn.put_all_known.Goals.{then-knows_more+else-put_known, else-knows_more}
 
 pub loop-process-init : goal.loop-process-init
 loop-process-init g c =

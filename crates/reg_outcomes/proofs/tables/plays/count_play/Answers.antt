@@ -1,5 +1,6 @@
 use Rattle.std.proofs.Common.{◌≡◌, sym, ◌∙◌}
-use Rattle.reg_outcomes.proofs.PlaysSeen.{finished_where_answered, is_play_from, on_ok, play_fault, seen_finished, seen_unfinished}
+use Rattle.reg_outcomes.proofs.PlaysSeen.{finished_where_answered, is_play_from, on_ok, play_fault, seen_finished}
+use Rattle.reg_outcomes.proofs.PlaysSeen.{seen_unfinished}
 use Rattle.std.proofs.lemmas.Result.{IfErr-weaker}
 use Rattle.reg_outcomes.specs.declared.faults.InterleavingFault.TheVariants.{TooManyStages}
 use Rattle.reg_outcomes.specs.declared.orders.kinds.OrderKind.TheVariants.{Points}

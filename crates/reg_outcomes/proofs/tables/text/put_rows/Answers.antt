@@ -15,7 +15,8 @@ loop-row-preserved g c =
     puts_next held c.args.sink.now c.loop-row.sink c.put_row.new.sink (λ r. line_text r ++ 10 ∷ []) c.args.rows.now c.loop-row.row-index c.row-item.result c.loop-row-test.true c.loop-row.invariant
     (puts_as held c.loop-row.sink c.put_row.new.sink (line_text c.row-item.result ++ 10 ∷ []) (line_text here ++ 10 ∷ []) (ap (λ (r : Line). line_text r ++ 10 ∷ []) c.row-item.is) c.put_row.ensures)
 
-all_lines : (ls : List Line) (i : ℕ) → length ls ≤ i → flat_map (λ r. line_text r ++ 10 ∷ []) (take i ls) ≡ text_of (map line_text ls)
+all_lines : (ls : List Line) (i : ℕ) → length ls ≤ i
+    → flat_map (λ r. line_text r ++ 10 ∷ []) (take i ls) ≡ text_of (map line_text ls)
 all_lines ls i le = ap (flat_map (λ (r : Line). line_text r ++ 10 ∷ [])) (take_all i ls le) ∙ sym (flat_map-map (λ line. line ++ 10 ∷ []) line_text ls)
 
 pub returns : goal.returns

@@ -6,4 +6,5 @@ use Rattle.reg_outcomes.proofs.tables.text.put_rows.Given as goal
 
 -- the lines so far
 abbrev pub invariant-loop-row : goal.invariant-loop-row
-invariant-loop-row g l = Puts g.W.Write.contents l.initial.sink l.sink (flat_map (λ r. line_text r ++ 10 ∷ []) (take l.row-index l.rows))
+invariant-loop-row g l =
+    Puts g.W.Write.contents l.initial.sink l.sink (flat_map (λ r. line_text r ++ 10 ∷ []) (take l.row-index l.rows))

@@ -19,10 +19,12 @@ returns-in-Cast-clause-goes g c =
     subst (λ (st : Start). OnOk c.broadcast.result (Goes (length c.args.self.now.peers) (called c.args.self.now c.args.op st) (puts_of c.broadcast.new.brief.sends) c.broadcast.new.brief.effect.cast c.broadcast.new.brief.effect.delivered.items c.broadcast.new.brief.effect.reply c.broadcast.new.self)) (sym c.in-Cast.is) c.broadcast.ensures.goes
 
 pub returns-in-Cast-clause-room : goal.returns-in-Cast-clause-room
-returns-in-Cast-clause-room g c = room_at c.broadcast.result c.args.self.now.clock c.args.start (ap is_cast c.in-Cast.is) c.broadcast.ensures.room
+returns-in-Cast-clause-room g c =
+    room_at c.broadcast.result c.args.self.now.clock c.args.start (ap is_cast c.in-Cast.is) c.broadcast.ensures.room
 
 pub returns-in-Cast-clause-fault : goal.returns-in-Cast-clause-fault
-returns-in-Cast-clause-fault g c = stops_at c.broadcast.result c.args.self.now.clock c.args.start (ap is_cast c.in-Cast.is) c.broadcast.ensures.fault
+returns-in-Cast-clause-fault g c =
+    stops_at c.broadcast.result c.args.self.now.clock c.args.start (ap is_cast c.in-Cast.is) c.broadcast.ensures.fault
 
 pub returns-in-Cast-clause-memory : goal.returns-in-Cast-clause-memory
 returns-in-Cast-clause-memory g c = any_err c.broadcast.result (ap is_cast c.in-Cast.is)
@@ -38,7 +40,8 @@ pub returns-in-CastAndAnswer-clause-fault : goal.returns-in-CastAndAnswer-clause
 returns-in-CastAndAnswer-clause-fault g c = stops_at c.broadcast-in-CastAndAnswer.result c.args.self.now.clock c.args.start (ap is_cast c.in-CastAndAnswer.is) c.broadcast-in-CastAndAnswer.ensures.fault
 
 pub returns-in-CastAndAnswer-clause-memory : goal.returns-in-CastAndAnswer-clause-memory
-returns-in-CastAndAnswer-clause-memory g c = any_err c.broadcast-in-CastAndAnswer.result (ap is_cast c.in-CastAndAnswer.is)
+returns-in-CastAndAnswer-clause-memory g c =
+    any_err c.broadcast-in-CastAndAnswer.result (ap is_cast c.in-CastAndAnswer.is)
 
 pub returns-in-Look-clause-room : goal.returns-in-Look-clause-room
 returns-in-Look-clause-room g c = ap (full_at c.args.self.now.clock) c.in-Look.is

@@ -12,11 +12,15 @@ use Rattle.reg_records.proofs.Placed.{goes_on_refl}
 use Rattle.reg_records.proofs.placing.Placing.place_any.Goals as goal
 
 -- nothing was placed
-stays : (start : Op → ℕ → Start) (logs : List (List LogEntry)) (p : ℕ) (old new : Stand) (next : Next) → (next ≡ Waits) ⊎ (next ≡ Done) → HasPlaced start logs p old Whole next new → (new ≡ old) × CannotGo start logs old p
+stays : (start : Op → ℕ → Start) (logs : List (List LogEntry)) (p : ℕ) (old new : Stand) (next : Next)
+    → (next ≡ Waits) ⊎ (next ≡ Done) → HasPlaced start logs p old Whole next new
+    → (new ≡ old) × CannotGo start logs old p
 stays start logs p old new next (inl e) has = let h = rw e at has in (h.0, h.1 refl)
 stays start logs p old new next (inr e) has = let h = rw e at has in (h.0, h.1 refl)
 
-one_more : (start : Op → ℕ → Start) (logs : List (List LogEntry)) (k : ℕ) (s : Stand) → ((p : ℕ) → p < k → CannotGo start logs s p) → CannotGo start logs s k → (p : ℕ) → p < k + 1 → CannotGo start logs s p
+one_more : (start : Op → ℕ → Start) (logs : List (List LogEntry)) (k : ℕ) (s : Stand)
+    → ((p : ℕ) → p < k → CannotGo start logs s p) → CannotGo start logs s k → (p : ℕ) → p < k + 1
+    → CannotGo start logs s p
 one_more start logs k s before here p lt = by (cases_eq p k)
   where
     by : (p ≡ k) ⊎ (p ≡ k → ⊥) → CannotGo start logs s p

@@ -6,7 +6,8 @@ use Rattle.reg_trace.proofs.Cutting.{cut_none, cut_parts}
 use Rattle.reg_trace.proofs.data.comments.cut_line.Goals as goal
 
 pub returns-then-is_empty-clause-lines : goal.returns-then-is_empty-clause-lines
-returns-then-is_empty-clause-lines c = ap lines_of (empty_is c.args.text.now (sym c.is_empty.ensures ∙ c.if-is_empty.true)) ∙ none_left
+returns-then-is_empty-clause-lines c =
+    ap lines_of (empty_is c.args.text.now (sym c.is_empty.ensures ∙ c.if-is_empty.true)) ∙ none_left
 
 pub returns-in-Some-clause-lines : goal.returns-in-Some-clause-lines
 returns-in-Some-clause-lines c = cut_parts c.args.text.now c.in-Some.line c.in-Some.rest (rw c.in-Some.is at (split_once_first 10 c.args.text.now c.split_once.result c.split_once.ensures.cases (omega arith)))

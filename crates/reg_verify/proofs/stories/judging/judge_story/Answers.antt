@@ -21,4 +21,5 @@ loop-place-preserved g c =
     below_more (λ k. GoesOn reports k) place c.loop-place.invariant (MatchOption-at_none (GoesOn reports place) (λ breach. IsBreach reports place breach) c.in_default.is c.in_ok-breach.ensures)
 
 pub returns : goal.returns
-returns g c = (all_go_on c.args.reports.now c.loop-place.place c.requires c.loop-place-test.false c.loop-place.invariant, refl)
+returns g c =
+    (all_go_on c.args.reports.now c.loop-place.place c.requires c.loop-place-test.false c.loop-place.invariant, refl)

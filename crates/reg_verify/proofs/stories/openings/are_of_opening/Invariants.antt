@@ -8,4 +8,5 @@ use Rattle.reg_verify.proofs.stories.openings.are_of_opening.Given as goal
 
 -- those that were called so far are of the opening
 abbrev pub invariant-loop-at : goal.invariant-loop-at
-invariant-loop-at l = (k at : ℕ) (id : OpId) (op : Op) → k < l.at → IsAt l.entries k (Called at id op) → IsOfOpening l.writes id op
+invariant-loop-at l =
+    (k at : ℕ) (id : OpId) (op : Op) → k < l.at → IsAt l.entries k (Called at id op) → IsOfOpening l.writes id op

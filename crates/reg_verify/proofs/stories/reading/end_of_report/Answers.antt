@@ -20,4 +20,5 @@ returns-clause-first c =
     ([], whole text none ∙ ap (λ t. t ∷ []) (sym (take-length text)))
 
 pub returns-clause-last : goal.returns-clause-last
-returns-clause-last c = λ _. whole c.args.text.now (λ i lt. c.loop-place.invariant i (omega (arith, lt, c.loop-place-test.false)))
+returns-clause-last c =
+    λ _. whole c.args.text.now (λ i lt. c.loop-place.invariant i (omega (arith, lt, c.loop-place-test.false)))

@@ -6,7 +6,10 @@ use Rattle.reg_verify.proofs.StoryCuts.{line_within}
 use Rattle.reg_verify.proofs.stories.reading.read_behind.Goals as goal
 
 -- the line that is told is the one that is refused
-refused : (text : List ℕ) (line : ℕ) (why : ReadWhy) → (Line line why ≡ OutOfMemory) ⊎ ((number : ℕ) × (told : ReadWhy) × (Line line why ≡ Line number told) × RefusesReportLine number told text) → RefusesReportLine line why text
+refused : (text : List ℕ) (line : ℕ) (why : ReadWhy)
+    → (Line line why ≡ OutOfMemory)
+    ⊎ ((number : ℕ) × (told : ReadWhy) × (Line line why ≡ Line number told) × RefusesReportLine number told text)
+    → RefusesReportLine line why text
 refused text line why (inl e) = absurd (cc)
 refused text line why (inr (number, told, e, r)) =
     let a : line ≡ number = cc in
@@ -30,4 +33,5 @@ returns-in-Err-Line-clause-why g c = (
 )
 
 pub returns-in-Ok-clause-read : goal.returns-in-Ok-clause-read
-returns-in-Ok-clause-read g c = (c.in-Ok.ensures.good, c.in-Ok.ensures.read, λ s spelled. sym (c.in-Ok.ensures.whole s spelled))
+returns-in-Ok-clause-read g c =
+    (c.in-Ok.ensures.good, c.in-Ok.ensures.read, λ s spelled. sym (c.in-Ok.ensures.whole s spelled))

@@ -1,4 +1,5 @@
-use Rattle.std.proofs.Common.{rules, arith, ◌≡◌, ◌<◌, ◌∙◌, ◌+◌, [], ◌∷◌, false, length, length-append, slice_index_or, map, refl, ap, sym, subst}
+use Rattle.std.proofs.Common.{rules, arith, ◌≡◌, ◌<◌, ◌∙◌, ◌+◌, [], ◌∷◌, false, length, length-append, slice_index_or}
+use Rattle.std.proofs.Common.{map, refl, ap, sym, subst}
 use Rattle.std.proofs.lemmas.List.{length-map}
 use Rattle.reg_base.specs.declared.limits.TheConstants.{MOST_EVENTS}
 use Rattle.reg_process.specs.declared.events.Event.TheVariants.{Call}
@@ -91,10 +92,12 @@ pub returns-in_err-make-clause-same : goal.returns-in_err-make-clause-same
 returns-in_err-make-clause-same g c = ap Playing.scripts c.self.view_is
 
 pub returns-in_err-make-clause-processes : goal.returns-in_err-make-clause-processes
-returns-in_err-make-clause-processes g c = c.in_err-make.ensures.processes ∙ ap (λ (s : Playing). s.made.processes) c.self.view_is
+returns-in_err-make-clause-processes g c =
+    c.in_err-make.ensures.processes ∙ ap (λ (s : Playing). s.made.processes) c.self.view_is
 
 pub returns-in_err-make-clause-registers : goal.returns-in_err-make-clause-registers
-returns-in_err-make-clause-registers g c = c.in_err-make.ensures.registers ∙ ap (λ (s : Playing). s.made.registers) c.self.view_is
+returns-in_err-make-clause-registers g c =
+    c.in_err-make.ensures.registers ∙ ap (λ (s : Playing). s.made.registers) c.self.view_is
 
 pub returns-clause-same : goal.returns-clause-same
 returns-clause-same g c = ap Playing.scripts c.self.view_is

@@ -6,7 +6,8 @@ use Rattle.reg_workload.proofs.playing.Player.is_finished.Given.{Over}
 use Rattle.reg_workload.proofs.playing.Player.is_finished.Goals as goal
 
 -- a process that is not done
-not_all : (g : Over) (c : goal.Then-not-is_done g) → IsFinished g.F.FrontEnd.start c.args.self.now.scripts c.args.self.now.made → ⊥
+not_all : (g : Over) (c : goal.Then-not-is_done g)
+    → IsFinished g.F.FrontEnd.start c.args.self.now.scripts c.args.self.now.made → ⊥
 not_all g c all =
     let good : IsPlaying c.args.self.now = subst (λ (s : Playing). IsPlaying s) c.self.view_is c.self.invariant in
     let within : c.loop-process.process < length c.args.self.now.scripts = let a = good.scripts in let b = c.loop-process-test.true in let e = c.processes-process-end.ensures.value in omega (arith, a, b, e) in

@@ -10,18 +10,23 @@ use Rattle.reg_workload.proofs.Scripts.{begins}
 use Rattle.reg_workload.proofs.Fairness.{none_behind}
 use Rattle.reg_workload.proofs.playing.Player.new.Goals as goal
 
-rows_counted : (cursors : List (List ℕ)) (n : ℕ) → cursors ≡ replicate n (replicate MOST_PROCESSES 0) → length cursors ≡ n
+rows_counted : (cursors : List (List ℕ)) (n : ℕ) → cursors ≡ replicate n (replicate MOST_PROCESSES 0)
+    → length cursors ≡ n
 rows_counted cursors n rows = ap length rows ∙ length-replicate n (replicate MOST_PROCESSES 0)
 
 scripts_counted : {V : Type 0} (items : V → List Op) (vs : List V) (n : ℕ) → length vs ≡ n → length (map items vs) ≡ n
 scripts_counted items vs n count = length-map vs items ∙ count
 
-new_is : (shape : Extent) (scripts : List (List Op)) (n : ℕ) (m : Made) (next : List ℕ) (cursors : List (List ℕ)) → n ≡ shape.processes → m ≡ new_world shape → next ≡ replicate n 0 → cursors ≡ replicate n (replicate MOST_PROCESSES 0)
+new_is : (shape : Extent) (scripts : List (List Op)) (n : ℕ) (m : Made) (next : List ℕ) (cursors : List (List ℕ))
+    → n ≡ shape.processes → m ≡ new_world shape → next ≡ replicate n 0
+    → cursors ≡ replicate n (replicate MOST_PROCESSES 0)
     → record { made = m; scripts = scripts; next = next; cursors = cursors } ≡ new_play shape scripts
 new_is shape scripts n m next cursors e w a b = rw (w, a, b, e) refl
 
-none_yet : (cursors : List (List ℕ)) (n m a b : ℕ) → cursors ≡ replicate n (replicate m 0) → slice_index_or (slice_index_or cursors a []) b 0 ≡ 0
-none_yet cursors n m a b rows = ap (λ (z : List (List ℕ)). slice_index_or (slice_index_or z a []) b 0) rows ∙ none_behind n m a b
+none_yet : (cursors : List (List ℕ)) (n m a b : ℕ) → cursors ≡ replicate n (replicate m 0)
+    → slice_index_or (slice_index_or cursors a []) b 0 ≡ 0
+none_yet cursors n m a b rows =
+    ap (λ (z : List (List ℕ)). slice_index_or (slice_index_or z a []) b 0) rows ∙ none_behind n m a b
 
 pub invariant_of-result : goal.invariant_of-result
 invariant_of-result g c =

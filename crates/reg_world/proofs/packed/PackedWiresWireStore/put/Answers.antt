@@ -12,7 +12,8 @@ push-requires g c =
     omega (arith, a, b, e, from)
 
 pub invariant_of-self : goal.invariant_of-self
-invariant_of-self g c = all_kept c.self.inside.tables c.slot.new.self c.self.inside.strips c.slot.ensures.grows c.self.invariant
+invariant_of-self g c =
+    all_kept c.self.inside.tables c.slot.new.self c.self.inside.strips c.slot.ensures.grows c.self.invariant
 
 pub invariant_of-self-2 : goal.invariant_of-self-2
 invariant_of-self-2 g c =

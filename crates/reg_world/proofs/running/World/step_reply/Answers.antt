@@ -3,7 +3,8 @@ use Rattle.std.proofs.lemmas.Result.{err_from_is_err_and}
 use Rattle.reg_world.specs.Worlds.{Made}
 use Rattle.reg_world.specs.Pages.{Pages}
 use Rattle.reg_world.specs.WorldParts.{IsWorld, found}
-use Rattle.reg_world.proofs.code.Stepping.{refuses_is, move_found, none_is, accepts_is, grows_is, stopped_is, stopped_world}
+use Rattle.reg_world.proofs.code.Stepping.{refuses_is, move_found, none_is, accepts_is, grows_is, stopped_is}
+use Rattle.reg_world.proofs.code.Stepping.{stopped_world}
 use Rattle.reg_world.proofs.running.World.step_reply.Goals as goal
 
 pub returns-in_err-moved-clause-made : goal.returns-in_err-moved-clause-made
@@ -47,13 +48,17 @@ pub invariant_of-self : goal.invariant_of-self
 invariant_of-self g c = subst (λ (b : Bool). IsWorld g.F.FrontEnd.start b c.advance.new.members.items c.advance.new.book) (sym c.if-self.false) c.in-Ok.ensures.made.world
 
 pub returns-in-Err-clause-history : goal.returns-in-Err-clause-history
-returns-in-Err-clause-history g c = ap (λ (b : Pages). b.entries) c.in-Err.ensures.made.0 ∙ ap Made.history c.self.view_is
+returns-in-Err-clause-history g c =
+    ap (λ (b : Pages). b.entries) c.in-Err.ensures.made.0 ∙ ap Made.history c.self.view_is
 
 pub returns-in-Err-clause-accepted : goal.returns-in-Err-clause-accepted
-returns-in-Err-clause-accepted g c = ap (λ (b : Pages). b.accepted) c.in-Err.ensures.made.0 ∙ ap Made.accepted c.self.view_is
+returns-in-Err-clause-accepted g c =
+    ap (λ (b : Pages). b.accepted) c.in-Err.ensures.made.0 ∙ ap Made.accepted c.self.view_is
 
 pub returns-in_err-moved-clause-history : goal.returns-in_err-moved-clause-history
-returns-in_err-moved-clause-history g c = let p = err_from_is_err_and c.from_residual.result c.from_residual.ensures.1 in rw p.1 refl
+returns-in_err-moved-clause-history g c =
+    let p = err_from_is_err_and c.from_residual.result c.from_residual.ensures.1 in rw p.1 refl
 
 pub returns-in_err-moved-clause-accepted : goal.returns-in_err-moved-clause-accepted
-returns-in_err-moved-clause-accepted g c = let p = err_from_is_err_and c.from_residual.result c.from_residual.ensures.1 in rw p.1 refl
+returns-in_err-moved-clause-accepted g c =
+    let p = err_from_is_err_and c.from_residual.result c.from_residual.ensures.1 in rw p.1 refl

@@ -24,10 +24,12 @@ returns-then-self-len-clause-items g c =
     put_next old.items new.items own.items c.self.inside.shared c.len-self-inside.result c.args.item none (omega (arith, old.ok.0, c.len.ensures, c.if-self-len.true)) (omega (arith, new.ok.0, c.len-self-inside.ensures)) c.in_ok-push.ensures.put ∙ ap (λ (s : Strip g.row.T.Denot). items_in old.items s ++ c.args.item ∷ []) c.self.view_is
 
 pub returns-then-self-len-clause-longer : goal.returns-then-self-len-clause-longer
-returns-then-self-len-clause-longer g c = longer_more c.args.common.now.items c.push-then-self-len.new.items.items (c.args.item ∷ []) c.in_ok-push.ensures.put
+returns-then-self-len-clause-longer g c =
+    longer_more c.args.common.now.items c.push-then-self-len.new.items.items (c.args.item ∷ []) c.in_ok-push.ensures.put
 
 pub returns-in_err-push-clause-longer : goal.returns-in_err-push-clause-longer
-returns-in_err-push-clause-longer g c = longer_same c.args.common.now.items c.push-then-self-len.new.items.items c.in_err-push.ensures.kept
+returns-in_err-push-clause-longer g c =
+    longer_same c.args.common.now.items c.push-then-self-len.new.items.items c.in_err-push.ensures.kept
 
 pub returns-then-is-clause-items : goal.returns-then-is-clause-items
 returns-then-is-clause-items g c =

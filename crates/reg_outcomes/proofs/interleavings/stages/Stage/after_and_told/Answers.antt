@@ -1,4 +1,5 @@
-use Rattle.std.proofs.Common.{◌≡◌, ℕ, ◌+◌, ◌<◌, List, ◌++◌, length, drop, get_or, set, take, ap, ap₂, ◌∙◌, arith, append-nil}
+use Rattle.std.proofs.Common.{◌≡◌, ℕ, ◌+◌, ◌<◌, List, ◌++◌, length, drop, get_or, set, take, ap, ap₂, ◌∙◌, arith}
+use Rattle.std.proofs.Common.{append-nil}
 use Rattle.std.proofs.lemmas.Grind.{get_or_default_zero}
 use Rattle.std.proofs.lemmas.List.{drop_all, take_all}
 use Rattle.reg_base.specs.Memory.{after}
@@ -6,13 +7,15 @@ use Rattle.reg_outcomes.proofs.interleavings.stages.Stage.after_and_told.Goals a
 
 -- the number of a process, read where the numbers were copied
 read : (xs ys : List ℕ) (k p n : ℕ) → xs ≡ ys → k ≡ p → n ≡ get_or xs k n → p < length ys → n ≡ get_or ys p 0
-read xs ys k p n same here is inside = is ∙ ap₂ (λ (l : List ℕ) (j : ℕ). get_or l j n) same here ∙ get_or_default_zero ys p n inside
+read xs ys k p n same here is inside =
+    is ∙ ap₂ (λ (l : List ℕ) (j : ℕ). get_or l j n) same here ∙ get_or_default_zero ys p n inside
 
 within : (xs ys : List ℕ) (k p n : ℕ) → xs ≡ ys → k ≡ p → n ≡ length xs → p < length ys → k < n
 within xs ys k p n same here len inside = let e = ap length same in omega (arith, here, len, e, inside)
 
 -- a list of the same length that was written over another
-written : (new old : List ℕ) (n : ℕ) → length new ≡ length old → n ≡ length old → take n (new ++ drop (length new) old) ≡ new
+written : (new old : List ℕ) (n : ℕ) → length new ≡ length old → n ≡ length old
+    → take n (new ++ drop (length new) old) ≡ new
 written new old n same len =
     ap (λ (l : List ℕ). take n (new ++ l)) (drop_all (length new) old (omega (arith, same))) ∙ ap (take n) (append-nil new) ∙ take_all n new (omega (arith, same, len))
 

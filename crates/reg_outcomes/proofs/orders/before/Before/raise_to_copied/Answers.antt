@@ -1,4 +1,5 @@
-use Rattle.std.proofs.Common.{◌≡◌, ◌⊎◌, inl, inr, ◌+◌, ◌-◌, ◌<◌, ◌≤◌, ◌++◌, List, Some, ap, arith, drop, length, refl, slice_get, subst, sym, take, ◌∙◌, ℕ, length-take, length-drop}
+use Rattle.std.proofs.Common.{◌≡◌, ◌⊎◌, inl, inr, ◌+◌, ◌-◌, ◌<◌, ◌≤◌, ◌++◌, List, Some, ap, arith, drop, length, refl}
+use Rattle.std.proofs.Common.{slice_get, subst, sym, take, ◌∙◌, ℕ, length-take, length-drop}
 use Rattle.std.proofs.lemmas.Option.{slice_get_read}
 use Rattle.std.specs.Vec.{with_item, with_items}
 use Rattle.reg_outcomes.specs.declared.orders.before.Before.{Before}

@@ -14,4 +14,5 @@ returns-clause-value g c =
     (fact_found i.facts.items i.history.now.entries c.args.id c.fact_of.result c.self.invariant.1 is)
 
 pub returns-clause-in_place : goal.returns-clause-in_place
-returns-clause-in_place g c = subst (λ (s : Sought). IsHistory s.shape.processes s.shape.registers s.entries) c.self.view_is c.self.invariant.0
+returns-clause-in_place g c =
+    subst (λ (s : Sought). IsHistory s.shape.processes s.shape.registers s.entries) c.self.view_is c.self.invariant.0

@@ -6,4 +6,5 @@ use Rattle.reg_outcomes.proofs.Counting.{counted_none}
 use Rattle.reg_outcomes.proofs.tables.tallies.Tallies.new.Goals as goal
 
 pub returns : goal.returns
-returns g c = counted_none (λ v. v.items) c.new.result (λ q. ap (lookup (is_at (key_cmp (λ v. v.items) q))) c.new.ensures.empty)
+returns g c =
+    counted_none (λ v. v.items) c.new.result (λ q. ap (lookup (is_at (key_cmp (λ v. v.items) q))) c.new.ensures.empty)
