@@ -3,6 +3,7 @@
 #![tactic(auto)]
 
 mod accepted;
+mod adding;
 mod advancing;
 mod bodies;
 mod books;

@@ -1,20 +1,18 @@
 //! All processes and wires of a run, one event after another.
 ghost use Rattle.std.specs.Prelude.{◌≡◌, ◌<◌, ◌≤◌, ◌++◌, ◌∷◌, List, false, length, take, Option, Some, IfOk, []};
 ghost use Rattle.std.specs.Prelude.{MatchOption, MatchResult};
-ghost use Rattle.reg_checkers.specs.History.{IsHistory};
-ghost use Rattle.reg_checkers.specs.Orders.{IsSerial, IsPointOrder};
 ghost use Rattle.reg_process.specs.declared.steps.Reply.{Reply};
 ghost use Rattle.reg_process.specs.declared.events.Event.{Event};
 ghost use Rattle.reg_world.specs.Histories.{Grows, Makes};
-ghost use Rattle.reg_world.specs.Keys.{IsWitness, ArePoints};
 ghost use Rattle.reg_world.specs.Laws.{DeliveriesAgree, DeliveriesRise, DeliveriesMade, UndeliveredAbove};
 ghost use Rattle.reg_world.specs.Laws.{AllAcknowledged, IsQuiescent};
 ghost use Rattle.reg_world.specs.Promises.{OrderIsLongest, OrderIsRight, FirstsRight, RepliesRight, ReadsRight};
-ghost use Rattle.reg_world.specs.RealTime.{AnswersNothingFirst, KeepsUpdates, KeepsAllUpdates};
-ghost use Rattle.reg_world.specs.World.{run_of, whole};
+ghost use Rattle.reg_world.specs.World.{whole};
 ghost use Rattle.reg_world.specs.Worlds.{Made, run_in, Accepts, Refuses, reply_in, new_world, after_events, RunRefuses};
 ghost use Rattle.reg_world.specs.Worlds.{IsProcess, IsWire, IsNoWire, HasFrames, IsFrameAt};
 ghost use Rattle.reg_world.specs.WorldParts.{IsWorld};
+
+mod orders;
 
 use crate::advancing::{advance, run_ahead};
 use crate::books::Book;
@@ -25,12 +23,12 @@ use crate::members::{Member, new_members};
 use crate::order::{CopyRead, First};
 use crate::slices::Wires;
 use crate::stores::{ListingStore, WireStore};
-use crate::witnesses::{points_of, witness_of};
+use crate::witnesses::witness_of;
+use reg_base::Shape;
 use reg_base::limits::MOST_EVENTS;
-use reg_base::{OpId, Shape};
-use reg_checkers::{History, Point};
+use reg_checkers::History;
 use reg_frames::Frame;
-use reg_front::{FrontEnd, RealTime};
+use reg_front::FrontEnd;
 use reg_process::{Brief, Event, Process, Reply};
 use std::alloc::{AllocError, Allocator, Global};
 use std::marker::Model;
@@ -313,60 +311,6 @@ impl<F: FrontEnd, A: Allocator + Copy, W: WireStore<A>> World<F, A, W> {
             None => None,
         }
     }
-
-    /// The operations that are finished, and the updates that some process has delivered, in one order. Delivered casts
-    /// stand as in `order`, a read from a copy stands before the cast at its place there, and the finished casts that
-    /// were delivered nowhere stand last, by stamp.
-    ///
-    /// It is a serial order of the history: the history is sequentially consistent (Lamport 1979). An operation that
-    /// may change the memory stands after each that was answered before its call, except those that the front end may
-    /// answer before their delivery. Where the front end answers no operation before its delivery, there is no
-    /// exception.
-    ///
-    /// # Errors
-    ///
-    /// Memory was refused.
-    pub fn witness(&self) -> Result<Vec<OpId, A>, AllocError>
-        ensures keyed { IfOk result (λ ids. IsWitness (run_of self.now.registers (run_in F.start self.now)) ids.items) }
-        ensures serial { IfOk result (λ ids. IsSerial self.now.registers (run_in F.start self.now).history ids.items) }
-        ensures real_time { IfOk result (λ ids. KeepsUpdates F.start (run_in F.start self.now).history ids.items) }
-        ensures nothing_first { AnswersNothingFirst F.start
-            → IfOk result (λ ids. KeepsAllUpdates (run_in F.start self.now).history ids.items) }
-    {
-        witness_of(
-            self.alloc,
-            self.book.order(),
-            self.book.reads(),
-            self.book.callers(),
-        )
-    }
-
-    /// The history, and the operations of `witness`, a serial order of it: the history is sequentially consistent. An
-    /// operation that may change the memory stands after each that was answered before its call, except those that the
-    /// front end may answer before their delivery. Where the front end answers no operation before its delivery, there
-    /// is no exception. To believe this takes the definitions of histories, of their orders and of the front end, and
-    /// none of a run.
-    ///
-    /// # Errors
-    ///
-    /// Memory was refused.
-    pub fn serial_order(&self) -> Result<(&History<A>, Vec<OpId, A>), AllocError>
-        ensures shape { IfOk result (λ r. r.0.now.shape
-            ≡ record { processes = self.now.processes; registers = self.now.registers }) }
-        ensures value { IfOk result (λ r. r.0.now.entries ≡ self.now.history) }
-        ensures history { IfOk result (λ r. IsHistory r.0.now.shape.processes r.0.now.shape.registers r.0.now.entries) }
-        ensures serial { IfOk result (λ r. IsSerial r.0.now.shape.registers r.0.now.entries r.1.items) }
-        ensures real_time { IfOk result (λ r. KeepsUpdates F.start r.0.now.entries r.1.items) }
-        ensures nothing_first { AnswersNothingFirst F.start
-            → IfOk result (λ r. KeepsAllUpdates r.0.now.entries r.1.items) }
-        ensures keyed { IfOk result (λ r. IsWitness (run_of self.now.registers (run_in F.start self.now)) r.1.items) }
-    {
-        let ids = self.witness()?;
-        let history = self.history();
-        // (for the proof: by this getter's contract the history is one, each entry in place)
-        history.entries();
-        Ok((history, ids))
-    }
 }
 
 impl<F: FrontEnd, A: Allocator + Copy, W: ListingStore<A>> World<F, A, W> {
@@ -396,45 +340,5 @@ impl<F: FrontEnd, A: Allocator + Copy> World<F, A, Wires<A>> {
             Some(member) => Some(member.wire(to)),
             None => None,
         }
-    }
-}
-
-impl<F: RealTime, A: Allocator + Copy, W: WireStore<A>> World<F, A, W> {
-    /// The delivered casts that are updates or finished, each at the event of its first delivery. They are a point
-    /// order of the history: the history is linearizable (Herlihy and Wing 1990). Each takes effect between its call
-    /// and its answer, if it is answered.
-    ///
-    /// # Errors
-    ///
-    /// Memory was refused.
-    pub fn points(&self) -> Result<Vec<Point, A>, AllocError>
-        ensures first { IfOk result
-            (λ points. ArePoints (run_of self.now.registers (run_in F.start self.now)) points.items) }
-        ensures ordered { IfOk result
-            (λ points. IsPointOrder self.now.registers (run_in F.start self.now).history points.items) }
-    {
-        points_of(self.alloc, self.book.order(), self.book.callers())
-    }
-
-    /// The history, and `points`, a linearization of it: the history is linearizable. Each operation there has a point
-    /// between its call and its answer, if it is answered. To believe this takes the definitions of histories and their
-    /// orders alone, and none of a run.
-    ///
-    /// # Errors
-    ///
-    /// Memory was refused.
-    pub fn linearization(&self) -> Result<(&History<A>, Vec<Point, A>), AllocError>
-        ensures shape { IfOk result (λ r. r.0.now.shape
-            ≡ record { processes = self.now.processes; registers = self.now.registers }) }
-        ensures value { IfOk result (λ r. r.0.now.entries ≡ self.now.history) }
-        ensures history { IfOk result (λ r. IsHistory r.0.now.shape.processes r.0.now.shape.registers r.0.now.entries) }
-        ensures points { IfOk result (λ r. IsPointOrder r.0.now.shape.registers r.0.now.entries r.1.items) }
-        ensures first { IfOk result (λ r. ArePoints (run_of self.now.registers (run_in F.start self.now)) r.1.items) }
-    {
-        let points = self.points()?;
-        let history = self.history();
-        // (for the proof: by this getter's contract the history is one, each entry in place)
-        history.entries();
-        Ok((history, points))
     }
 }

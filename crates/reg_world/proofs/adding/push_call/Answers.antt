@@ -4,7 +4,7 @@ use Rattle.reg_checkers.specs.History.{IsHistory}
 use Rattle.reg_process.specs.declared.steps.Step.{Step}
 use Rattle.reg_world.specs.World.{calls_in}
 use Rattle.reg_world.proofs.code.Entering.{not_refused}
-use Rattle.reg_world.proofs.books.push_call.Goals as goal
+use Rattle.reg_world.proofs.adding.push_call.Goals as goal
 
 pub unreachable-requires : goal.unreachable-requires
 unreachable-requires g c =

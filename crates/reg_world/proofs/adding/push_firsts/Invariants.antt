@@ -1,5 +1,5 @@
 use Rattle.reg_world.proofs.code.Entering.{IsSoFar}
-use Rattle.reg_world.proofs.books.push_firsts.Given as goal
+use Rattle.reg_world.proofs.adding.push_firsts.Given as goal
 
 abbrev pub invariant-loop-cast : goal.invariant-loop-cast
 invariant-loop-cast g l =

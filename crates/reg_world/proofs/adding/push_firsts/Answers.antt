@@ -1,6 +1,6 @@
 use Rattle.std.proofs.Common.{◌∙◌, refl, arith}
 use Rattle.reg_world.proofs.code.Entering.{caster_at, differ_at, first_more}
-use Rattle.reg_world.proofs.books.push_firsts.Goals as goal
+use Rattle.reg_world.proofs.adding.push_firsts.Goals as goal
 
 pub push_first-requires-clause-caster : goal.push_first-requires-clause-caster
 push_first-requires-clause-caster g c = caster_at c.args.delivered.now c.loop-cast.cast-index _ c.loop-cast.callers.items c.args.callers.now.items c.requires.casters c.loop-cast.invariant.same (omega arith)

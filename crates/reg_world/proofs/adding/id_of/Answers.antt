@@ -2,7 +2,7 @@ use Rattle.std.proofs.Common.{◌∙◌, subst, sym, ap, arith}
 use Rattle.reg_world.specs.Tallies.{Tally}
 use Rattle.reg_world.specs.Pages.{tally_at, TimesDiffer}
 use Rattle.reg_world.proofs.code.Entering.{at_default}
-use Rattle.reg_world.proofs.books.id_of.Goals as goal
+use Rattle.reg_world.proofs.adding.id_of.Goals as goal
 
 pub number_of-number-requires : goal.number_of-number-requires
 number_of-number-requires g c =

@@ -4,7 +4,7 @@ use Rattle.reg_checkers.specs.History.{IsHistory}
 use Rattle.reg_process.specs.declared.steps.Reply.{Reply}
 use Rattle.reg_world.specs.World.{answers_in}
 use Rattle.reg_world.proofs.code.Entering.{not_refused}
-use Rattle.reg_world.proofs.books.push_answer.Goals as goal
+use Rattle.reg_world.proofs.adding.push_answer.Goals as goal
 
 pub unreachable-requires : goal.unreachable-requires
 unreachable-requires g c =
