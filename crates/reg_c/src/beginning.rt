@@ -55,7 +55,7 @@ fn log_id(cluster: u64, process: u8, chapter: u64, begun: u64) -> LogId
 }
 
 /// The line of the names.
-fn names_line(alloc: Global, text: &[u8]) -> Result<Vec<u8>, AllocError>
+fn registers_line(alloc: Global, text: &[u8]) -> Result<Vec<u8>, AllocError>
     ensures { IfOk result (λ v. v.items ≡ codes "registers " ++ text.now) }
 {
     let mut line = Vec::from_slice(alloc, b"registers ")?;
@@ -90,7 +90,7 @@ pub(crate) fn names_in(alloc: Global, text: &[u8]) -> Result<Names, u32>
         ((code ≡ bad_names) × ((names : List (List ℕ)) → names_fault names ≡ None → ¬ SaysNames text.now names))
         ⊎ (code ≡ refusal_code ProcessFault.OutOfMemory)) }
 {
-    let Ok(line) = names_line(alloc, text) else {
+    let Ok(line) = registers_line(alloc, text) else {
         return Err(code_of_refusal(ProcessFault::OutOfMemory));
     };
     match names_of(alloc, &line) {

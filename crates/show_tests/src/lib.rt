@@ -49,6 +49,8 @@ mod shown;
 #[cfg(test)]
 mod stories;
 #[cfg(test)]
+mod story_texts;
+#[cfg(test)]
 mod streams;
 pub mod values;
 #[cfg(test)]

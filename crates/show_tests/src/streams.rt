@@ -2,7 +2,7 @@
 //! fails at one write or at its flush alone, and over one that holds what it is given until it is flushed.
 use crate::lines::words_of;
 use crate::{
-    histories_judged, one_shown, orders_shown, records_judged, short_shown, shown, stories, why,
+    histories_judged, one_shown, orders_shown, records_judged, short_shown, shown, story_texts, why,
 };
 use reg_cli::{Asked, choose, run_text};
 use reg_show_cli::run_line;
@@ -42,8 +42,8 @@ const COMMANDS: [Row; 32] = [
     ("awshow why", why::REFUSED, 1),
     ("awshow verify", records_judged::WRITE, 0),
     ("awshow merge", records_judged::WRITE, 0),
-    ("awshow story", stories::FIRST, 0),
-    ("awshow story", stories::OUT_OF_ORDER, 1),
+    ("awshow story", story_texts::FIRST, 0),
+    ("awshow story", story_texts::OUT_OF_ORDER, 1),
     ("awshow judge", histories_judged::BOTH_WELL, 0),
     ("awshow judge", histories_judged::STALE, 1),
     ("awshow judge --report", histories_judged::READ_BACK, 0),
