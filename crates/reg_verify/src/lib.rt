@@ -1,7 +1,7 @@
 //! The commands over what processes that ran apart wrote down. Of a record, one judges it, and prints the report of
 //! the run that it is, or names the first line with which it is none; one puts its steps into an order that is a run,
-//! and so it does with the logs of all processes of a chapter. Of the reports of chapters, one says whether they are one
-//! story.
+//! and so it does with the logs of all processes of a chapter. Of the reports of chapters, one says whether they are
+//! one story.
 #![tactic(auto)]
 
 mod faults;
