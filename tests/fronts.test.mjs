@@ -132,8 +132,8 @@ test("each lawful table has a number of its own, and the three have those that t
 });
 
 /**
- * The data of a run under table 4, in which a write is answered at once with no own cast on its way, and waits with one:
- * process 0 writes twice.
+ * The data of a run under table 4, in which a write is answered at once with no own cast on its way, and waits with
+ * one: process 0 writes twice.
  */
 const TWO_WRITES = {
   version: 1, title: "", processes: 2, registers: ["x"], front: "local-read",

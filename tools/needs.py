@@ -1,5 +1,5 @@
-"""What a tool needs beside Python: it says in one line what is missing and what makes it, and what goes on while it waits; and
-another tool, as a module."""
+"""What a tool needs beside Python: it says in one line what is missing and what makes it, and what goes on while it
+waits; and another tool, as a module."""
 import importlib.machinery
 import importlib.util
 import os
@@ -56,8 +56,8 @@ def other_tool(name):
 
 
 def run_aloud(what, words, **more):
-    """Runs a command as `subprocess.run` does, and keeps what it prints. Each ten seconds a line on standard error says what it is
-    at, and for how long."""
+    """Runs a command as `subprocess.run` does, and keeps what it prints. Each ten seconds a line on standard error says
+    what it is at, and for how long."""
     started = time.monotonic()
     with subprocess.Popen(words, text=True, errors="replace", **{"stdout": subprocess.PIPE, "stderr": subprocess.PIPE, **more}) as running:
         while True:

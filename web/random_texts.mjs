@@ -1,5 +1,5 @@
-// Random texts of each kind, from a seed: workloads, the schedules of their plays, the reports and records of these, and
-// each of them broken. The module makes the plays; what it says of a text is compared by compare.mjs.
+// Random texts of each kind, from a seed: workloads, the schedules of their plays, the reports and records of these,
+// and each of them broken. The module makes the plays; what it says of a text is compared by compare.mjs.
 
 const encoder = new TextEncoder(), decoder = new TextDecoder();
 

@@ -159,7 +159,8 @@ struct frame {
     size_t length;
 };
 
-/* A node with the text of its log, where the lines of its entries end, and how many of these it was told are durable. */
+/* A node with the text of its log, where the lines of its entries end, and how many of these
+ * it was told are durable. */
 struct member {
     struct tellwydar_node *node;
     uint8_t text[MOST_TEXT];

@@ -1,12 +1,12 @@
 /* Tellwydar for C: shared registers over totally ordered broadcast, from the static library `reg_c`.
  *
- * What each function does is proved of the library's code (docs/LIBRARY.md); that these declarations are those of that code is not
- * checked by anything but `tools/bindings`.
+ * What each function does is proved of the library's code (docs/LIBRARY.md); that these declarations are those of that
+ * code is not checked by anything but `tools/bindings`.
  *
  * Duties of the caller. No pointer is null, not even where its length is 0. A length is that of its room. Rooms don't
- * overlap. A handle is one that `tellwydar_world_new`, `tellwydar_process_new` or `tellwydar_node_new` gave to that kind
- * of function, it is in one call at a time, and in none after it was freed; threads that share one take turns under a lock
- * of theirs. No function is called from a signal handler. A command keeps some 64 KiB on the stack.
+ * overlap. A handle is one that `tellwydar_world_new`, `tellwydar_process_new` or `tellwydar_node_new` gave to that
+ * kind of function, it is in one call at a time, and in none after it was freed; threads that share one take turns
+ * under a lock of theirs. No function is called from a signal handler. A command keeps some 64 KiB on the stack.
  *
  * The library starts no thread and takes no lock. It takes memory by malloc, realloc and free.
  */
@@ -19,17 +19,17 @@
 #define TELLWYDAR_VERSION "0.1.0"
 
 /* Which functions and numbers there are. 2 adds compare-and-swaps, 3 nodes, 4 the judge of histories, 5 the merge of
- * records and a first value for the judge, 6 chapters and looks at the peers of a node, 7 how one chapter follows another,
- * and 8 the merge of logs, what the head of one says, whether one never began, who a message is from, and whether chapters
- * are one story. In 9 the result of `tellwydar_node_came` tells whether a tick is due, and of no node it is 0. Else all
- * functions and numbers of those before are there, and mean what they did. */
+ * records and a first value for the judge, 6 chapters and looks at the peers of a node, 7 how one chapter follows
+ * another, and 8 the merge of logs, what the head of one says, whether one never began, who a message is from, and
+ * whether chapters are one story. In 9 the result of `tellwydar_node_came` tells whether a tick is due, and of no node
+ * it is 0. Else all functions and numbers of those before are there, and mean what they did. */
 #define TELLWYDAR_ABI 9
 
 #ifdef __cplusplus
 extern "C" {
 #endif
 
-/* --- Texts: the commands of the program `awreg`, and `verify`, `merge`, `story` and `judge` of `awshow` ----------------------- */
+/* --- Texts: the commands of the program `awreg`, and `verify`, `merge`, `story` and `judge` of `awshow` ----------- */
 
 /* How many bytes an answer has, and how many the line of a fault, also where less room was lent. */
 struct tellwydar_lengths {
@@ -37,8 +37,9 @@ struct tellwydar_lengths {
     size_t errors;
 };
 
-/* Each takes a text and two rooms, and puts as much of the answer and of the line of a fault into them as they take. A room may have
- * the length 0: call again with room for `lengths`. The result is the status: 0, or 1 where something was refused or judged no. */
+/* Each takes a text and two rooms, and puts as much of the answer and of the line of a fault into them as they take. A
+ * room may have the length 0: call again with room for `lengths`. The result is the status: 0, or 1 where something
+ * was refused or judged no. */
 
 /* A schedule: the answer is the report of its run. */
 uint8_t tellwydar_replay(const uint8_t *text, size_t text_length, uint8_t *output, size_t output_length, uint8_t *errors,
@@ -55,26 +56,30 @@ uint8_t tellwydar_play_fair(const uint8_t *text, size_t text_length, uint8_t *ou
 /* A record of processes that ran apart, as `awshow verify` reads it: the answer is the report of the run that it is. */
 uint8_t tellwydar_verify(const uint8_t *text, size_t text_length, uint8_t *output, size_t output_length, uint8_t *errors,
                          size_t errors_length, struct tellwydar_lengths *lengths);
-/* A record whose steps stand in any order, those of each process in their own one, as `awshow merge` reads it: the answer is the record
- * of the same steps in an order that is a run. If there is none, the line names a step that no run of first steps has. */
+/* A record whose steps stand in any order, those of each process in their own one, as `awshow merge` reads it: the
+ * answer is the record of the same steps in an order that is a run. If there is none, the line names a step that no
+ * run of first steps has. */
 uint8_t tellwydar_merge(const uint8_t *text, size_t text_length, uint8_t *output, size_t output_length, uint8_t *errors,
                         size_t errors_length, struct tellwydar_lengths *lengths);
-/* The reports of chapters, one behind another, as `awshow story` reads them: with status 0 they are one story. The answer says so, or names
- * the first report with which they go wrong (status 1); where they weren't judged, the line says why. */
+/* The reports of chapters, one behind another, as `awshow story` reads them: with status 0 they are one story.
+ * The answer says so, or names the first report with which they go wrong (status 1); where they weren't
+ * judged, the line says why. */
 uint8_t tellwydar_story(const uint8_t *text, size_t text_length, uint8_t *output, size_t output_length, uint8_t *errors,
                         size_t errors_length, struct tellwydar_lengths *lengths);
-/* What any system answered its clients, as lines of JSON, EDN or a report: `awshow judge` reads it, and docs/JUDGE.md says how. The answer
- * begins with yes if it is linearizable (status 0) and with no if it isn't (status 1); with a line, and no answer, it is refused (status 1).
- * If `report` isn't 0, a report with the points that were found stands in the place of a yes: `tellwydar_check` judges it anew. */
+/* What any system answered its clients, as lines of JSON, EDN or a report: `awshow judge` reads it, and docs/JUDGE.md
+ * says how. The answer begins with yes if it is linearizable (status 0) and with no if it isn't (status 1); with a
+ * line, and no answer, it is refused (status 1). If `report` isn't 0, a report with the points that were found stands
+ * in the place of a yes: `tellwydar_check` judges it anew. */
 uint8_t tellwydar_judge(const uint8_t *text, size_t text_length, uint8_t report, uint8_t *output, size_t output_length,
                         uint8_t *errors, size_t errors_length, struct tellwydar_lengths *lengths);
 
-/* The same of registers that begin with this value, as JSON has it: `5`, `null`, `"idle"`. A report, whose registers begin with 0, is refused. */
+/* The same of registers that begin with this value, as JSON has it: `5`, `null`, `"idle"`. A report, whose registers
+ * begin with 0, is refused. */
 uint8_t tellwydar_judge_from(const uint8_t *text, size_t text_length, const uint8_t *first, size_t first_length, uint8_t report,
                              uint8_t *output, size_t output_length, uint8_t *errors, size_t errors_length,
                              struct tellwydar_lengths *lengths);
 
-/* --- Checkers: a history of your own, judged ---------------------------------------------------------------------------------- */
+/* --- Checkers: a history of your own, judged ---------------------------------------------------------------------- */
 
 /* The kinds of entries. */
 enum {
@@ -87,8 +92,9 @@ enum {
     TELLWYDAR_ANSWERED_UNEQUAL = 6 /* of a compare-and-swap that found another value than the expected one */
 };
 
-/* A call or an answer. Events are numbered from 0, rise from entry to entry, and are at most 1,048,575; only an answer may have the
- * event of the entry before it, if that is its own call. A process numbers its operations from 0, one after another. */
+/* A call or an answer. Events are numbered from 0, rise from entry to entry, and are at most 1,048,575; only an
+ * answer may have the event of the entry before it, if that is its own call. A process numbers its operations
+ * from 0, one after another. */
 struct tellwydar_entry {
     uint64_t value;    /* of a write, a swap, a compare-and-swap, or an answer with a value */
     uint32_t at;       /* the number of its event */
@@ -126,15 +132,16 @@ enum {
     TELLWYDAR_OUT_OF_PLACE = 10  /* the entry at `place` is none, or can't come there */
 };
 
-/* Whether the operations are a serial order of the history (sequential consistency). `place` gets the place that the verdict names,
- * from 0, else 0. */
+/* Whether the operations are a serial order of the history (sequential consistency). `place` gets the place that the
+ * verdict names, from 0, else 0. */
 uint32_t tellwydar_check_serial(uint32_t processes, uint32_t registers, const struct tellwydar_entry *entries, size_t entries_length,
                                 const struct tellwydar_id *ids, size_t ids_length, size_t *place);
 /* Whether the points are a point order of the history (linearizability). */
 uint32_t tellwydar_check_points(uint32_t processes, uint32_t registers, const struct tellwydar_entry *entries, size_t entries_length,
                                 const struct tellwydar_point *points, size_t points_length, size_t *place);
-/* The same of histories with compare-and-swaps: what one expects stands in `expected`, at the place of its entry; at other places any
- * number does. A compare-and-swap without an expected value is no entry: TELLWYDAR_OUT_OF_PLACE, as from the two functions above. */
+/* The same of histories with compare-and-swaps: what one expects stands in `expected`, at the place of its entry; at
+ * other places any number does. A compare-and-swap without an expected value is no entry: TELLWYDAR_OUT_OF_PLACE, as
+ * from the two functions above. */
 uint32_t tellwydar_check_serial_expecting(uint32_t processes, uint32_t registers, const struct tellwydar_entry *entries,
                                           size_t entries_length, const uint64_t *expected, size_t expected_length,
                                           const struct tellwydar_id *ids, size_t ids_length, size_t *place);
@@ -142,13 +149,14 @@ uint32_t tellwydar_check_points_expecting(uint32_t processes, uint32_t registers
                                           size_t entries_length, const uint64_t *expected, size_t expected_length,
                                           const struct tellwydar_point *points, size_t points_length, size_t *place);
 
-/* --- Worlds: all processes of a run, stepped event by event ------------------------------------------------------------------- */
+/* --- Worlds: all processes of a run, stepped event by event ------------------------------------------------------- */
 
 struct tellwydar_world;
 
 enum { TELLWYDAR_LINEAR = 0, TELLWYDAR_LOCAL_READ = 1, TELLWYDAR_LOCAL_WRITE = 2 };
 
-/* Kinds of events: the calls of a process, its take of a frame, its tick. The call of a compare-and-swap is a function of its own. */
+/* Kinds of events: the calls of a process, its take of a frame, its tick. The call of a compare-and-swap
+ * is a function of its own. */
 enum { TELLWYDAR_READ = 0, TELLWYDAR_WRITE = 1, TELLWYDAR_SWAP = 2, TELLWYDAR_TAKE = 3, TELLWYDAR_TICK = 4 };
 
 /* What a step tells. */
@@ -175,17 +183,19 @@ enum {
     TELLWYDAR_NOT_A_FRAME = 48 /* of a process: these bytes spell no frame (docs/FORMATS.md) */
 };
 
-/* Makes a world in which nothing happened yet. The result is 0, and the handle is set; or one of the last numbers, and it isn't. */
+/* Makes a world in which nothing happened yet. The result is 0, and the handle is set; or one of the
+ * last numbers, and it isn't. */
 uint32_t tellwydar_world_new(uint32_t front, uint32_t processes, uint32_t registers, struct tellwydar_world **handle);
-/* Makes an event. Of a call `number` is the register, of a take that of the frame on the wire from `from`; `value` is that of a write or
- * swap. What isn't of the event isn't looked at. A refused event changes nothing, but want of memory stops the world for good. */
+/* Makes an event. Of a call `number` is the register, of a take that of the frame on the wire from `from`; `value` is
+ * that of a write or swap. What isn't of the event isn't looked at. A refused event changes nothing, but want of memory
+ * stops the world for good. */
 uint32_t tellwydar_world_step(struct tellwydar_world *handle, uint32_t kind, uint8_t process, uint32_t number, uint8_t from,
                               uint64_t value);
 /* Makes the event that a process calls a compare-and-swap. */
 uint32_t tellwydar_world_compare_and_swap(struct tellwydar_world *handle, uint8_t process, uint32_t reg, uint64_t expected,
                                           uint64_t value);
-/* Asks the world for a serial order of its history and, under `linear`, for a point order: 0, or TELLWYDAR_NO_MEMORY, and then the orders
- * that were asked for before are kept. */
+/* Asks the world for a serial order of its history and, under `linear`, for a point order: 0, or TELLWYDAR_NO_MEMORY,
+ * and then the orders that were asked for before are kept. */
 uint32_t tellwydar_world_arrange(struct tellwydar_world *handle);
 
 /* What to look at. An entry, an id or a point is the one at the place `at`; what isn't there is 0. */
@@ -220,31 +230,33 @@ static inline void tellwydar_world_free(struct tellwydar_world *handle) {
     free(handle);
 }
 
-/* --- Processes: one process of a run, whose frames the caller carries ---------------------------------------------------------- */
+/* --- Processes: one process of a run, whose frames the caller carries --------------------------------------------- */
 
 struct tellwydar_process;
 
-/* Makes the process `me`, from 0, of a run in which all have this front end and this shape. It did nothing yet. The result is 0, and the
- * handle is set; or TELLWYDAR_NO_SHAPE, TELLWYDAR_NO_FRONT, TELLWYDAR_NO_PROCESS or TELLWYDAR_NO_MEMORY, and it isn't. */
+/* Makes the process `me`, from 0, of a run in which all have this front end and this shape. It did nothing yet. The
+ * result is 0, and the handle is set; or TELLWYDAR_NO_SHAPE, TELLWYDAR_NO_FRONT, TELLWYDAR_NO_PROCESS or
+ * TELLWYDAR_NO_MEMORY, and it isn't. */
 uint32_t tellwydar_process_new(uint32_t front, uint32_t processes, uint32_t registers, uint8_t me, struct tellwydar_process **handle);
 
-/* Each makes a step, and tells one of the numbers above. A refused step changes nothing, but a full clock and want of memory stop the
- * process for good; its reply and its frames are none. Bytes that spell no frame, and numbers that say no operation, make no step: the
- * reply and the frames of the last one are kept. */
+/* Each makes a step, and tells one of the numbers above. A refused step changes nothing, but a full clock and want of
+ * memory stop the process for good; its reply and its frames are none. Bytes that spell no frame, and numbers that say
+ * no operation, make no step: the reply and the frames of the last one are kept. */
 
 /* Calls an operation: the kind is TELLWYDAR_READ, TELLWYDAR_WRITE or TELLWYDAR_SWAP. */
 uint32_t tellwydar_process_call(struct tellwydar_process *handle, uint32_t kind, uint32_t reg, uint64_t value);
 /* Calls a compare-and-swap. */
 uint32_t tellwydar_process_compare_and_swap(struct tellwydar_process *handle, uint32_t reg, uint64_t expected, uint64_t value);
-/* Takes a frame that the process `from` put for this one, as often and in whatever order: just the bytes of one frame. */
+/* Takes a frame that the process `from` put for this one, as often and in whatever order: just
+ * the bytes of one frame. */
 uint32_t tellwydar_process_take(struct tellwydar_process *handle, uint8_t from, const uint8_t *bytes, size_t bytes_length);
 /* Puts the first unacknowledged frames of every link again. */
 uint32_t tellwydar_process_tick(struct tellwydar_process *handle);
 
-/* Puts as many bytes of the last step's frames into the room as it takes, and into `length` how many there are: for each frame a byte for
- * its receiver, and then the frame's bytes, whose first two are how many follow them. 41,328 bytes always do, and 33,264 where the process calls no
- * compare-and-swap. The result is 0, or
- * TELLWYDAR_NO_MEMORY, or TELLWYDAR_NOT_A_FRAME where a frame is out of range, and then nothing has changed. */
+/* Puts as many bytes of the last step's frames into the room as it takes, and into `length` how many there are: for
+ * each frame a byte for its receiver, and then the frame's bytes, whose first two are how many follow them. 41,328
+ * bytes always do, and 33,264 where the process calls no compare-and-swap. The result is 0, or TELLWYDAR_NO_MEMORY, or
+ * TELLWYDAR_NOT_A_FRAME where a frame is out of range, and then nothing has changed. */
 uint32_t tellwydar_process_frames(struct tellwydar_process *handle, uint8_t *room, size_t room_length, size_t *length);
 
 /* What to look at. */
@@ -278,7 +290,7 @@ static inline void tellwydar_process_free(struct tellwydar_process *handle) {
     free(handle);
 }
 
-/* --- Nodes: one process that outlives crashes by a log, which the caller writes down ---------------------- */
+/* --- Nodes: one process that outlives crashes by a log, which the caller writes down ------------------------------ */
 
 struct tellwydar_node;
 
@@ -318,22 +330,22 @@ struct tellwydar_log {
 uint32_t tellwydar_node_begin(const struct tellwydar_log *log, const uint8_t *names, size_t names_length, uint8_t *room,
                               size_t room_length, size_t *length);
 
-/* Puts into `headless` 1 where the text has a part of this log's first four lines and zeros, or these lines and fewer than
- * five line feeds behind them, else 0. All that a crash can leave before the head is whole is so. No log is, so no step
- * is lost where the log is begun anew. Of `log` the cluster, the chapter and the process are looked at, and not what was
- * drawn. The result is 0, or TELLWYDAR_NO_MEMORY, and then nothing has changed. */
+/* Puts into `headless` 1 where the text has a part of this log's first four lines and zeros, or these lines and fewer
+ * than five line feeds behind them, else 0. All that a crash can leave before the head is whole is so. No log is, so no
+ * step is lost where the log is begun anew. Of `log` the cluster, the chapter and the process are looked at, and not
+ * what was drawn. The result is 0, or TELLWYDAR_NO_MEMORY, and then nothing has changed. */
 uint32_t tellwydar_node_is_headless(const struct tellwydar_log *log, const uint8_t *text, size_t text_length,
                                     uint32_t *headless);
 
-/* Puts what the head of the log says that the text begins with into `log`, and as many bytes of its names into the room as
- * it takes, one space between them, and into `length` how many they are. What stands behind the head isn't looked at. The
- * result is 0; or TELLWYDAR_NOT_A_LOG or TELLWYDAR_NO_PROCESS, and then the text begins with no head; or
+/* Puts what the head of the log says that the text begins with into `log`, and as many bytes of its names into the room
+ * as it takes, one space between them, and into `length` how many they are. What stands behind the head isn't looked
+ * at. The result is 0; or TELLWYDAR_NOT_A_LOG or TELLWYDAR_NO_PROCESS, and then the text begins with no head; or
  * TELLWYDAR_NO_MEMORY. If it isn't 0, nothing has changed. */
 uint32_t tellwydar_log_head(const uint8_t *text, size_t text_length, struct tellwydar_log *log, uint8_t *room,
                             size_t room_length, size_t *length);
 
-/* How many bytes the head and the first entries, so many, of the log take that the text begins with, where it has as many.
- * The result is at most the length of the text. */
+/* How many bytes the head and the first entries, so many, of the log take that the text begins with, where it has as
+ * many. The result is at most the length of the text. */
 size_t tellwydar_log_part(const uint8_t *text, size_t text_length, uint64_t entries);
 
 /* Makes a handle with no node behind it: until one is opened, all but looks tell TELLWYDAR_CLOSED. The result is 0, and
@@ -402,9 +414,9 @@ uint64_t tellwydar_node_known(struct tellwydar_node *handle, uint32_t what, uint
 
 /* Looks at another process: do so for each one every few milliseconds. Where looks find that it wasn't heard, or the
  * same frame to it unacknowledged, something is due after 1, 2, 4, .. 64 looks, and from there on after each 100: a
- * greeting, where it wasn't heard or is silent for 127 looks or more; and a tick, where a frame to it isn't acknowledged
- * and it isn't silent for so long. The result has these bits, and is 0 where nothing is due, where there is no other
- * process of this number, and where no node was opened. */
+ * greeting, where it wasn't heard or is silent for 127 looks or more; and a tick, where a frame to it isn't
+ * acknowledged and it isn't silent for so long. The result has these bits, and is 0 where nothing is due, where there
+ * is no other process of this number, and where no node was opened. */
 enum {
     TELLWYDAR_GREETS = 1, /* that process is to be told TELLWYDAR_PEER_EXPECTED of it */
     TELLWYDAR_TICKS = 2
@@ -412,17 +424,17 @@ enum {
 uint32_t tellwydar_node_watch(struct tellwydar_node *handle, uint8_t peer);
 /* Tells that the node took what came from another process: where that was silent for long, looks are counted anew. The
  * result is TELLWYDAR_TICKS where the node is to tick at once: the last tick that was due for that process put frames
- * again, and it has acknowledged just these, though it hasn't acknowledged more. So what it dropped, since a frame before
- * was lost, is put again as fast as it acknowledges it. Else, and where no node was opened, the result is 0. */
+ * again, and it has acknowledged just these, though it hasn't acknowledged more. So what it dropped, since a frame
+ * before was lost, is put again as fast as it acknowledges it. Else, and where no node was opened, the result is 0. */
 uint32_t tellwydar_node_came(struct tellwydar_node *handle, uint8_t peer);
 
 /* A cluster that doesn't end runs in chapters, each with logs of its own. Where one is to end, all nodes call nothing
- * more, and tell each other how far they have come until it is over for all: then everybody has accepted all that anybody
- * put, and their copies are equal. */
+ * more, and tell each other how far they have come until it is over for all: then everybody has accepted all that
+ * anybody put, and their copies are equal. */
 
-/* Puts as many of the bytes that tell how far the node has come into the room as it takes, and tells how many there are:
- * 9 and 8 for each process. `is_quiet` is 1 where it calls nothing more in this chapter and no operation goes on. The
- * node keeps that it told this. The result is 0, or TELLWYDAR_OUT_OF_MEMORY, and then nothing has changed. */
+/* Puts as many of the bytes that tell how far the node has come into the room as it takes, and tells how many there
+ * are: 9 and 8 for each process. `is_quiet` is 1 where it calls nothing more in this chapter and no operation goes on.
+ * The node keeps that it told this. The result is 0, or TELLWYDAR_OUT_OF_MEMORY, and then nothing has changed. */
 uint32_t tellwydar_node_tell_state(struct tellwydar_node *handle, uint32_t is_quiet, uint8_t *room, size_t room_length,
                                    size_t *length);
 /* Hears such bytes of another node of the same chapter, in whatever order they come: the latest are kept. The result is
@@ -488,7 +500,7 @@ static inline void tellwydar_node_free(struct tellwydar_node *handle) {
     free(handle);
 }
 
-/* --- Messages: how those between nodes begin, and who they are from (docs/FORMATS.md) ------------------------------- */
+/* --- Messages: how those between nodes begin, and who they are from (docs/FORMATS.md) ----------------------------- */
 
 enum {
     TELLWYDAR_MESSAGE_START = 33, /* the bytes of the start of a message: the next one says what it brings */
@@ -544,18 +556,19 @@ uint32_t tellwydar_message_start(const struct tellwydar_log *log, const uint8_t 
                                  uint8_t *room, size_t room_length);
 /* Tells what a message is to the process whose own messages begin with these 33 bytes, whomever they are for. A key
  * below 256 is the process by whose key the message came; else there are no keys. `heard` has a row for each process of
- * the cluster, by its number: that of the sender is set where the message is TELLWYDAR_MET_PEER or TELLWYDAR_MET_UNKNOWN. The
- * result is 0; or TELLWYDAR_NO_SHAPE where `own` is no such start, or the rows are more or fewer, and then nothing has
- * changed. */
+ * the cluster, by its number: that of the sender is set where the message is TELLWYDAR_MET_PEER or
+ * TELLWYDAR_MET_UNKNOWN. The result is 0; or TELLWYDAR_NO_SHAPE where `own` is no such start, or the rows are more or
+ * fewer, and then nothing has changed. */
 uint32_t tellwydar_message_met(const uint8_t *own, size_t own_length, uint32_t key, const uint8_t *message,
                                size_t message_length, struct tellwydar_heard *heard, size_t heard_length,
                                struct tellwydar_met *met);
-/* Puts as many of the 9 bytes of a greeting into the room as it takes. Its sender wants one back unless `is_wanting` is 0. */
+/* Puts as many of the 9 bytes of a greeting into the room as it takes. Its sender wants one back
+ * unless `is_wanting` is 0. */
 void tellwydar_message_greet(uint32_t is_wanting, uint64_t accepted, uint8_t *room, size_t room_length);
 /* Tells the greeting of these bytes. The result is 0; or TELLWYDAR_NO_GREETING, and then nothing has changed. */
 uint32_t tellwydar_message_greeting(const uint8_t *bytes, size_t bytes_length, struct tellwydar_greeting *greeting);
 
-/* --- Logs: those of all processes of a chapter, merged ------------------------------------------------------------------------- */
+/* --- Logs: those of all processes of a chapter, merged ------------------------------------------------------------ */
 
 /* What is told of logs that are merged. */
 struct tellwydar_merged {
@@ -563,9 +576,10 @@ struct tellwydar_merged {
     uint64_t log;   /* of a refusal: the log that it names, by its place from 0, else 0 */
     uint64_t place; /* and what else it names, else 0 */
 };
-/* Why there is no record of logs. A text that is no log is told as `tellwydar_node_open` tells it, by TELLWYDAR_NOT_A_LOG,
- * TELLWYDAR_NO_PROCESS or TELLWYDAR_FOREIGN, and the line or the entry in `place`; by TELLWYDAR_DAMAGED if behind the
- * last line that stands whole a further one ends, which no crash leaves: `place` is then the entry that should be there. */
+/* Why there is no record of logs. A text that is no log is told as `tellwydar_node_open` tells it, by
+ * TELLWYDAR_NOT_A_LOG, TELLWYDAR_NO_PROCESS or TELLWYDAR_FOREIGN, and the line or the entry in `place`; by
+ * TELLWYDAR_DAMAGED if behind the last line that stands whole a further one ends, which no crash leaves: `place` is
+ * then the entry that should be there. */
 enum {
     TELLWYDAR_NO_LOG = 96,           /* there is no text */
     TELLWYDAR_OTHER_CHAPTER = 97,    /* the log is the first that isn't of the first one's chapter: `place` is where they differ */
@@ -583,10 +597,10 @@ enum {
     TELLWYDAR_REGISTERS = 4
 };
 /* Puts as many bytes into the room as it takes of the text of the record that has the steps of all these logs in an
- * order that is a run: `tellwydar_verify` takes it. The logs are those of one chapter, one of each process, in any order,
- * and stand one behind the other: the first has `lengths[0]` bytes, and so on. What a crash left behind the last line of
- * a log that stands whole is none of it. The result is 0; or it tells why there is no such record, and then `told`
- * says where, and neither the room nor `length` has changed. TELLWYDAR_NO_MEMORY may come in place of all. */
+ * order that is a run: `tellwydar_verify` takes it. The logs are those of one chapter, one of each process, in any
+ * order, and stand one behind the other: the first has `lengths[0]` bytes, and so on. What a crash left behind the last
+ * line of a log that stands whole is none of it. The result is 0; or it tells why there is no such record, and then
+ * `told` says where, and neither the room nor `length` has changed. TELLWYDAR_NO_MEMORY may come in place of all. */
 uint32_t tellwydar_merge_logs(const uint8_t *logs, size_t logs_length, const uint64_t *lengths, size_t lengths_length, uint8_t *room,
                               size_t room_length, struct tellwydar_merged *told);
 

@@ -178,7 +178,8 @@ static void comparing(void) {
     }
 }
 
-/* Of three processes under local reads: a write that is done, and a read of another process behind it that saw nothing of it. */
+/* Of three processes under local reads: a write that is done, and a read of another process behind it
+ * that saw nothing of it. */
 static const struct tellwydar_entry stale[] = {
     {.at = 0, .process = 0, .number = 0, .kind = TELLWYDAR_CALLED_WRITE, .value = 5},
     {.at = 4, .process = 0, .number = 0, .kind = TELLWYDAR_ANSWERED_DONE},

@@ -73,7 +73,8 @@ static void beginnings(struct written *it) {
     expect("and no more", memcmp(room, written_head, 3) == 0 && room[3] == 9);
 }
 
-/* Logs that a crash kept from being begun: each part of a head, with zeros behind it. A step behind it is another matter. */
+/* Logs that a crash kept from being begun: each part of a head, with zeros behind it. A step
+ * behind it is another matter. */
 static void headless(struct written *it) {
     struct tellwydar_log log = of_process(0), other = of_process(1);
     size_t whole = strlen(written_head);

@@ -1,5 +1,5 @@
-"""Builds the wheel of this package for pip, with the proved library inside. It takes nothing but Python's own library, so that it works
-with no network (PEP 517; the form of a wheel is PEP 427's)."""
+"""Builds the wheel of this package for pip, with the proved library inside. It takes nothing but Python's own library,
+so that it works with no network (PEP 517; the form of a wheel is PEP 427's)."""
 import base64
 import hashlib
 import os

@@ -8,8 +8,8 @@ from tellwydar import HistoryRefused, Row, check, judge
 
 
 class Registers:
-    """A dictionary of threads. Each thread keeps a copy of it, which is made anew under the lock, before each operation.
-    With the lock left out a copy stays what it was."""
+    """A dictionary of threads. Each thread keeps a copy of it, which is made anew under the lock, before each
+    operation. With the lock left out a copy stays what it was."""
 
     def __init__(self, threads: int, with_lock: bool):
         self.memory: Dict[str, int] = {}
@@ -35,8 +35,8 @@ class Registers:
 
 
 class Recorder:
-    """Calls, each written down before it is made and once it is answered. One append is one step, so the rows stand in the
-    order in which things happened."""
+    """Calls, each written down before it is made and once it is answered. One append is one step, so the rows stand in
+    the order in which things happened."""
 
     def __init__(self, registers: Registers):
         self.registers = registers

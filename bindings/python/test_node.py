@@ -52,7 +52,8 @@ def frames_of(node):
 
 
 def exchange(one, other, lost=0):
-    """Process 1 takes what process 0 put, but for the first frames, which are lost; and process 0 what then comes back."""
+    """Process 1 takes what process 0 put, but for the first frames, which are lost; and process
+    0 what then comes back."""
     for frame in frames_of(one)[lost:]:
         other.take(0, frame)
     for frame in frames_of(other):

@@ -1,5 +1,5 @@
-"""Clusters of three programs on loopback, over a road that loses, repeats and reorders: python3 -m unittest, with TELLWYDAR_LIB set. Where
-TELLWYDAR_NODE names the program in Rust, clusters of nodes of both languages too."""
+"""Clusters of three programs on loopback, over a road that loses, repeats and reorders: python3 -m unittest, with
+TELLWYDAR_LIB set. Where TELLWYDAR_NODE names the program in Rust, clusters of nodes of both languages too."""
 import contextlib
 import json
 import os

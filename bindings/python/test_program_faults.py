@@ -1,5 +1,5 @@
-"""Tests of what the program of a node says and ends with where something is wrong: python3 -m unittest, with TELLWYDAR_LIB
-set. Where TELLWYDAR_NODE names the program in Rust, of that one too."""
+"""Tests of what the program of a node says and ends with where something is wrong: python3 -m unittest, with
+TELLWYDAR_LIB set. Where TELLWYDAR_NODE names the program in Rust, of that one too."""
 import os
 import shutil
 import signal

@@ -12,7 +12,8 @@ from tellwydar import UNEQUAL, Answered, Called, CompareAndSwap, Fault, Front, K
 
 EXAMPLES = os.path.join(os.path.dirname(os.path.abspath(__file__)), "../../examples")
 
-# Of three processes under local reads: a write that is done, and behind it a read of another process that saw nothing of it.
+# Of three processes under local reads: a write that is done, and behind it a read of another
+# process that saw nothing of it.
 STALE = [Called(0, 0, 0, Write(0, 5)), Answered(4, 0, 0, None), Called(5, 1, 0, Read(0)), Answered(5, 1, 0, 0)]
 
 
@@ -116,7 +117,8 @@ class Tests(unittest.TestCase):
             self.assertEqual(writer.frames(), [(1, cast)])
 
     def test_processes(self):
-        # A write of the value 5 by the first of two processes: its cast, and what the other one answers, as worked by hand.
+        # A write of the value 5 by the first of two processes: its cast, and what the other one
+        # answers, as worked by hand.
         cast = bytes.fromhex("001e0101" + "0" * 16 + "01" + "0" * 14 + "01" + "02" + "0000" + "0" * 14 + "05")
         got = bytes.fromhex("000a0102" + "0" * 14 + "01")
         ack = bytes.fromhex("00130101" + "0" * 16 + "02" + "0" * 14 + "02")

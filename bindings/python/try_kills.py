@@ -1,12 +1,13 @@
-"""Clusters of three programs whose nodes are killed and resumed, each judged: python3 try_kills.py RUNS [SEED], or with --minutes M in place of
-RUNS one cluster whose nodes call for about so long, while one of them is killed each minute. With TELLWYDAR_LIB set, and TELLWYDAR_NODE where
-nodes in Rust take part.
+"""Clusters of three programs whose nodes are killed and resumed, each judged: python3 try_kills.py RUNS [SEED], or with
+--minutes M in place of RUNS one cluster whose nodes call for about so long, while one of them is killed each minute.
+With TELLWYDAR_LIB set, and TELLWYDAR_NODE where nodes in Rust take part.
 
-A seed chooses the front end, TCP or UDP, keys or none, whether the road loses, repeats and reorders, the length of chapters, `--sync`, the
-language of each node, and when which nodes are killed (SIGKILL), up to all three at once. At last each script has to have ended. Then the logs of
-each chapter are merged and judged, the reports have to be one story with all calls of the scripts, and what a node printed has to be answers of the
-reports in their order, where the one that it printed last before it was killed may stand twice. It says how many were well, and ends with status 1
-where one wasn't.
+A seed chooses the front end, TCP or UDP, keys or none, whether the road loses, repeats and reorders, the length of
+chapters, `--sync`, the language of each node, and when which nodes are killed (SIGKILL), up to all three at once.
+At last each script has to have ended. Then the logs of each chapter are merged and judged, the reports have to be
+one story with all calls of the scripts, and what a node printed has to be answers of the reports in their order,
+where the one that it printed last before it was killed may stand twice. It says how many were well, and ends with
+status 1 where one wasn't.
 """
 import argparse
 import os
@@ -106,7 +107,8 @@ def is_part(said, answers):
 
 
 def run(cluster, pauses):
-    """What is wrong with a cluster, of which nodes are killed after these pauses, or nothing; and how many chapters it had."""
+    """What is wrong with a cluster, of which nodes are killed after these pauses, or nothing; and
+    how many chapters it had."""
     for me in range(COUNT):
         cluster.start(me)
     why = ""

@@ -1,9 +1,10 @@
-"""Three nodes in network namespaces of their own, over a network that is lossy: python3 try_networks.py [SECONDS], as root, with
-TELLWYDAR_LIB set, and TELLWYDAR_NODE where nodes in Rust take part.
+"""Three nodes in network namespaces of their own, over a network that is lossy: python3 try_networks.py [SECONDS], as
+root, with TELLWYDAR_LIB set, and TELLWYDAR_NODE where nodes in Rust take part.
 
-Each namespace has one network card (a TAP of the kernel), and this program is the cable between them. It loses 20 of 100 frames, repeats
-5, and hands each on 5 to 8 ms late, so that they overtake each other; so nothing is asked of the kernel that many lack, as `tc netem`. The
-nodes have keys. Under each front end they talk by UDP, and under one by TCP. Each cluster's script has to end, and its logs have to be a run.
+Each namespace has one network card (a TAP of the kernel), and this program is the cable between them. It loses 20 of
+100 frames, repeats 5, and hands each on 5 to 8 ms late, so that they overtake each other; so nothing is asked of the
+kernel that many lack, as `tc netem`. The nodes have keys. Under each front end they talk by UDP, and under one by TCP.
+Each cluster's script has to end, and its logs have to be a run.
 """
 import fcntl
 import heapq

@@ -1,8 +1,9 @@
 """Many clusters by chance, each judged: python3 try_nodes.py RUNS [SEED], with TELLWYDAR_LIB set.
 
-A run has 1 to 16 nodes in threads of this program, any front end, TCP or UDP on loopback, and a road that may lose, repeat, reorder and delay.
-Each node makes a few calls, in chapters that may be short. Then the logs of every chapter are merged and judged, the reports are checked to be
-one story, and each caller's answers are compared with those of the reports. It says how many runs were well, and ends with status 1 where one wasn't.
+A run has 1 to 16 nodes in threads of this program, any front end, TCP or UDP on loopback, and a road that may lose,
+repeat, reorder and delay. Each node makes a few calls, in chapters that may be short. Then the logs of every chapter
+are merged and judged, the reports are checked to be one story, and each caller's answers are compared with those of the
+reports. It says how many runs were well, and ends with status 1 where one wasn't.
 """
 import os
 import random

@@ -90,8 +90,8 @@ export class FrontTable {
   }
 
   /**
-   * Gives the run the front end that has a name and starts each call as the table does. Where it is lawful and none has,
-   * the text stays, and is run under the table itself if that can be.
+   * Gives the run the front end that has a name and starts each call as the table does. Where it is lawful and none
+   * has, the text stays, and is run under the table itself if that can be.
    */
   set() {
     const { playground } = this, { faults, sameAs } = judgeTable(this.table), { kind } = playground.seen;

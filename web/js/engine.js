@@ -14,8 +14,8 @@ const PAGE_BYTES = 65536;
 const PLAYS = new Set(["play", "play-fair", "schedule", "schedule-fair", "short", "short-fair", "outcomes",
   "outcomes-all", "outcome"]);
 
-// The commands that take a number, and the number where none is given: how many plays, which outcome, and which table of
-// a front end (numberOf in playground/js/fronts.js).
+// The commands that take a number, and the number where none is given: how many plays, which outcome, and which table
+// of a front end (numberOf in playground/js/fronts.js).
 const NUMBERS = { outcomes: 1000, outcome: 1, "data-under": 0, "replay-under": 0 };
 
 // The commands that show the run of a schedule, and of a workload that of its play.
@@ -114,7 +114,8 @@ export class Engine {
     if (!before) return this.call(command, text);
     const made = this.run(before, text);
     if (made.status === 0) return this.call(command, made.output);
-    // Of a text that says no workload `why` tells why; what shows runs reads it as a schedule, and tells why it is none.
+    // Of a text that says no workload `why` tells why; what shows runs reads it as a
+    // schedule, and tells why it is none.
     const isRead = command === "why" || SHOWS.has(command) && this.call("layout", text).status !== 0;
     return isRead ? this.call(command, text) : made;
   }

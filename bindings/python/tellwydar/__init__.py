@@ -1,11 +1,11 @@
 """Shared registers over totally ordered broadcast, from a library that is proved.
 
-Each process of a `World` keeps a copy of all registers, and keeps it in step by Lamport's totally ordered multicast. One steps a world
-by events: calls of operations, takes of frames, ticks. A history of one's own is judged by `check_serial` and `check_points`. The
-commands of the program `awreg` are `replay`, `check`, `play` and `play_fair`. A `Process` is one process alone, whose
-frames one carries oneself; what such processes did is put into one order by `merge`, and judged by `verify`. A `Node` is
-one process that outlives crashes by a log, which one writes down; the logs of all are put into one order by
-`merge_logs`. What any system answered its clients is judged by `judge`.
+Each process of a `World` keeps a copy of all registers, and keeps it in step by Lamport's totally ordered multicast.
+One steps a world by events: calls of operations, takes of frames, ticks. A history of one's own is judged by
+`check_serial` and `check_points`. The commands of the program `awreg` are `replay`, `check`, `play` and `play_fair`. A
+`Process` is one process alone, whose frames one carries oneself; what such processes did is put into one order by
+`merge`, and judged by `verify`. A `Node` is one process that outlives crashes by a log, which one writes down; the logs
+of all are put into one order by `merge_logs`. What any system answered its clients is judged by `judge`.
 
 The environment's TELLWYDAR_LIB names the folder of `libtellwydar.so`, which `tools/bindings --keep FOLDER` makes.
 """
@@ -152,8 +152,8 @@ def merge(record: bytes) -> Told:
 
 
 def story(reports: bytes) -> Told:
-    """Judges the reports of chapters, one behind another: status 0 where they are one story, and else the answer names the first report with
-    which they go wrong, or the line says why they weren't judged."""
+    """Judges the reports of chapters, one behind another: status 0 where they are one story, and else the answer names
+    the first report with which they go wrong, or the line says why they weren't judged."""
     return _tell("story", reports)
 
 
@@ -288,8 +288,8 @@ def _judge(call: Callable[..., int], processes: int, registers: int, entries: Se
 
 
 def check_serial(processes: int, registers: int, history: Sequence[Entry], order: Sequence[Tuple[int, int]]) -> None:
-    """Raises a `Fault` unless the operations, each a pair of process and number, are a serial order of the history: sequential
-    consistency (Lamport 1979)."""
+    """Raises a `Fault` unless the operations, each a pair of process and number, are a serial order of the history:
+    sequential consistency (Lamport 1979)."""
     rows = (_Id * max(1, len(order)))()
     for row, (process, number) in zip(rows, order):
         row.process, row.number = _ranged(process, 8), _ranged(number, 32)
@@ -297,8 +297,8 @@ def check_serial(processes: int, registers: int, history: Sequence[Entry], order
 
 
 def check_points(processes: int, registers: int, history: Sequence[Entry], points: Sequence[Tuple[int, int, int]]) -> None:
-    """Raises a `Fault` unless the points, each of process, number and event, are a point order of the history: linearizability
-    (Herlihy and Wing 1990)."""
+    """Raises a `Fault` unless the points, each of process, number and event, are a point order of the history:
+    linearizability (Herlihy and Wing 1990)."""
     rows = (_Point * max(1, len(points)))()
     for row, (process, number, at) in zip(rows, points):
         row.process, row.number, row.at = _ranged(process, 8), _ranged(number, 32), _ranged(at, 32)
@@ -314,8 +314,8 @@ class Front(enum.IntEnum):
 
 
 class Refused(Exception):
-    """Why an event, a world or a process is refused. Nothing has changed, but after `out of memory` and `clock full` the world or the
-    process has stopped."""
+    """Why an event, a world or a process is refused. Nothing has changed, but after `out of memory` and `clock full`
+    the world or the process has stopped."""
 
 
 _REFUSALS: Dict[int, str] = {
@@ -342,7 +342,8 @@ def _reply(code: int, value: Callable[[], int], place: Callable[[], int]) -> Opt
 
 
 class _Handle:
-    """What the library keeps behind a pointer. Threads take turns: a call of another one waits until this one is made."""
+    """What the library keeps behind a pointer. Threads take turns: a call of another one waits
+    until this one is made."""
 
     def __init__(self, make: Callable[..., int], close: Callable[[ctypes.c_void_p], None], *numbers: int):
         self._handle: Optional[ctypes.c_void_p] = None
@@ -452,8 +453,8 @@ class World(_Handle):
 
 @dataclass(frozen=True)
 class Known:
-    """What a process knows of another one: the number of the first body to it that it hasn't acknowledged and of the next one, the number
-    of the next body from it, and the time of the last one that was accepted from it."""
+    """What a process knows of another one: the number of the first body to it that it hasn't acknowledged and of the
+    next one, the number of the next body from it, and the time of the last one that was accepted from it."""
 
     first: int
     next: int

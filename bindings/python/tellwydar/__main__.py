@@ -1,5 +1,5 @@
-"""python3 -m tellwydar replay|check|play|play-fair|verify|judge < FILE: the commands of `awreg`, and `verify` and `judge` of `awshow`, from
-the library."""
+"""python3 -m tellwydar replay|check|play|play-fair|verify|judge < FILE: the commands of `awreg`, and `verify` and
+`judge` of `awshow`, from the library."""
 import sys
 from typing import Callable
 

@@ -35,7 +35,8 @@ class Row(_Named, total=False):
 
 
 class HistoryRefused(ValueError):
-    """The text is no history, or memory was refused. It says which line is wrong, or which row from 1, and what was wanted."""
+    """The text is no history, or memory was refused. It says which line is wrong, or which row from
+    1, and what was wanted."""
 
 
 @dataclass(frozen=True)
@@ -43,7 +44,8 @@ class Judgement:
     """What the judge says of a history."""
 
     linearizable: bool
-    """Whether each operation gets a moment between its call and its answer, such that one memory answers all of them so."""
+    """Whether each operation gets a moment between its call and its answer, such that one memory
+    answers all of them so."""
     text: str
     """What `awshow judge` prints: a word, and lines that say more; or the report that was asked for."""
 
@@ -77,10 +79,10 @@ def judge(
 ) -> Judgement:
     """Judges a history: a text, or rows, which are written as lines of JSON.
 
-    `first` is the first value of registers; where it isn't given that is null, or None in rows, if some answer is null or
-    a compare-and-swap expects null, and else 0. A report, whose registers begin with 0, takes none.
-    With `report` the text of a linearizable history is a report with the points that were found, which `check` judges
-    anew. A history that is none raises HistoryRefused."""
+    `first` is the first value of registers; where it isn't given that is null, or None in rows, if some answer is null
+    or a compare-and-swap expects null, and else 0. A report, whose registers begin with 0, takes none. With `report`
+    the text of a linearizable history is a report with the points that were found, which `check` judges anew. A history
+    that is none raises HistoryRefused."""
     text = history if isinstance(history, (str, bytes)) else _lines(history)
     first_text = None if first is _USUAL else json.dumps(first, allow_nan=False)
     told = judged(text.encode() if isinstance(text, str) else text, report, first_text)

@@ -64,8 +64,8 @@ def first_entries(log: bytes, count: int) -> bytes:
 
 
 def merge_logs(logs: Sequence[bytes]) -> bytes:
-    """The text of the record that has the steps of these logs in an order that is a run: `verify` takes it. They are the
-    logs of all processes of one chapter, in any order."""
+    """The text of the record that has the steps of these logs in an order that is a run: `verify` takes it. They are
+    the logs of all processes of one chapter, in any order."""
     text = b"".join(logs)
     lengths = (ctypes.c_uint64 * len(logs))(*map(len, logs))
     size = max(4096, len(text))

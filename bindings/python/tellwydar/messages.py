@@ -91,8 +91,8 @@ class Meets(NamedTuple):
 
 
 class Meeting:
-    """Who was heard in a chapter: of each process the log that was heard first. `own` is how the messages of the process
-    begin that hears, to whomever."""
+    """Who was heard in a chapter: of each process the log that was heard first. `own` is how the messages of the
+    process begin that hears, to whomever."""
 
     def __init__(self, own: bytes, processes: int):
         self._own, self._heard = own, (_Heard * processes)()

@@ -240,8 +240,8 @@ class Node(_Progress):
         self._told(self._asked(_library.tellwydar_node_hear, _ranged(other, 8), _ranged(count, 64)))
 
     def tell_state(self, is_quiet: bool) -> bytes:
-        """The bytes that tell the others how far it has come in its chapter; it is quiet where it calls nothing more and
-        no operation goes on. The node keeps that it told this."""
+        """The bytes that tell the others how far it has come in its chapter; it is quiet where it calls nothing more
+        and no operation goes on. The node keeps that it told this."""
         length = ctypes.c_size_t()
         room: Tuple[Any, ...] = (self._room, _ROOM, ctypes.byref(length))
         self._told(self._asked(_library.tellwydar_node_tell_state, int(is_quiet), *room))

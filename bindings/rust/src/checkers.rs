@@ -68,7 +68,8 @@ fn rows(history: &[Entry]) -> (Vec<EntryRow>, Vec<u64>) {
     (history.iter().map(EntryRow::from).collect(), history.iter().map(expected_by).collect())
 }
 
-/// Whether these operations, one after another, are a serial order of the history: sequential consistency (Lamport 1979).
+/// Whether these operations, one after another, are a serial order of the history: sequential
+/// consistency (Lamport 1979).
 ///
 /// ```
 /// use tellwydar::{Answer, Entry, Op, OpId, check_serial};

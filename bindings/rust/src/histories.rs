@@ -122,7 +122,8 @@ impl Display for Row {
 /// What the judge says of a history.
 #[derive(Clone, Debug, PartialEq, Eq)]
 pub struct Judgement {
-    /// Whether each operation gets a moment between its call and its answer, such that one memory answers all of them so.
+    /// Whether each operation gets a moment between its call and its answer, such that one
+    /// memory answers all of them so.
     pub is_linearizable: bool,
     /// What `awshow judge` prints: a word, and lines that say more; or the report that was asked for.
     pub text: String,
@@ -131,19 +132,21 @@ pub struct Judgement {
 /// How a history is to be judged.
 #[derive(Clone, Debug, Default, PartialEq, Eq)]
 pub struct Judging {
-    /// The first value of registers, or none for the usual one: null if some answer is null or a compare-and-swap expects
-    /// null, and else 0.
+    /// The first value of registers, or none for the usual one: null if some answer is null or a
+    /// compare-and-swap expects null, and else 0.
     pub first: Option<Word>,
-    /// Whether the text of a linearizable history is a report with the points that were found, which `check` judges anew.
+    /// Whether the text of a linearizable history is a report with the points that were found,
+    /// which `check` judges anew.
     pub report: bool,
 }
 
-/// Judges what a system answered its clients: lines of JSON, EDN as Jepsen writes it, or a report, whose registers begin
-/// with 0, so that one with a first value is refused.
+/// Judges what a system answered its clients: lines of JSON, EDN as Jepsen writes it, or a report, whose registers
+/// begin with 0, so that one with a first value is refused.
 ///
 /// # Errors
 ///
-/// The line of the refusal: it names the first line that is wrong, and what was wanted; or says that memory was refused.
+/// The line of the refusal: it names the first line that is wrong, and what was wanted; or
+/// says that memory was refused.
 pub fn judge_with(history: &[u8], judging: &Judging) -> Result<Judgement, String> {
     let first = judging.first.as_ref().map(Word::to_string);
     let told = judged(history, first.as_deref(), judging.report);
@@ -165,7 +168,8 @@ pub fn judge(history: &[u8]) -> Result<Judgement, String> {
     judge_with(history, &Judging::default())
 }
 
-/// The same, but the text of a linearizable history is a report with the points that were found: `check` judges it anew.
+/// The same, but the text of a linearizable history is a report with the points that were
+/// found: `check` judges it anew.
 ///
 /// # Errors
 ///

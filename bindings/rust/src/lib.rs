@@ -1,11 +1,11 @@
 //! Shared registers over totally ordered broadcast, from a library that is proved.
 //!
-//! Each process of a [`World`] keeps a copy of all registers, and keeps it in step by Lamport's totally ordered multicast. One steps a
-//! world by events: calls of operations, takes of frames, ticks. A [`History`](Entry) of one's own is judged by [`check_serial`] and
-//! [`check_points`]. The commands of the program `awreg` are [`replay`], [`check`], [`play`] and [`play_fair`]. A [`Process`] is one
-//! process alone, whose frames one carries oneself; what such processes did is put into one order by [`merge`] and judged
-//! by [`verify`]. A [`LoggedNode`] is a process that outlives crashes by its log. What any system answered its clients
-//! is judged by [`judge`] and [`judge_rows`].
+//! Each process of a [`World`] keeps a copy of all registers, and keeps it in step by Lamport's totally ordered
+//! multicast. One steps a world by events: calls of operations, takes of frames, ticks. A [`History`](Entry) of one's
+//! own is judged by [`check_serial`] and [`check_points`]. The commands of the program `awreg` are [`replay`],
+//! [`check`], [`play`] and [`play_fair`]. A [`Process`] is one process alone, whose frames one carries oneself; what
+//! such processes did is put into one order by [`merge`] and judged by [`verify`]. A [`LoggedNode`] is a process that
+//! outlives crashes by its log. What any system answered its clients is judged by [`judge`] and [`judge_rows`].
 //!
 //! ```
 //! use tellwydar::{Answer, Event, Linear, Op, World};
@@ -19,8 +19,8 @@
 //! # Ok::<(), tellwydar::Refused>(())
 //! ```
 //!
-//! What the library does is proved (docs/LIBRARY.md of the repository). Trusted beside it are this crate, its declarations of the
-//! library's functions, and the compilers.
+//! What the library does is proved (docs/LIBRARY.md of the repository). Trusted beside it are this crate, its
+//! declarations of the library's functions, and the compilers.
 
 mod checkers;
 mod foreign;

@@ -21,7 +21,8 @@ pub enum HeadPart {
 pub enum LogsFault {
     /// There is no text.
     NoLog,
-    /// This text is no log. `Damaged` says that a line ends behind the last one that stands whole, which no crash leaves.
+    /// This text is no log. `Damaged` says that a line ends behind the last one that stands
+    /// whole, which no crash leaves.
     Unread { log: usize, fault: LogFault },
     /// This log is the first that isn't of the first one's chapter. They differ in this part, and in none before it.
     Other { log: usize, part: HeadPart },

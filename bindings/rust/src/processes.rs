@@ -62,7 +62,8 @@ pub struct Known {
     pub seen: u64,
 }
 
-/// One process of a run, whose frames its owner carries: whatever is lost, repeated or reordered. It stays on its thread.
+/// One process of a run, whose frames its owner carries: whatever is lost, repeated or
+/// reordered. It stays on its thread.
 ///
 /// ```
 /// use tellwydar::{Answer, Linear, Op, Process};
@@ -91,8 +92,8 @@ impl<F: Front> Process<F> {
     ///
     /// # Errors
     ///
-    /// `NoShape` for other than 1 to 64 processes and 1 to 4,096 registers, `NoProcess` where the shape has none of this number, and
-    /// `OutOfMemory`.
+    /// `NoShape` for other than 1 to 64 processes and 1 to 4,096 registers, `NoProcess` where the shape has none of
+    /// this number, and `OutOfMemory`.
     pub fn new(processes: u32, registers: u32, me: u8) -> Result<Self, Refused> {
         let mut handle = std::ptr::null_mut();
         // SAFETY: the handle is written where the result is 0.
@@ -107,7 +108,8 @@ impl<F: Front> Process<F> {
     ///
     /// # Errors
     ///
-    /// The first fault that applies; as of every step, the process is as before, but after `OutOfMemory` and `ClockFull`.
+    /// The first fault that applies; as of every step, the process is as before, but after
+    /// `OutOfMemory` and `ClockFull`.
     pub fn call(&mut self, op: Op) -> Result<Option<Reply>, Refused> {
         let handle = self.handle.as_ptr();
         // SAFETY: the handle is of `tellwydar_process_new`, and `&mut self` lends it to one call.

@@ -68,8 +68,8 @@ pub struct Reply {
     pub place: u64,
 }
 
-/// Why an event, a world, a process or a node is refused. Nothing has changed, but after `OutOfMemory` and `ClockFull` the
-/// world or the process has stopped, and answers `Failed`.
+/// Why an event, a world, a process or a node is refused. Nothing has changed, but after `OutOfMemory` and `ClockFull`
+/// the world or the process has stopped, and answers `Failed`.
 #[derive(Clone, Copy, Debug, PartialEq, Eq)]
 pub enum Refused {
     Failed,
@@ -242,7 +242,8 @@ impl<F: Front> World<F> {
         (0..self.look(1, 0) as u32).map(|at| self.entry(at)).collect()
     }
 
-    /// A serial order of the history: every finished operation once, each process's own in their order, each answered as one memory does.
+    /// A serial order of the history: every finished operation once, each process's own in their order, each
+    /// answered as one memory does.
     pub fn serial_order(&mut self) -> Result<Vec<OpId>, Refused> {
         self.arrange()?;
         Ok((0..self.look(10, 0) as u32)

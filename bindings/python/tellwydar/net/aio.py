@@ -15,7 +15,8 @@ class AsyncNode:
         await node.write("x", 5)
 
     Where a task is cancelled that waits for an answer, its operation goes on, and the calls behind it wait until it is
-    answered. One whose time is up by then is told `Paused`, and wasn't made. What `Node` raises is raised here. The node itself stays its owner's, who closes it.
+    answered. One whose time is up by then is told `Paused`, and wasn't made. What `Node` raises is raised here. The
+    node itself stays its owner's, who closes it.
     """
 
     def __init__(self, node: Node):

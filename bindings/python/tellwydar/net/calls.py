@@ -1,7 +1,7 @@
 """Calls as lines, of a script and of a program at a node's port, and what is answered.
 
-A line is either words, as `write x 5`, or an object in the words of a history (docs/JUDGE.md of the repository), so that
-what went over a port can be judged: `{"f": "write", "key": "x", "value": 5}`.
+A line is either words, as `write x 5`, or an object in the words of a history (docs/JUDGE.md of the repository), so
+that what went over a port can be judged: `{"f": "write", "key": "x", "value": 5}`.
 """
 import dataclasses
 import json
@@ -123,8 +123,8 @@ def _object(text: str) -> _Members:
 
 
 def _member(members: _Members, name: str) -> Optional[Any]:
-    """The value of the member of this name, None where there is none. One that stands twice is refused, since readers of
-    JSON take it in several ways."""
+    """The value of the member of this name, None where there is none. One that stands twice is refused, since readers
+    of JSON take it in several ways."""
     found = [value for it, value in members if it == name]
     if len(found) > 1:
         raise ValueError(f"wanted one {name}")

@@ -1,4 +1,5 @@
-"""The configuration of a cluster, which is the same on all machines: a document of TOML, each part of which is looked at."""
+"""The configuration of a cluster, which is the same on all machines: a document of TOML, each
+part of which is looked at."""
 import tomllib
 from typing import Any, Callable, Dict, Iterable, Tuple
 

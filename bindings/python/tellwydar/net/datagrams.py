@@ -1,8 +1,9 @@
-"""A road of UDP datagrams. The process below wants no order and no repetition from a network, so where many packets are lost nothing waits
-behind a lost one, as it does with TCP.
+"""A road of UDP datagrams. The process below wants no order and no repetition from a network, so where many packets are
+lost nothing waits behind a lost one, as it does with TCP.
 
-With keys each datagram is a NaCl box, made with the same keys as ZeroMQ's CURVE: so it is read by its receiver alone, and comes from the process
-whose key opens it. A datagram that is recorded and sent again is a repeated message, which changes nothing.
+With keys each datagram is a NaCl box, made with the same keys as ZeroMQ's CURVE: so it is read by its receiver
+alone, and comes from the process whose key opens it. A datagram that is recorded and sent again is a repeated
+message, which changes nothing.
 """
 import select
 import socket
@@ -23,7 +24,8 @@ def _place_of(address: str) -> Tuple[str, int]:
 
 
 def _share(bound: socket.socket, other: socket.socket) -> None:
-    """Lets another socket have the address of one that is bound. Before it was bound, one that somebody else has was refused."""
+    """Lets another socket have the address of one that is bound. Before it was bound, one that
+    somebody else has was refused."""
     for one in (bound, other):
         one.setsockopt(socket.SOL_SOCKET, socket.SO_REUSEADDR, 1)
 
@@ -31,8 +33,9 @@ def _share(bound: socket.socket, other: socket.socket) -> None:
 class DatagramRoad(Bell):
     """The road of UDP.
 
-    Each peer has a socket of its own, to which the system brings what comes from the peer's address. All else comes to the socket for strangers,
-    of which few datagrams are opened before the peers are heard again: a flood from elsewhere takes no peer's room, and little of its time."""
+    Each peer has a socket of its own, to which the system brings what comes from the peer's address. All else comes to
+    the socket for strangers, of which few datagrams are opened before the peers are heard again: a flood from elsewhere
+    takes no peer's room, and little of its time."""
 
     most_bytes = MOST_BYTES
 

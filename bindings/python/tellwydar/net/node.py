@@ -263,8 +263,8 @@ class Node:
         return self.perform(CompareAndSwap(self._register(register), expected, value), timeout) is None
 
     def wait(self, timeout: Optional[float] = None) -> Answer:
-        """The answer of the operation whose caller's time was up: None where it is done, `UNEQUAL`, or a value. `Busy` says that a caller still
-        waits for it."""
+        """The answer of the operation whose caller's time was up: None where it is done, `UNEQUAL`, or a value. `Busy`
+        says that a caller still waits for it."""
         end = None if timeout is None else time.monotonic() + timeout
         with self._lock:
             if self._is_awaited:
@@ -274,7 +274,8 @@ class Node:
             return self._wait(end)
 
     def so_far(self) -> Tuple[int, bool]:
-        """How many operations were called, in earlier runs too, and whether one of them goes on or has an answer to be fetched."""
+        """How many operations were called, in earlier runs too, and whether one of them goes on or has
+        an answer to be fetched."""
         with self._lock:
             is_own = self._story.running and self._story.own_calls > 0
             return self._story.called(), is_own or self._answer is not None

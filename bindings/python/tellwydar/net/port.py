@@ -94,8 +94,9 @@ class Port(socketserver.ThreadingUnixStreamServer):
         threading.Thread(target=self.serve_forever, args=(0.05,), name="tellwydar port", daemon=True).start()
 
     def end_of(self, op: Op) -> End:
-        """Makes a call when those before it have ended. Where it isn't answered it surely did nothing if the node counts
-        no operation more: one that it counts is in its log, perhaps on the disk, and goes on where the node is resumed."""
+        """Makes a call when those before it have ended. Where it isn't answered it surely did nothing if the
+        node counts no operation more: one that it counts is in its log, perhaps on the disk, and goes on
+        where the node is resumed."""
         with self._turn:
             called = self.node.so_far()[0]
             try:

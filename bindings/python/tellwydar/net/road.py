@@ -1,8 +1,10 @@
-"""Roads between nodes. A road may lose, repeat and reorder what it carries; what it must not do is invent it, and if it does `judge` says so.
+"""Roads between nodes. A road may lose, repeat and reorder what it carries; what it must not do is invent it, and
+if it does `judge` says so.
 
-`Road` is ZeroMQ: a node binds one PULL, in which it hears all others, and connects one PUSH to each of them. With keys (CURVE) both ends are
-known: the listener lets in only keys of its list, and the key says which process a message is from; the sender talks only to the key that it
-was told. Nothing waits on a road: what finds a full queue or no connection is dropped, and is put again by a tick. `datagrams` has a road of UDP.
+`Road` is ZeroMQ: a node binds one PULL, in which it hears all others, and connects one PUSH to each of them. With keys
+(CURVE) both ends are known: the listener lets in only keys of its list, and the key says which process a message is
+from; the sender talks only to the key that it was told. Nothing waits on a road: what finds a full queue or no
+connection is dropped, and is put again by a tick. `datagrams` has a road of UDP.
 """
 import heapq
 import ipaddress
@@ -235,7 +237,8 @@ class Road(Bell):
 
 
 class LossyRoad:
-    """A road for tests: each message is lost, sent twice, kept back after the next one, or late, as the words of a seed say."""
+    """A road for tests: each message is lost, sent twice, kept back after the next one, or late, as
+    the words of a seed say."""
 
     def __init__(self, road: Any, seed: int, loss: float = 0.0, duplicates: float = 0.0, reorder: float = 0.0, delay: float = 0.0):
         self.road, self.random = road, random.Random(seed)

@@ -17,8 +17,8 @@ _Act = TypeVar("_Act", bound=Callable[..., Any])
 
 
 def _on_disk(act: _Act) -> _Act:
-    """What has to do with the disk, whose fault is that of the node, but where no file can be opened since there are too
-    many: strangers who connect have some, and lose them soon. Then it can be done again."""
+    """What has to do with the disk, whose fault is that of the node, but where no file can be opened since there are
+    too many: strangers who connect have some, and lose them soon. Then it can be done again."""
 
     @functools.wraps(act)
     def acting(*given: Any) -> Any:

@@ -1,7 +1,7 @@
 //! Measures one node of a cluster: `measure ME CONFIG LOG KIND COUNT AT`.
 //!
-//! At the second AT since 1970 the node begins to call COUNT operations of this kind (read, write, swap, cas), one after
-//! another, and prints how many seconds all of them took, and the median and the 99th percentile of one, in
+//! At the second AT since 1970 the node begins to call COUNT operations of this kind (read, write, swap, cas), one
+//! after another, and prints how many seconds all of them took, and the median and the 99th percentile of one, in
 //! nanoseconds. With the count 0 it answers the others alone. It goes on until its input ends.
 use std::error::Error;
 use std::io::{self, Read, Write};

@@ -1,6 +1,6 @@
-//! One process a machine: a node carries the frames of a [`tellwydar::LoggedNode`] over ZeroMQ, and writes down the bytes
-//! by which its log grows before its frames go out. What the logs of all nodes say is put into one order and judged by
-//! the library ([`merge`]), whatever the network and the machines did.
+//! One process a machine: a node carries the frames of a [`tellwydar::LoggedNode`] over ZeroMQ, and writes down the
+//! bytes by which its log grows before its frames go out. What the logs of all nodes say is put into one order and
+//! judged by the library ([`merge`]), whatever the network and the machines did.
 //!
 //! A [`Node`] is for one thread, as its process is: it does its work inside of [`Node::perform`] and [`Node::serve`].
 //! Its configuration and its messages are those of the Python package `tellwydar.net`, so nodes of both are in one

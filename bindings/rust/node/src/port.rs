@@ -1,9 +1,9 @@
 //! The port of a node: a Unix socket, at which programs on its machine call it.
 //!
 //! A program sends lines. Each is a call, as words or as an object of JSON (`calls.rs`), or asks how the node is:
-//! `health`, `status`, `metrics`. It is answered by one line: how the call ended, or what was asked for. Only metrics are
-//! several lines, of which the last is `# EOF` (<https://prometheus.io/docs/instrumenting/exposition_formats>). Programs
-//! take turns, since a process has one operation at a time.
+//! `health`, `status`, `metrics`. It is answered by one line: how the call ended, or what was asked for. Only metrics
+//! are several lines, of which the last is `# EOF` (<https://prometheus.io/docs/instrumenting/exposition_formats>).
+//! Programs take turns, since a process has one operation at a time.
 use crate::calls::{End, Form};
 use crate::fault::{Fault, at_path};
 use crate::node::Node;

@@ -1,5 +1,5 @@
-//! Where one node is: its chapter with its log, and the chapters before. All that a chapter is, is in its log, so a node
-//! that was killed is made again. It needs the logs of its last two chapters, and no others.
+//! Where one node is: its chapter with its log, and the chapters before. All that a chapter is, is in its log, so a
+//! node that was killed is made again. It needs the logs of its last two chapters, and no others.
 use crate::config::Options;
 use crate::disk::{Disk, Job, Wait};
 use crate::fault::{Fault, at_path, say};

@@ -46,8 +46,8 @@ fn is_full<T: std::fmt::Debug>(told: &Result<T, Fault>) -> bool {
     matches!(told, Err(Fault::Io(why)) if why.kind() == io::ErrorKind::StorageFull)
 }
 
-/// Where a disk hangs once an entry was made: with `--sync` or without, at which act, and whether the entry is in the file
-/// by then.
+/// Where a disk hangs once an entry was made: with `--sync` or without, at which act, and whether the
+/// entry is in the file by then.
 type Place = (bool, fn(Act) -> bool, bool);
 
 const PLACES: [Place; 3] = [(true, IS_WRITE, false), (false, IS_WRITE, false), (true, |it| it == Act::Force, true)];
