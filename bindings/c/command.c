@@ -6,8 +6,8 @@
 
 typedef uint8_t command(const uint8_t *, size_t, uint8_t *, size_t, uint8_t *, size_t, struct tellwydar_lengths *);
 
-static uint8_t judge(const uint8_t *text, size_t length, uint8_t *output, size_t output_length, uint8_t *errors, size_t errors_length,
-                     struct tellwydar_lengths *lengths) {
+static uint8_t judge(const uint8_t *text, size_t length, uint8_t *output, size_t output_length, uint8_t *errors,
+                     size_t errors_length, struct tellwydar_lengths *lengths) {
     return tellwydar_judge(text, length, 0, output, output_length, errors, errors_length, lengths);
 }
 

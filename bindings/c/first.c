@@ -22,7 +22,8 @@ int main(void) {
     struct tellwydar_id order[] = {{.process = 1, .number = 0}, {.process = 0, .number = 0}};
     struct tellwydar_point points[] = {{.process = 0, .number = 0, .at = 1}, {.process = 1, .number = 0, .at = 2}};
     size_t place;
-    printf("serial order: %s\n", tellwydar_check_serial(2, 1, entries, 4, order, 2, &place) == TELLWYDAR_HOLDS ? "yes" : "no");
+    printf("serial order: %s\n",
+           tellwydar_check_serial(2, 1, entries, 4, order, 2, &place) == TELLWYDAR_HOLDS ? "yes" : "no");
     uint32_t verdict = tellwydar_check_points(2, 1, entries, 4, points, 2, &place);
     printf("points: %s at %zu\n", verdict == TELLWYDAR_ANSWER ? "another answer" : "?", place);
     return 0;

@@ -77,8 +77,8 @@ static void texts(struct choices *given) {
 
 static void checkers(struct choices *given) {
     uint32_t processes = (uint32_t)number(given, 1), registers = (uint32_t)number(given, 1);
-    size_t rows = one_of(given, 32), ids = one_of(given, 32), points = one_of(given, 32), expecting = one_of(given, 32), place;
-    size_t ignored;
+    size_t rows = one_of(given, 32), ids = one_of(given, 32), points = one_of(given, 32), expecting = one_of(given, 32);
+    size_t place, ignored;
     struct tellwydar_entry *entries = (void *)part(given, rows * sizeof *entries, &ignored);
     rows = ignored / sizeof *entries;
     struct tellwydar_id *order = (void *)part(given, ids * sizeof *order, &ignored);
@@ -89,10 +89,10 @@ static void checkers(struct choices *given) {
     expecting = ignored / sizeof *expected;
     must(tellwydar_check_serial(processes, registers, entries, rows, order, ids, &place) <= TELLWYDAR_OUT_OF_PLACE);
     must(tellwydar_check_points(processes, registers, entries, rows, places, points, &place) <= TELLWYDAR_OUT_OF_PLACE);
-    must(tellwydar_check_serial_expecting(processes, registers, entries, rows, expected, expecting, order, ids, &place) <=
-         TELLWYDAR_OUT_OF_PLACE);
-    must(tellwydar_check_points_expecting(processes, registers, entries, rows, expected, expecting, places, points, &place) <=
-         TELLWYDAR_OUT_OF_PLACE);
+    must(tellwydar_check_serial_expecting(processes, registers, entries, rows, expected, expecting, order, ids,
+                                          &place) <= TELLWYDAR_OUT_OF_PLACE);
+    must(tellwydar_check_points_expecting(processes, registers, entries, rows, expected, expecting, places, points,
+                                          &place) <= TELLWYDAR_OUT_OF_PLACE);
     free(entries);
     free(order);
     free(places);
@@ -103,7 +103,8 @@ static void checkers(struct choices *given) {
 
 static void world(struct choices *given) {
     struct tellwydar_world *it;
-    uint32_t front = (uint32_t)one_of(given, 4), processes = (uint32_t)number(given, 1), registers = (uint32_t)number(given, 2);
+    uint32_t front = (uint32_t)one_of(given, 4), processes = (uint32_t)number(given, 1),
+             registers = (uint32_t)number(given, 2);
     if (tellwydar_world_new(front, processes, registers, &it) != 0) return;
     while (given->left > 0) {
         uint32_t kind = (uint32_t)one_of(given, 10);
@@ -111,7 +112,8 @@ static void world(struct choices *given) {
         if (kind < 6) {
             tellwydar_world_step(it, kind, process, (uint32_t)number(given, 1), from, number(given, 2));
         } else if (kind == 6) {
-            tellwydar_world_compare_and_swap(it, process, (uint32_t)number(given, 1), number(given, 1), number(given, 1));
+            tellwydar_world_compare_and_swap(it, process, (uint32_t)number(given, 1), number(given, 1),
+                                             number(given, 1));
         } else if (kind == 7) {
             tellwydar_world_arrange(it);
         } else if (kind == 8) {
@@ -243,7 +245,8 @@ static void crash(struct choices *given, uint8_t me) {
 static void tell(struct choices *given, uint8_t me, uint8_t other) {
     size_t length, room = 9 + 8 * all.count;
     uint8_t *state = block(room);
-    must(tellwydar_node_tell_state(all.members[me].node, (uint32_t)one_of(given, 2), state, room, &length) == 0 && length == room);
+    must(tellwydar_node_tell_state(all.members[me].node, (uint32_t)one_of(given, 2), state, room, &length) == 0 &&
+         length == room);
     if (one_of(given, 8) == 7) room = one_of(given, room);
     tellwydar_node_hear_state(all.members[other].node, me, state, room);
     tellwydar_node_is_over(all.members[other].node);
@@ -322,7 +325,8 @@ static void merge(void) {
 }
 
 static void nodes(struct choices *given) {
-    struct tellwydar_log log = {.cluster = 7, .front = (uint32_t)one_of(given, 3), .processes = 1 + (uint32_t)one_of(given, MOST_NODES)};
+    struct tellwydar_log log = {
+        .cluster = 7, .front = (uint32_t)one_of(given, 3), .processes = 1 + (uint32_t)one_of(given, MOST_NODES)};
     all.count = log.processes;
     all.frames = 0;
     all.is_honest = 1;
@@ -366,7 +370,8 @@ static void logs(struct choices *given) {
 
 static void messages(struct choices *given) {
     uint32_t processes = 1 + (uint32_t)one_of(given, 4);
-    struct tellwydar_log log = {.cluster = number(given, 8), .chapter = number(given, 4), .begun = number(given, 8), .processes = processes};
+    struct tellwydar_log log = {
+        .cluster = number(given, 8), .chapter = number(given, 4), .begun = number(given, 8), .processes = processes};
     struct tellwydar_heard heard[4] = {{0}};
     struct tellwydar_met met;
     struct tellwydar_greeting greeting;
@@ -382,7 +387,8 @@ static void messages(struct choices *given) {
     }
     uint64_t accepted = log.begun;
     tellwydar_message_greet(processes & 1, accepted, other, 9);
-    must(tellwydar_message_greeting(other, 9, &greeting) == 0 && greeting.accepted == accepted && greeting.is_wanting == (processes & 1));
+    must(tellwydar_message_greeting(other, 9, &greeting) == 0 && greeting.accepted == accepted &&
+         greeting.is_wanting == (processes & 1));
     log.process = (uint8_t)(processes - 1);
     must(tellwydar_message_start(&log, (const uint8_t *)"x y", 3, 0, other, TELLWYDAR_MESSAGE_START) == 0);
     other[TELLWYDAR_MESSAGE_START] = TELLWYDAR_BRINGS_STATE;

@@ -42,8 +42,8 @@ struct tellwydar_lengths {
  * was refused or judged no. */
 
 /* A schedule: the answer is the report of its run. */
-uint8_t tellwydar_replay(const uint8_t *text, size_t text_length, uint8_t *output, size_t output_length, uint8_t *errors,
-                         size_t errors_length, struct tellwydar_lengths *lengths);
+uint8_t tellwydar_replay(const uint8_t *text, size_t text_length, uint8_t *output, size_t output_length,
+                         uint8_t *errors, size_t errors_length, struct tellwydar_lengths *lengths);
 /* A report: the answer is the verdicts on its order and, where it has points, on them. */
 uint8_t tellwydar_check(const uint8_t *text, size_t text_length, uint8_t *output, size_t output_length, uint8_t *errors,
                         size_t errors_length, struct tellwydar_lengths *lengths);
@@ -51,11 +51,11 @@ uint8_t tellwydar_check(const uint8_t *text, size_t text_length, uint8_t *output
 uint8_t tellwydar_play(const uint8_t *text, size_t text_length, uint8_t *output, size_t output_length, uint8_t *errors,
                        size_t errors_length, struct tellwydar_lengths *lengths);
 /* The same of the fair play. */
-uint8_t tellwydar_play_fair(const uint8_t *text, size_t text_length, uint8_t *output, size_t output_length, uint8_t *errors,
-                            size_t errors_length, struct tellwydar_lengths *lengths);
+uint8_t tellwydar_play_fair(const uint8_t *text, size_t text_length, uint8_t *output, size_t output_length,
+                            uint8_t *errors, size_t errors_length, struct tellwydar_lengths *lengths);
 /* A record of processes that ran apart, as `awshow verify` reads it: the answer is the report of the run that it is. */
-uint8_t tellwydar_verify(const uint8_t *text, size_t text_length, uint8_t *output, size_t output_length, uint8_t *errors,
-                         size_t errors_length, struct tellwydar_lengths *lengths);
+uint8_t tellwydar_verify(const uint8_t *text, size_t text_length, uint8_t *output, size_t output_length,
+                         uint8_t *errors, size_t errors_length, struct tellwydar_lengths *lengths);
 /* A record whose steps stand in any order, those of each process in their own one, as `awshow merge` reads it: the
  * answer is the record of the same steps in an order that is a run. If there is none, the line names a step that no
  * run of first steps has. */
@@ -75,9 +75,9 @@ uint8_t tellwydar_judge(const uint8_t *text, size_t text_length, uint8_t report,
 
 /* The same of registers that begin with this value, as JSON has it: `5`, `null`, `"idle"`. A report, whose registers
  * begin with 0, is refused. */
-uint8_t tellwydar_judge_from(const uint8_t *text, size_t text_length, const uint8_t *first, size_t first_length, uint8_t report,
-                             uint8_t *output, size_t output_length, uint8_t *errors, size_t errors_length,
-                             struct tellwydar_lengths *lengths);
+uint8_t tellwydar_judge_from(const uint8_t *text, size_t text_length, const uint8_t *first, size_t first_length,
+                             uint8_t report, uint8_t *output, size_t output_length, uint8_t *errors,
+                             size_t errors_length, struct tellwydar_lengths *lengths);
 
 /* --- Checkers: a history of your own, judged ---------------------------------------------------------------------- */
 
@@ -134,11 +134,13 @@ enum {
 
 /* Whether the operations are a serial order of the history (sequential consistency). `place` gets the place that the
  * verdict names, from 0, else 0. */
-uint32_t tellwydar_check_serial(uint32_t processes, uint32_t registers, const struct tellwydar_entry *entries, size_t entries_length,
-                                const struct tellwydar_id *ids, size_t ids_length, size_t *place);
+uint32_t tellwydar_check_serial(uint32_t processes, uint32_t registers, const struct tellwydar_entry *entries,
+                                size_t entries_length, const struct tellwydar_id *ids, size_t ids_length,
+                                size_t *place);
 /* Whether the points are a point order of the history (linearizability). */
-uint32_t tellwydar_check_points(uint32_t processes, uint32_t registers, const struct tellwydar_entry *entries, size_t entries_length,
-                                const struct tellwydar_point *points, size_t points_length, size_t *place);
+uint32_t tellwydar_check_points(uint32_t processes, uint32_t registers, const struct tellwydar_entry *entries,
+                                size_t entries_length, const struct tellwydar_point *points, size_t points_length,
+                                size_t *place);
 /* The same of histories with compare-and-swaps: what one expects stands in `expected`, at the place of its entry; at
  * other places any number does. A compare-and-swap without an expected value is no entry: TELLWYDAR_OUT_OF_PLACE, as
  * from the two functions above. */
@@ -174,7 +176,8 @@ enum {
     TELLWYDAR_NO_FRAME = 22,
     TELLWYDAR_NO_MEMORY = 23,
     TELLWYDAR_AHEAD = 24,      /* of a process: a count above the number of the next body */
-    TELLWYDAR_STALE = 25,      /* of a process: an expected body whose time isn't above that of the last one from its sender */
+    TELLWYDAR_STALE = 25,      /* of a process: an expected body whose time isn't above that of the last one
+                                * from its sender */
     TELLWYDAR_CLOCK_FULL = 26, /* of a process, which has stopped */
     TELLWYDAR_NO_EVENT = 32, /* no such kind, or a register above 65,535 */
     TELLWYDAR_CLOSED = 33,
@@ -189,11 +192,11 @@ uint32_t tellwydar_world_new(uint32_t front, uint32_t processes, uint32_t regist
 /* Makes an event. Of a call `number` is the register, of a take that of the frame on the wire from `from`; `value` is
  * that of a write or swap. What isn't of the event isn't looked at. A refused event changes nothing, but want of memory
  * stops the world for good. */
-uint32_t tellwydar_world_step(struct tellwydar_world *handle, uint32_t kind, uint8_t process, uint32_t number, uint8_t from,
-                              uint64_t value);
+uint32_t tellwydar_world_step(struct tellwydar_world *handle, uint32_t kind, uint8_t process, uint32_t number,
+                              uint8_t from, uint64_t value);
 /* Makes the event that a process calls a compare-and-swap. */
-uint32_t tellwydar_world_compare_and_swap(struct tellwydar_world *handle, uint8_t process, uint32_t reg, uint64_t expected,
-                                          uint64_t value);
+uint32_t tellwydar_world_compare_and_swap(struct tellwydar_world *handle, uint8_t process, uint32_t reg,
+                                          uint64_t expected, uint64_t value);
 /* Asks the world for a serial order of its history and, under `linear`, for a point order: 0, or TELLWYDAR_NO_MEMORY,
  * and then the orders that were asked for before are kept. */
 uint32_t tellwydar_world_arrange(struct tellwydar_world *handle);
@@ -237,7 +240,8 @@ struct tellwydar_process;
 /* Makes the process `me`, from 0, of a run in which all have this front end and this shape. It did nothing yet. The
  * result is 0, and the handle is set; or TELLWYDAR_NO_SHAPE, TELLWYDAR_NO_FRONT, TELLWYDAR_NO_PROCESS or
  * TELLWYDAR_NO_MEMORY, and it isn't. */
-uint32_t tellwydar_process_new(uint32_t front, uint32_t processes, uint32_t registers, uint8_t me, struct tellwydar_process **handle);
+uint32_t tellwydar_process_new(uint32_t front, uint32_t processes, uint32_t registers, uint8_t me,
+                               struct tellwydar_process **handle);
 
 /* Each makes a step, and tells one of the numbers above. A refused step changes nothing, but a full clock and want of
  * memory stop the process for good; its reply and its frames are none. Bytes that spell no frame, and numbers that say
@@ -246,10 +250,12 @@ uint32_t tellwydar_process_new(uint32_t front, uint32_t processes, uint32_t regi
 /* Calls an operation: the kind is TELLWYDAR_READ, TELLWYDAR_WRITE or TELLWYDAR_SWAP. */
 uint32_t tellwydar_process_call(struct tellwydar_process *handle, uint32_t kind, uint32_t reg, uint64_t value);
 /* Calls a compare-and-swap. */
-uint32_t tellwydar_process_compare_and_swap(struct tellwydar_process *handle, uint32_t reg, uint64_t expected, uint64_t value);
+uint32_t tellwydar_process_compare_and_swap(struct tellwydar_process *handle, uint32_t reg, uint64_t expected,
+                                            uint64_t value);
 /* Takes a frame that the process `from` put for this one, as often and in whatever order: just
  * the bytes of one frame. */
-uint32_t tellwydar_process_take(struct tellwydar_process *handle, uint8_t from, const uint8_t *bytes, size_t bytes_length);
+uint32_t tellwydar_process_take(struct tellwydar_process *handle, uint8_t from, const uint8_t *bytes,
+                                size_t bytes_length);
 /* Puts the first unacknowledged frames of every link again. */
 uint32_t tellwydar_process_tick(struct tellwydar_process *handle);
 
@@ -582,7 +588,8 @@ struct tellwydar_merged {
  * then the entry that should be there. */
 enum {
     TELLWYDAR_NO_LOG = 96,           /* there is no text */
-    TELLWYDAR_OTHER_CHAPTER = 97,    /* the log is the first that isn't of the first one's chapter: `place` is where they differ */
+    TELLWYDAR_OTHER_CHAPTER = 97,    /* the log is the first that isn't of the first one's chapter: `place` is
+                                      * where they differ */
     TELLWYDAR_SAME_PROCESS = 98,     /* the log is of the process of the one at `place` */
     TELLWYDAR_NO_LOG_OF = 99,        /* no log is of the process `place` */
     TELLWYDAR_TOO_MANY_ENTRIES = 100, /* more than 1,048,576 in all logs together */
@@ -601,8 +608,8 @@ enum {
  * order, and stand one behind the other: the first has `lengths[0]` bytes, and so on. What a crash left behind the last
  * line of a log that stands whole is none of it. The result is 0; or it tells why there is no such record, and then
  * `told` says where, and neither the room nor `length` has changed. TELLWYDAR_NO_MEMORY may come in place of all. */
-uint32_t tellwydar_merge_logs(const uint8_t *logs, size_t logs_length, const uint64_t *lengths, size_t lengths_length, uint8_t *room,
-                              size_t room_length, struct tellwydar_merged *told);
+uint32_t tellwydar_merge_logs(const uint8_t *logs, size_t logs_length, const uint64_t *lengths, size_t lengths_length,
+                              uint8_t *room, size_t room_length, struct tellwydar_merged *told);
 
 #ifdef __cplusplus
 }

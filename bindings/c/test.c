@@ -25,10 +25,11 @@ static void storied(void) {
         const char *wanted = value == 5 ? yes : no;
         size_t length = snprintf(text, sizeof text, form, 5);
         snprintf(text + length, sizeof text - length, form, value);
-        uint8_t status = tellwydar_story((const uint8_t *)text, strlen(text), (uint8_t *)answer, sizeof answer, (uint8_t *)line,
-                                         sizeof line, &lengths);
+        uint8_t status = tellwydar_story((const uint8_t *)text, strlen(text), (uint8_t *)answer, sizeof answer,
+                                         (uint8_t *)line, sizeof line, &lengths);
         expect("chapters are told to be one story or none", status == value - 5 && lengths.output == strlen(wanted) &&
-                                                                memcmp(answer, wanted, lengths.output) == 0 && lengths.errors == 0);
+                                                                memcmp(answer, wanted, lengths.output) == 0 &&
+                                                                lengths.errors == 0);
     }
 }
 
@@ -41,13 +42,13 @@ static void merged(void) {
     struct tellwydar_lengths lengths;
     snprintf(text, sizeof text, "%s%s%s", head, take, call);
     snprintf(wanted, sizeof wanted, "%s%s%s", head, call, take);
-    uint8_t status = tellwydar_merge((const uint8_t *)text, strlen(text), (uint8_t *)answer, sizeof answer, (uint8_t *)line,
-                                     sizeof line, &lengths);
+    uint8_t status = tellwydar_merge((const uint8_t *)text, strlen(text), (uint8_t *)answer, sizeof answer,
+                                     (uint8_t *)line, sizeof line, &lengths);
     expect("steps are put into an order that is a run", status == 0 && lengths.output == strlen(wanted) &&
                                                             memcmp(answer, wanted, strlen(wanted)) == 0);
     snprintf(text, sizeof text, "%s%s", head, take);
-    status = tellwydar_merge((const uint8_t *)text, strlen(text), (uint8_t *)answer, sizeof answer, (uint8_t *)line, sizeof line,
-                             &lengths);
+    status = tellwydar_merge((const uint8_t *)text, strlen(text), (uint8_t *)answer, sizeof answer, (uint8_t *)line,
+                             sizeof line, &lengths);
     expect("a step that is in no run is named", status == 1 && lengths.errors == strlen("line 5: unfaithful\n") &&
                                                     memcmp(line, "line 5: unfaithful\n", lengths.errors) == 0);
 }
@@ -58,7 +59,8 @@ static char judged_answer[1024], judged_line[256];
 static uint8_t judged(const char *history, uint8_t report) {
     struct tellwydar_lengths lengths;
     uint8_t status = tellwydar_judge((const uint8_t *)history, strlen(history), report, (uint8_t *)judged_answer,
-                                     sizeof judged_answer - 1, (uint8_t *)judged_line, sizeof judged_line - 1, &lengths);
+                                     sizeof judged_answer - 1, (uint8_t *)judged_line, sizeof judged_line - 1,
+                                     &lengths);
     expect("the answer has room", lengths.output < sizeof judged_answer && lengths.errors < sizeof judged_line);
     judged_answer[lengths.output] = 0;
     judged_line[lengths.errors] = 0;
@@ -71,9 +73,9 @@ static int begins(const char *text, const char *word) {
 
 static uint8_t judged_from(const char *history, const char *first) {
     struct tellwydar_lengths lengths;
-    uint8_t status = tellwydar_judge_from((const uint8_t *)history, strlen(history), (const uint8_t *)first, strlen(first), 0,
-                                          (uint8_t *)judged_answer, sizeof judged_answer - 1, (uint8_t *)judged_line,
-                                          sizeof judged_line - 1, &lengths);
+    uint8_t status = tellwydar_judge_from((const uint8_t *)history, strlen(history), (const uint8_t *)first,
+                                          strlen(first), 0, (uint8_t *)judged_answer, sizeof judged_answer - 1,
+                                          (uint8_t *)judged_line, sizeof judged_line - 1, &lengths);
     expect("the answer has room", lengths.output < sizeof judged_answer && lengths.errors < sizeof judged_line);
     judged_answer[lengths.output] = 0;
     judged_line[lengths.errors] = 0;
@@ -92,7 +94,8 @@ static void first_values(void) {
     expect("a first value that is none", judged_from(lines, "05") == 1 && strcmp(judged_line, refused) == 0);
     expect("nothing is no first value", judged_from(lines, "") == 1 && strcmp(judged_line, refused) == 0);
     expect("nor are bytes that are no text", judged_from(lines, "\"\xff\"") == 1 && strcmp(judged_line, refused) == 0);
-    expect("a report begins with 0", judged_from(report, "0") == 1 && begins(judged_line, "refused: --first is for lines of JSON and EDN"));
+    expect("a report begins with 0",
+           judged_from(report, "0") == 1 && begins(judged_line, "refused: --first is for lines of JSON and EDN"));
 }
 
 /* A write that is done, and a read behind it: of the value, and of another one. */
@@ -101,17 +104,23 @@ static void histories(void) {
                         "{\"process\": 0, \"type\": \"ok\", \"f\": \"write\", \"value\": 1}\n"
                         "{\"process\": 1, \"type\": \"invoke\", \"f\": \"read\"}\n"
                         "{\"process\": 1, \"type\": \"ok\", \"f\": \"read\", \"value\": 1}\n";
-    const char *edn = "[{:process 0, :type :invoke, :f :write, :value 1} {:process 0, :type :ok, :f :write, :value 1}\n"
-                      " {:process 1, :type :invoke, :f :read, :value nil} {:process 1, :type :ok, :f :read, :value 0}]\n";
+    const char *edn = "[{:process 0, :type :invoke, :f :write, :value 1}"
+                      " {:process 0, :type :ok, :f :write, :value 1}\n"
+                      " {:process 1, :type :invoke, :f :read, :value nil}"
+                      " {:process 1, :type :ok, :f :read, :value 0}]\n";
     expect("it is linearizable", judged(lines, 0) == 0 && begins(judged_answer, "yes\n") && judged_line[0] == 0);
     expect("a report of it", judged(lines, 1) == 0 && begins(judged_answer, "awreg report 2\nfront observed\n"));
     char verdicts[64];
     struct tellwydar_lengths lengths;
-    uint8_t status = tellwydar_check((const uint8_t *)judged_answer, strlen(judged_answer), (uint8_t *)verdicts, sizeof verdicts, (uint8_t *)judged_line, 0, &lengths);
-    expect("which the check accepts", status == 0 && lengths.output == strlen("serial yes\npoints yes\n") && memcmp(verdicts, "serial yes\npoints yes\n", lengths.output) == 0);
-    expect("it is not", judged(edn, 0) == 1 && begins(judged_answer, "no\nkey null: not linearizable\n  by line 2: process 1 read 0\n  possible: 1\n") && judged_line[0] == 0);
+    uint8_t status = tellwydar_check((const uint8_t *)judged_answer, strlen(judged_answer), (uint8_t *)verdicts,
+                                     sizeof verdicts, (uint8_t *)judged_line, 0, &lengths);
+    expect("which the check accepts", status == 0 && lengths.output == strlen("serial yes\npoints yes\n") &&
+                                          memcmp(verdicts, "serial yes\npoints yes\n", lengths.output) == 0);
+    const char *no = "no\nkey null: not linearizable\n  by line 2: process 1 read 0\n  possible: 1\n";
+    expect("it is not", judged(edn, 0) == 1 && begins(judged_answer, no) && judged_line[0] == 0);
     expect("and has no report", judged(edn, 1) == 1 && begins(judged_answer, "no\n"));
-    expect("it is refused", judged("{}\n", 0) == 1 && judged_answer[0] == 0 && strcmp(judged_line, "refused: line 1: wanted process, an integer or a string\n") == 0);
+    const char *refused = "refused: line 1: wanted process, an integer or a string\n";
+    expect("it is refused", judged("{}\n", 0) == 1 && judged_answer[0] == 0 && strcmp(judged_line, refused) == 0);
 }
 
 static void refusals(void) {
@@ -122,7 +131,8 @@ static void refusals(void) {
     expect("4,097 registers", tellwydar_world_new(0, 1, 4097, &world) == TELLWYDAR_NO_SHAPE && world == NULL);
     expect("64 processes", tellwydar_world_new(TELLWYDAR_LINEAR, 64, 4096, &world) == 0 && world != NULL);
     expect("no such kind", tellwydar_world_step(world, 5, 0, 0, 0, 0) == TELLWYDAR_NO_EVENT);
-    expect("a register that is none", tellwydar_world_step(world, TELLWYDAR_READ, 0, 65536, 0, 0) == TELLWYDAR_NO_EVENT);
+    expect("a register that is none",
+           tellwydar_world_step(world, TELLWYDAR_READ, 0, 65536, 0, 0) == TELLWYDAR_NO_EVENT);
     expect("no register", tellwydar_world_step(world, TELLWYDAR_READ, 0, 4096, 0, 0) == TELLWYDAR_NO_REGISTER);
     expect("no process", tellwydar_world_step(world, TELLWYDAR_TICK, 64, 0, 0, 0) == TELLWYDAR_NO_PROCESS);
     expect("no frame", tellwydar_world_step(world, TELLWYDAR_TAKE, 1, 0, 0, 0) == TELLWYDAR_NO_FRAME);
@@ -145,9 +155,11 @@ static void fronts(void) {
         expect("behind one cast", tellwydar_world_look(world, TELLWYDAR_REPLY_PLACE, 0) == 1);
         expect("arranged", tellwydar_world_arrange(world) == 0);
         expect("two operations", tellwydar_world_look(world, TELLWYDAR_IDS, 0) == 2);
-        expect("points under linear alone", tellwydar_world_look(world, TELLWYDAR_POINTS, 0) == (front == TELLWYDAR_LINEAR ? 2 : 0));
+        expect("points under linear alone",
+               tellwydar_world_look(world, TELLWYDAR_POINTS, 0) == (front == TELLWYDAR_LINEAR ? 2 : 0));
         expect("four entries", tellwydar_world_look(world, TELLWYDAR_ENTRIES, 0) == 4);
-        expect("the last is an answer", tellwydar_world_look(world, TELLWYDAR_ENTRY_KIND, 3) == TELLWYDAR_ANSWERED_VALUE);
+        expect("the last is an answer",
+               tellwydar_world_look(world, TELLWYDAR_ENTRY_KIND, 3) == TELLWYDAR_ANSWERED_VALUE);
         expect("with the value", tellwydar_world_look(world, TELLWYDAR_ENTRY_VALUE, 3) == UINT64_MAX);
         expect("of event 1", tellwydar_world_look(world, TELLWYDAR_ENTRY_EVENT, 3) == 1);
         expect("nothing behind it", tellwydar_world_look(world, TELLWYDAR_ENTRY_VALUE, 4) == 0);
@@ -166,13 +178,16 @@ static void comparing(void) {
         expect("nor in the other register", tellwydar_world_compare_and_swap(world, 0, 0, 1, 8) == TELLWYDAR_UNEQUAL);
         expect("7 is there", tellwydar_world_step(world, TELLWYDAR_READ, 0, 1, 0, 0) == TELLWYDAR_VALUE);
         expect("and told", tellwydar_world_look(world, TELLWYDAR_REPLY_VALUE, 0) == 7);
-        expect("a register that is none", tellwydar_world_compare_and_swap(world, 0, 65536, 0, 0) == TELLWYDAR_NO_EVENT);
+        expect("a register that is none",
+               tellwydar_world_compare_and_swap(world, 0, 65536, 0, 0) == TELLWYDAR_NO_EVENT);
         expect("no register", tellwydar_world_compare_and_swap(world, 0, 2, 0, 0) == TELLWYDAR_NO_REGISTER);
-        expect("a call of its kind", tellwydar_world_look(world, TELLWYDAR_ENTRY_KIND, 2) == TELLWYDAR_CALLED_COMPARE_AND_SWAP);
+        expect("a call of its kind",
+               tellwydar_world_look(world, TELLWYDAR_ENTRY_KIND, 2) == TELLWYDAR_CALLED_COMPARE_AND_SWAP);
         expect("of its register", tellwydar_world_look(world, TELLWYDAR_ENTRY_REGISTER, 2) == 1);
         expect("with its value", tellwydar_world_look(world, TELLWYDAR_ENTRY_VALUE, 2) == 8);
         expect("and what it expects", tellwydar_world_look(world, TELLWYDAR_ENTRY_EXPECTED, 4) == 1);
-        expect("an answer of its kind", tellwydar_world_look(world, TELLWYDAR_ENTRY_KIND, 3) == TELLWYDAR_ANSWERED_UNEQUAL);
+        expect("an answer of its kind",
+               tellwydar_world_look(world, TELLWYDAR_ENTRY_KIND, 3) == TELLWYDAR_ANSWERED_UNEQUAL);
         expect("a read expects nothing", tellwydar_world_look(world, TELLWYDAR_ENTRY_EXPECTED, 6) == 0);
         tellwydar_world_free(world);
     }
@@ -200,14 +215,27 @@ static void expecting(void) {
     struct tellwydar_point points[] = {{.process = 0, .number = 0, .at = 0}, {.process = 1, .number = 0, .at = 2}};
     uint64_t same[] = {0, 99, 0}, equal[] = {0, 99, 5}, late[] = {1, 99, 0};
     size_t place = 77;
-    expect("the second found 5", tellwydar_check_serial_expecting(2, 1, compared, 4, same, 3, order, 2, &place) == TELLWYDAR_HOLDS && place == 0);
-    expect("and has a point", tellwydar_check_points_expecting(2, 1, compared, 4, same, 3, points, 2, &place) == TELLWYDAR_HOLDS);
-    expect("it found what it expects", tellwydar_check_serial_expecting(2, 1, compared, 4, equal, 3, order, 2, &place) == TELLWYDAR_ANSWER && place == 1);
-    expect("the first did not", tellwydar_check_points_expecting(2, 1, compared, 4, late, 3, points, 2, &place) == TELLWYDAR_ANSWER && place == 0);
-    expect("nothing is expected", tellwydar_check_serial_expecting(2, 1, compared, 4, same, 2, order, 2, &place) == TELLWYDAR_OUT_OF_PLACE && place == 2);
-    expect("an older call says so", tellwydar_check_serial(2, 1, compared, 4, order, 2, &place) == TELLWYDAR_OUT_OF_PLACE && place == 0);
-    expect("of points too", tellwydar_check_points(2, 1, compared, 4, points, 2, &place) == TELLWYDAR_OUT_OF_PLACE && place == 0);
-    expect("of others it is the older one", tellwydar_check_serial_expecting(3, 1, stale, 4, same, 0, order, 2, &place) == TELLWYDAR_ANSWER && place == 1);
+    expect("the second found 5",
+           tellwydar_check_serial_expecting(2, 1, compared, 4, same, 3, order, 2, &place) == TELLWYDAR_HOLDS &&
+               place == 0);
+    expect("and has a point",
+           tellwydar_check_points_expecting(2, 1, compared, 4, same, 3, points, 2, &place) == TELLWYDAR_HOLDS);
+    expect("it found what it expects",
+           tellwydar_check_serial_expecting(2, 1, compared, 4, equal, 3, order, 2, &place) == TELLWYDAR_ANSWER &&
+               place == 1);
+    expect("the first did not",
+           tellwydar_check_points_expecting(2, 1, compared, 4, late, 3, points, 2, &place) == TELLWYDAR_ANSWER &&
+               place == 0);
+    expect("nothing is expected",
+           tellwydar_check_serial_expecting(2, 1, compared, 4, same, 2, order, 2, &place) == TELLWYDAR_OUT_OF_PLACE &&
+               place == 2);
+    expect("an older call says so",
+           tellwydar_check_serial(2, 1, compared, 4, order, 2, &place) == TELLWYDAR_OUT_OF_PLACE && place == 0);
+    expect("of points too",
+           tellwydar_check_points(2, 1, compared, 4, points, 2, &place) == TELLWYDAR_OUT_OF_PLACE && place == 0);
+    expect("of others it is the older one",
+           tellwydar_check_serial_expecting(3, 1, stale, 4, same, 0, order, 2, &place) == TELLWYDAR_ANSWER &&
+               place == 1);
 }
 
 static uint32_t serial(size_t entries, const struct tellwydar_id *ids, size_t count, size_t *place) {
@@ -215,13 +243,16 @@ static uint32_t serial(size_t entries, const struct tellwydar_id *ids, size_t co
 }
 
 static uint32_t points(uint32_t first, uint32_t second, int write_first, size_t *place) {
-    struct tellwydar_point list[] = {{.process = (uint8_t)!write_first, .at = first}, {.process = (uint8_t)write_first, .at = second}};
+    struct tellwydar_point list[] = {{.process = (uint8_t)!write_first, .at = first},
+                                     {.process = (uint8_t)write_first, .at = second}};
     return tellwydar_check_points(3, 1, stale, 4, list, 2, place);
 }
 
 static void verdicts(void) {
-    struct tellwydar_id write = {.process = 0, .number = 0}, read = {.process = 1, .number = 0}, other = {.process = 2, .number = 0};
-    struct tellwydar_id right[] = {read, write}, turned[] = {write, read}, twice[] = {read, write, write}, unknown[] = {read, write, other};
+    struct tellwydar_id write = {.process = 0, .number = 0}, read = {.process = 1, .number = 0},
+                        other = {.process = 2, .number = 0};
+    struct tellwydar_id right[] = {read, write}, turned[] = {write, read}, twice[] = {read, write, write},
+                        unknown[] = {read, write, other};
     size_t place = 77;
     expect("the read first is serial", serial(4, right, 2, &place) == TELLWYDAR_HOLDS && place == 0);
     expect("the write first is not", serial(4, turned, 2, &place) == TELLWYDAR_ANSWER && place == 1);
@@ -233,9 +264,11 @@ static void verdicts(void) {
     expect("outside", points(4, 4, 0, &place) == TELLWYDAR_OUTSIDE && place == 0);
     expect("another answer", points(4, 5, 1, &place) == TELLWYDAR_ANSWER && place == 1);
     expect("no shape", tellwydar_check_serial(65, 1, stale, 4, right, 2, &place) == TELLWYDAR_CHECK_SHAPE);
-    expect("one process too few", tellwydar_check_serial(1, 1, stale, 4, right, 2, &place) == TELLWYDAR_OUT_OF_PLACE && place == 2);
+    expect("one process too few",
+           tellwydar_check_serial(1, 1, stale, 4, right, 2, &place) == TELLWYDAR_OUT_OF_PLACE && place == 2);
     struct tellwydar_entry kind = {.kind = 5};
-    expect("a kind that is none", tellwydar_check_serial(1, 1, &kind, 1, right, 0, &place) == TELLWYDAR_OUT_OF_PLACE && place == 0);
+    expect("a kind that is none",
+           tellwydar_check_serial(1, 1, &kind, 1, right, 0, &place) == TELLWYDAR_OUT_OF_PLACE && place == 0);
 }
 
 /* The cast of a compare-and-swap from 0 to 5, as worked by hand. */
@@ -247,8 +280,8 @@ static int puts_bytes(struct tellwydar_process *process, const uint8_t *bytes, s
     uint8_t room[64];
     size_t length;
     memset(room, 0xee, sizeof room);
-    return tellwydar_process_frames(process, room, sizeof room, &length) == 0 && length == count && memcmp(room, bytes, count) == 0 &&
-           room[count] == 0xee;
+    return tellwydar_process_frames(process, room, sizeof room, &length) == 0 && length == count &&
+           memcmp(room, bytes, count) == 0 && room[count] == 0xee;
 }
 
 static void processes(void) {
@@ -270,12 +303,14 @@ static void processes(void) {
     expect("no such register", tellwydar_process_call(writer, TELLWYDAR_WRITE, 1, 5) == TELLWYDAR_NO_REGISTER);
     expect("called", tellwydar_process_call(writer, TELLWYDAR_WRITE, 0, 5) == TELLWYDAR_ACCEPTED);
     expect("its cast goes to the other", puts_bytes(writer, sent, sizeof sent));
-    expect("the room has the front", tellwydar_process_frames(writer, short_room, 3, &length) == 0 && length == 33 && memcmp(short_room, sent, 3) == 0 && short_room[3] == 9);
+    expect("the room has the front", tellwydar_process_frames(writer, short_room, 3, &length) == 0 && length == 33 &&
+                                         memcmp(short_room, sent, 3) == 0 && short_room[3] == 9);
     expect("it waits for its cast", tellwydar_process_look(writer, TELLWYDAR_OWN_RUNNING, 0) == 1);
     expect("one frame is pending", tellwydar_process_look(writer, TELLWYDAR_OWN_PENDING, 0) == 1);
     expect("its number is used up", tellwydar_process_known(writer, TELLWYDAR_PEER_NEXT, 1) == 1);
     expect("bytes that are no frame", tellwydar_process_take(writer, 1, ack, sizeof ack - 1) == TELLWYDAR_NOT_A_FRAME);
-    expect("and change nothing", puts_bytes(writer, sent, sizeof sent) && tellwydar_process_look(writer, TELLWYDAR_OWN_CLOCK, 0) == 1);
+    expect("and change nothing",
+           puts_bytes(writer, sent, sizeof sent) && tellwydar_process_look(writer, TELLWYDAR_OWN_CLOCK, 0) == 1);
     expect("busy", tellwydar_process_call(writer, TELLWYDAR_READ, 0, 0) == TELLWYDAR_BUSY);
     expect("which puts nothing", puts_bytes(writer, sent, 0));
     expect("put again", tellwydar_process_tick(writer) == TELLWYDAR_ACCEPTED && puts_bytes(writer, sent, sizeof sent));
@@ -285,9 +320,11 @@ static void processes(void) {
     expect("its clock", tellwydar_process_look(other, TELLWYDAR_OWN_CLOCK, 0) == 2);
     expect("it has the value", tellwydar_process_look(other, TELLWYDAR_OWN_REGISTER, 0) == 5);
     expect("of one sender", tellwydar_process_take(writer, 0, got, sizeof got) == TELLWYDAR_NO_PROCESS);
-    expect("the count", tellwydar_process_take(writer, 1, got, sizeof got) == TELLWYDAR_ACCEPTED && puts_bytes(writer, sent, 0));
+    expect("the count",
+           tellwydar_process_take(writer, 1, got, sizeof got) == TELLWYDAR_ACCEPTED && puts_bytes(writer, sent, 0));
     expect("nothing is pending", tellwydar_process_look(writer, TELLWYDAR_OWN_PENDING, 0) == 0);
-    expect("done", tellwydar_process_take(writer, 1, ack, sizeof ack) == TELLWYDAR_DONE && puts_bytes(writer, counted, sizeof counted));
+    expect("done", tellwydar_process_take(writer, 1, ack, sizeof ack) == TELLWYDAR_DONE &&
+                       puts_bytes(writer, counted, sizeof counted));
     expect("as the first", tellwydar_process_look(writer, TELLWYDAR_OWN_REPLY_PLACE, 0) == 0);
     expect("its clock", tellwydar_process_look(writer, TELLWYDAR_OWN_CLOCK, 0) == 3);
     expect("the next one is expected", tellwydar_process_known(writer, TELLWYDAR_PEER_EXPECTED, 1) == 1);

@@ -106,7 +106,8 @@ static void heads(struct written *it) {
     struct tellwydar_log other = {UINT64_MAX, 5, 0, TELLWYDAR_LOCAL_WRITE, 64, 63};
     struct written long_one = {.length = 0};
     expect("another head", begun(&other, "abc de f", &long_one) == 0);
-    expect("names cut off", tellwydar_log_head(long_one.text, long_one.length, &log, room, 3, &length) == 0 && length == 8);
+    expect("names cut off",
+           tellwydar_log_head(long_one.text, long_one.length, &log, room, 3, &length) == 0 && length == 8);
     expect("the room has the front", memcmp(room, "abc", 3) == 0 && room[3] == 9);
     expect("its numbers", log.cluster == UINT64_MAX && log.chapter == 5 && log.begun == 0 && log.process == 63);
     expect("its shape", log.front == TELLWYDAR_LOCAL_WRITE && log.processes == 64);
@@ -216,7 +217,8 @@ static void dropped(struct written *it) {
     const uint8_t put_again[] = {0, 10, 1, 2, 0, 0, 0, 0, 0, 0, 0, 16};
     struct tellwydar_log log = of_process(0);
     log.front = TELLWYDAR_LOCAL_WRITE;
-    expect("a log", tellwydar_node_new(&it->node) == 0 && begun(&log, "x", it) == 0 && reopened(it, it->length, 0) == 0);
+    expect("a log",
+           tellwydar_node_new(&it->node) == 0 && begun(&log, "x", it) == 0 && reopened(it, it->length, 0) == 0);
     expect("it hears the other", tellwydar_node_hear(it->node, 1, 0) == 0);
     for (int write = 0; write < 20; write++)
         expect("a write", tellwydar_node_call(it->node, TELLWYDAR_WRITE, 0, 5) == 0);
@@ -390,15 +392,16 @@ static void merges(void) {
     room[8] = 9;
     expect("the front of it", merged(&first, &second, room, 8, &told) == 0 && told.length == sizeof record - 1 &&
                                   memcmp(room, record, 8) == 0 && room[8] == 9);
-    expect("twice", merged(&first, &first, room, 0, &told) == TELLWYDAR_SAME_PROCESS && told.log == 1 && told.place == 0 &&
-                        told.length == sizeof record - 1);
-    expect("one alone", tellwydar_merge_logs(second.text, second.length, &(uint64_t){second.length}, 1, room, 0, &told) ==
-                            TELLWYDAR_NO_LOG_OF && told.place == 0);
+    expect("twice", merged(&first, &first, room, 0, &told) == TELLWYDAR_SAME_PROCESS && told.log == 1 &&
+                        told.place == 0 && told.length == sizeof record - 1);
+    uint32_t alone = tellwydar_merge_logs(second.text, second.length, &(uint64_t){second.length}, 1, room, 0, &told);
+    expect("one alone", alone == TELLWYDAR_NO_LOG_OF && told.place == 0);
     expect("none", tellwydar_merge_logs(room, 0, &(uint64_t){0}, 0, room, 0, &told) == TELLWYDAR_NO_LOG);
     expect("another chapter", begun(&later, "x", &second) == 0 && merged(&first, &second, room, 0, &told) ==
                                   TELLWYDAR_OTHER_CHAPTER && told.log == 1 && told.place == TELLWYDAR_CHAPTER);
     memcpy(second.text, called_line, sizeof called_line - 1);
-    expect("no log", merged(&first, &second, room, 0, &told) == TELLWYDAR_NOT_A_LOG && told.log == 1 && told.place == 1);
+    expect("no log",
+           merged(&first, &second, room, 0, &told) == TELLWYDAR_NOT_A_LOG && told.log == 1 && told.place == 1);
 }
 
 int main(void) {
