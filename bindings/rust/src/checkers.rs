@@ -88,7 +88,15 @@ pub fn check_serial(processes: u32, registers: u32, history: &[Entry], order: &[
     // SAFETY: each pointer and length are those of one list, and none is null.
     let code = unsafe {
         foreign::tellwydar_check_serial_expecting(
-            processes, registers, entries.as_ptr(), entries.len(), expected.as_ptr(), expected.len(), ids.as_ptr(), ids.len(), &mut place,
+            processes,
+            registers,
+            entries.as_ptr(),
+            entries.len(),
+            expected.as_ptr(),
+            expected.len(),
+            ids.as_ptr(),
+            ids.len(),
+            &mut place,
         )
     };
     told(code, place)
@@ -102,7 +110,15 @@ pub fn check_points(processes: u32, registers: u32, history: &[Entry], points: &
     // SAFETY: each pointer and length are those of one list, and none is null.
     let code = unsafe {
         foreign::tellwydar_check_points_expecting(
-            processes, registers, entries.as_ptr(), entries.len(), expected.as_ptr(), expected.len(), points.as_ptr(), points.len(), &mut place,
+            processes,
+            registers,
+            entries.as_ptr(),
+            entries.len(),
+            expected.as_ptr(),
+            expected.len(),
+            points.as_ptr(),
+            points.len(),
+            &mut place,
         )
     };
     told(code, place)

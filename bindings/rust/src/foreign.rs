@@ -106,7 +106,9 @@ impl From<&Entry> for EntryRow {
             Entry::Called { at, id, op: Op::Read { register } } => (at, id, 0, register, 0),
             Entry::Called { at, id, op: Op::Write { register, value } } => (at, id, 1, register, value),
             Entry::Called { at, id, op: Op::Swap { register, value } } => (at, id, 2, register, value),
-            Entry::Called { at, id, op: Op::CompareAndSwap { register, expected: _, value } } => (at, id, 5, register, value),
+            Entry::Called { at, id, op: Op::CompareAndSwap { register, expected: _, value } } => {
+                (at, id, 5, register, value)
+            }
             Entry::Answered { at, id, answer: Answer::Done } => (at, id, 3, 0, 0),
             Entry::Answered { at, id, answer: Answer::Value(value) } => (at, id, 4, 0, value),
             Entry::Answered { at, id, answer: Answer::Unequal } => (at, id, 6, 0, 0),
@@ -138,20 +140,122 @@ impl From<&Point> for PointRow {
 pub type Command = unsafe extern "C" fn(*const u8, usize, *mut u8, usize, *mut u8, usize, *mut Lengths) -> u8;
 
 unsafe extern "C" {
-    pub fn tellwydar_replay(text: *const u8, text_length: usize, output: *mut u8, output_length: usize, errors: *mut u8, errors_length: usize, lengths: *mut Lengths) -> u8;
-    pub fn tellwydar_check(text: *const u8, text_length: usize, output: *mut u8, output_length: usize, errors: *mut u8, errors_length: usize, lengths: *mut Lengths) -> u8;
-    pub fn tellwydar_play(text: *const u8, text_length: usize, output: *mut u8, output_length: usize, errors: *mut u8, errors_length: usize, lengths: *mut Lengths) -> u8;
-    pub fn tellwydar_verify(text: *const u8, text_length: usize, output: *mut u8, output_length: usize, errors: *mut u8, errors_length: usize, lengths: *mut Lengths) -> u8;
-    pub fn tellwydar_merge(text: *const u8, text_length: usize, output: *mut u8, output_length: usize, errors: *mut u8, errors_length: usize, lengths: *mut Lengths) -> u8;
-    pub fn tellwydar_story(text: *const u8, text_length: usize, output: *mut u8, output_length: usize, errors: *mut u8, errors_length: usize, lengths: *mut Lengths) -> u8;
-    pub fn tellwydar_judge(text: *const u8, text_length: usize, report: u8, output: *mut u8, output_length: usize, errors: *mut u8, errors_length: usize, lengths: *mut Lengths) -> u8;
-    pub fn tellwydar_judge_from(text: *const u8, text_length: usize, first: *const u8, first_length: usize, report: u8, output: *mut u8, output_length: usize, errors: *mut u8, errors_length: usize, lengths: *mut Lengths) -> u8;
-    pub fn tellwydar_play_fair(text: *const u8, text_length: usize, output: *mut u8, output_length: usize, errors: *mut u8, errors_length: usize, lengths: *mut Lengths) -> u8;
-    pub fn tellwydar_check_serial_expecting(processes: u32, registers: u32, entries: *const EntryRow, entries_length: usize, expected: *const u64, expected_length: usize, ids: *const IdRow, ids_length: usize, place: *mut usize) -> u32;
-    pub fn tellwydar_check_points_expecting(processes: u32, registers: u32, entries: *const EntryRow, entries_length: usize, expected: *const u64, expected_length: usize, points: *const PointRow, points_length: usize, place: *mut usize) -> u32;
+    pub fn tellwydar_replay(
+        text: *const u8,
+        text_length: usize,
+        output: *mut u8,
+        output_length: usize,
+        errors: *mut u8,
+        errors_length: usize,
+        lengths: *mut Lengths,
+    ) -> u8;
+    pub fn tellwydar_check(
+        text: *const u8,
+        text_length: usize,
+        output: *mut u8,
+        output_length: usize,
+        errors: *mut u8,
+        errors_length: usize,
+        lengths: *mut Lengths,
+    ) -> u8;
+    pub fn tellwydar_play(
+        text: *const u8,
+        text_length: usize,
+        output: *mut u8,
+        output_length: usize,
+        errors: *mut u8,
+        errors_length: usize,
+        lengths: *mut Lengths,
+    ) -> u8;
+    pub fn tellwydar_verify(
+        text: *const u8,
+        text_length: usize,
+        output: *mut u8,
+        output_length: usize,
+        errors: *mut u8,
+        errors_length: usize,
+        lengths: *mut Lengths,
+    ) -> u8;
+    pub fn tellwydar_merge(
+        text: *const u8,
+        text_length: usize,
+        output: *mut u8,
+        output_length: usize,
+        errors: *mut u8,
+        errors_length: usize,
+        lengths: *mut Lengths,
+    ) -> u8;
+    pub fn tellwydar_story(
+        text: *const u8,
+        text_length: usize,
+        output: *mut u8,
+        output_length: usize,
+        errors: *mut u8,
+        errors_length: usize,
+        lengths: *mut Lengths,
+    ) -> u8;
+    pub fn tellwydar_judge(
+        text: *const u8,
+        text_length: usize,
+        report: u8,
+        output: *mut u8,
+        output_length: usize,
+        errors: *mut u8,
+        errors_length: usize,
+        lengths: *mut Lengths,
+    ) -> u8;
+    pub fn tellwydar_judge_from(
+        text: *const u8,
+        text_length: usize,
+        first: *const u8,
+        first_length: usize,
+        report: u8,
+        output: *mut u8,
+        output_length: usize,
+        errors: *mut u8,
+        errors_length: usize,
+        lengths: *mut Lengths,
+    ) -> u8;
+    pub fn tellwydar_play_fair(
+        text: *const u8,
+        text_length: usize,
+        output: *mut u8,
+        output_length: usize,
+        errors: *mut u8,
+        errors_length: usize,
+        lengths: *mut Lengths,
+    ) -> u8;
+    pub fn tellwydar_check_serial_expecting(
+        processes: u32,
+        registers: u32,
+        entries: *const EntryRow,
+        entries_length: usize,
+        expected: *const u64,
+        expected_length: usize,
+        ids: *const IdRow,
+        ids_length: usize,
+        place: *mut usize,
+    ) -> u32;
+    pub fn tellwydar_check_points_expecting(
+        processes: u32,
+        registers: u32,
+        entries: *const EntryRow,
+        entries_length: usize,
+        expected: *const u64,
+        expected_length: usize,
+        points: *const PointRow,
+        points_length: usize,
+        place: *mut usize,
+    ) -> u32;
     pub fn tellwydar_world_new(front: u32, processes: u32, registers: u32, handle: *mut *mut Opaque) -> u32;
     pub fn tellwydar_world_step(handle: *mut Opaque, kind: u32, process: u8, number: u32, from: u8, value: u64) -> u32;
-    pub fn tellwydar_world_compare_and_swap(handle: *mut Opaque, process: u8, register: u32, expected: u64, value: u64) -> u32;
+    pub fn tellwydar_world_compare_and_swap(
+        handle: *mut Opaque,
+        process: u8,
+        register: u32,
+        expected: u64,
+        value: u64,
+    ) -> u32;
     pub fn tellwydar_world_arrange(handle: *mut Opaque) -> u32;
     pub fn tellwydar_world_look(handle: *mut Opaque, what: u32, at: u32) -> u64;
     pub fn tellwydar_world_close(handle: *mut Opaque);
@@ -172,7 +276,12 @@ unsafe extern "C" {
         room_length: usize,
         length: *mut usize,
     ) -> u32;
-    pub fn tellwydar_node_is_headless(log: *const LogRow, text: *const u8, text_length: usize, headless: *mut u32) -> u32;
+    pub fn tellwydar_node_is_headless(
+        log: *const LogRow,
+        text: *const u8,
+        text_length: usize,
+        headless: *mut u32,
+    ) -> u32;
     pub fn tellwydar_log_head(
         text: *const u8,
         text_length: usize,
@@ -182,7 +291,14 @@ unsafe extern "C" {
         length: *mut usize,
     ) -> u32;
     pub fn tellwydar_log_part(text: *const u8, text_length: usize, entries: u64) -> usize;
-    pub fn tellwydar_message_start(log: *const LogRow, names: *const u8, names_length: usize, to: u8, room: *mut u8, room_length: usize) -> u32;
+    pub fn tellwydar_message_start(
+        log: *const LogRow,
+        names: *const u8,
+        names_length: usize,
+        to: u8,
+        room: *mut u8,
+        room_length: usize,
+    ) -> u32;
     pub fn tellwydar_message_met(
         own: *const u8,
         own_length: usize,
@@ -206,7 +322,13 @@ unsafe extern "C" {
     pub fn tellwydar_node_hand_out(handle: *mut Opaque) -> u32;
     pub fn tellwydar_node_frames(handle: *mut Opaque, room: *mut u8, room_length: usize, length: *mut usize) -> u32;
     pub fn tellwydar_node_hear(handle: *mut Opaque, other: u8, count: u64) -> u32;
-    pub fn tellwydar_node_tell_state(handle: *mut Opaque, is_quiet: u32, room: *mut u8, room_length: usize, length: *mut usize) -> u32;
+    pub fn tellwydar_node_tell_state(
+        handle: *mut Opaque,
+        is_quiet: u32,
+        room: *mut u8,
+        room_length: usize,
+        length: *mut usize,
+    ) -> u32;
     pub fn tellwydar_node_hear_state(handle: *mut Opaque, sender: u8, bytes: *const u8, bytes_length: usize) -> u32;
     pub fn tellwydar_node_is_over(handle: *mut Opaque) -> u32;
     pub fn tellwydar_node_set_room(handle: *mut Opaque, operations: u64, entries: u64, ahead: u64) -> u32;

@@ -114,7 +114,11 @@ impl Row {
 impl Display for Row {
     fn fmt(&self, f: &mut Formatter<'_>) -> fmt::Result {
         let (name, kind, value) = self.words();
-        write!(f, r#"{{"process": {}, "type": "{kind}", "f": "{name}", "key": {}, "value": {value}"#, self.process, self.key)?;
+        write!(
+            f,
+            r#"{{"process": {}, "type": "{kind}", "f": "{name}", "key": {}, "value": {value}"#,
+            self.process, self.key
+        )?;
         f.write_str(if self.end == Some(End::Unequal) { r#", "error": "unequal"}"# } else { "}" })
     }
 }

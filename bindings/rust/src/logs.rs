@@ -93,7 +93,15 @@ pub fn merge_logs(logs: &[&[u8]]) -> Result<Vec<u8>, LogsFault> {
         // SAFETY: each pointer and length are those of one slice, the rooms are apart, and no pointer is null.
         let code = unsafe {
             let (output, size) = (room.as_mut_ptr(), room.len());
-            foreign::tellwydar_merge_logs(texts.as_ptr(), texts.len(), lengths.as_ptr(), lengths.len(), output, size, &mut told)
+            foreign::tellwydar_merge_logs(
+                texts.as_ptr(),
+                texts.len(),
+                lengths.as_ptr(),
+                lengths.len(),
+                output,
+                size,
+                &mut told,
+            )
         };
         if code != 0 {
             return Err(fault_of(code, told.log as usize, told.place));

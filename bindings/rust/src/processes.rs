@@ -143,7 +143,14 @@ impl<F: Front> Process<F> {
     pub fn frames(&mut self) -> Result<Vec<(u8, Vec<u8>)>, Refused> {
         let mut length = 0;
         // SAFETY: as in `call`; the pointer and the length are those of one slice.
-        let code = unsafe { foreign::tellwydar_process_frames(self.handle.as_ptr(), self.room.as_mut_ptr(), self.room.len(), &mut length) };
+        let code = unsafe {
+            foreign::tellwydar_process_frames(
+                self.handle.as_ptr(),
+                self.room.as_mut_ptr(),
+                self.room.len(),
+                &mut length,
+            )
+        };
         if code != 0 {
             return Err(refused(code));
         }
@@ -183,7 +190,8 @@ impl<F: Front> Process<F> {
     /// What it knows of another process: all 0 where there is no other of this number.
     pub fn known(&mut self, peer: u8) -> Known {
         // SAFETY: as in `call`.
-        let [first, next, expected, seen] = [0, 1, 2, 3].map(|what| unsafe { foreign::tellwydar_process_known(self.handle.as_ptr(), what, peer) });
+        let [first, next, expected, seen] =
+            [0, 1, 2, 3].map(|what| unsafe { foreign::tellwydar_process_known(self.handle.as_ptr(), what, peer) });
         Known { first, next, expected, seen }
     }
 

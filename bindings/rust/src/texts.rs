@@ -31,7 +31,9 @@ fn told_by(room: usize, call: impl Fn(&mut [u8], &mut [u8], &mut Lengths) -> u8)
 
 fn tell(command: Command, text: &[u8]) -> Told {
     // SAFETY: each pointer and length are those of one slice, the rooms are apart, and no pointer is null.
-    told_by(text.len(), |answer, line, lengths| unsafe { command(text.as_ptr(), text.len(), answer.as_mut_ptr(), answer.len(), line.as_mut_ptr(), line.len(), lengths) })
+    told_by(text.len(), |answer, line, lengths| unsafe {
+        command(text.as_ptr(), text.len(), answer.as_mut_ptr(), answer.len(), line.as_mut_ptr(), line.len(), lengths)
+    })
 }
 
 /// What the judge of histories tells of a text: with `report`, of a linearizable one its report. `first` is the first
@@ -46,7 +48,18 @@ pub(crate) fn judged(history: &[u8], first: Option<&str>, report: bool) -> Told 
             None => foreign::tellwydar_judge(text, length, report, room, size, errors, errors_size, lengths),
             Some(first) => {
                 let (first, first_length) = (first.as_ptr(), first.len());
-                foreign::tellwydar_judge_from(text, length, first, first_length, report, room, size, errors, errors_size, lengths)
+                foreign::tellwydar_judge_from(
+                    text,
+                    length,
+                    first,
+                    first_length,
+                    report,
+                    room,
+                    size,
+                    errors,
+                    errors_size,
+                    lengths,
+                )
             }
         }
     })

@@ -209,7 +209,9 @@ impl<F: Front> World<F> {
             Event::Call { process, op: Op::Swap { register, value } } => (2, process, register.into(), 0, value),
             Event::Call { process, op: Op::CompareAndSwap { register, expected, value } } => {
                 // SAFETY: as below.
-                let code = unsafe { foreign::tellwydar_world_compare_and_swap(handle, process, register.into(), expected, value) };
+                let code = unsafe {
+                    foreign::tellwydar_world_compare_and_swap(handle, process, register.into(), expected, value)
+                };
                 return self.told(code);
             }
             Event::Take { from, to, number } => (3, to, number, from, 0),

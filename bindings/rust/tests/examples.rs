@@ -41,7 +41,8 @@ fn done(value: i32) -> Option<End> {
 #[test]
 fn histories() {
     let write = Call::Write { value: 1.into() };
-    let rows = [row(0, write.clone(), None), row(0, write, done(1)), row(1, Call::Read, None), row(1, Call::Read, done(1))];
+    let rows =
+        [row(0, write.clone(), None), row(0, write, done(1)), row(1, Call::Read, None), row(1, Call::Read, done(1))];
     let judged = judge_rows(&rows).expect("a history");
     assert!(judged.is_linearizable && judged.text.starts_with("yes\nkey \"x\": linearizable\n"));
     let stale = [&rows[..3], &[row(1, Call::Read, done(0))]].concat();
@@ -50,19 +51,26 @@ fn histories() {
     assert_eq!(judge_rows(&rows[1..]), Err("refused: line 1: the process has no call under way".to_owned()));
     let swap = Call::CompareAndSwap { expected: 0.into(), value: "a\"\\\n".into() };
     let unequal = [row(0, swap.clone(), None), row(0, swap.clone(), Some(End::Unequal))];
-    assert_eq!(unequal[1].to_string(), r#"{"process": 0, "type": "fail", "f": "cas", "key": "x", "value": [0, "a\"\\\u000a"], "error": "unequal"}"#);
+    assert_eq!(
+        unequal[1].to_string(),
+        r#"{"process": 0, "type": "fail", "f": "cas", "key": "x", "value": [0, "a\"\\\u000a"], "error": "unequal"}"#
+    );
     assert!(!judge_rows(&unequal).expect("a history").is_linearizable);
     let failed = [row(0, swap.clone(), None), row(0, swap, Some(End::Failed))];
     assert!(judge_rows(&failed).expect("a history").is_linearizable);
     let edn = b"{:process 0, :type :invoke, :f :read, :value nil}\n{:process 0, :type :ok, :f :read, :value nil}\n";
     let report = judge_report(edn).expect("a history");
     assert_eq!(check(report.text.as_bytes()).answer, b"serial yes\npoints yes\n");
-    let five = b"{\"process\": 0, \"type\": \"invoke\", \"f\": \"read\"}\n{\"process\": 0, \"type\": \"ok\", \"f\": \"read\", \"value\": 5}\n";
+    let five = b"{\"process\": 0, \"type\": \"invoke\", \"f\": \"read\"}\n\
+        {\"process\": 0, \"type\": \"ok\", \"f\": \"read\", \"value\": 5}\n";
     let first = |value: i32| Judging { first: Some(value.into()), report: false };
     assert!(!judge(five).expect("a history").is_linearizable);
     assert!(judge_with(five, &first(5)).expect("a history").is_linearizable);
     assert!(!judge_with(five, &first(6)).expect("a history").is_linearizable);
-    assert!(judge_with(report.text.as_bytes(), &first(0)).is_err_and(|line| line.starts_with("refused: --first is for lines")));
+    assert!(
+        judge_with(report.text.as_bytes(), &first(0))
+            .is_err_and(|line| line.starts_with("refused: --first is for lines"))
+    );
     assert_eq!(judge(b"{}\n"), Err("refused: line 1: wanted process, an integer or a string".to_owned()));
 }
 
@@ -84,7 +92,9 @@ fn verdicts() {
     assert_eq!(serial(&[WRITE, READ]), Err(Fault::Answer { place: 1 }));
     assert_eq!(serial(&[READ]), Err(Fault::Missing));
     assert_eq!(serial(&[READ, WRITE, WRITE]), Err(Fault::Twice));
-    let points = |at: [u32; 2], ids: [OpId; 2]| check_points(3, 1, &STALE, &[Point { id: ids[0], at: at[0] }, Point { id: ids[1], at: at[1] }]);
+    let points = |at: [u32; 2], ids: [OpId; 2]| {
+        check_points(3, 1, &STALE, &[Point { id: ids[0], at: at[0] }, Point { id: ids[1], at: at[1] }])
+    };
     assert_eq!(points([5, 4], [READ, WRITE]), Err(Fault::Falling { place: 1 }));
     assert_eq!(points([4, 4], [READ, WRITE]), Err(Fault::Outside { place: 0 }));
     assert_eq!(points([4, 5], [WRITE, READ]), Err(Fault::Answer { place: 1 }));
@@ -115,10 +125,19 @@ fn comparisons_are_judged() {
 #[test]
 fn comparisons() -> Result<(), Refused> {
     let mut world = World::<LocalRead>::new(1, 1)?;
-    let mut compare = |expected, value| world.step(Event::Call { process: 0, op: Op::CompareAndSwap { register: 0, expected, value } });
+    let mut compare = |expected, value| {
+        world.step(Event::Call { process: 0, op: Op::CompareAndSwap { register: 0, expected, value } })
+    };
     assert_eq!(compare(0, 5)?, Some(Reply { answer: Answer::Done, place: 0 }));
     assert_eq!(compare(0, 6)?, Some(Reply { answer: Answer::Unequal, place: 1 }));
-    assert_eq!(world.history()[2], Entry::Called { at: 1, id: OpId { process: 0, number: 1 }, op: Op::CompareAndSwap { register: 0, expected: 0, value: 6 } });
+    assert_eq!(
+        world.history()[2],
+        Entry::Called {
+            at: 1,
+            id: OpId { process: 0, number: 1 },
+            op: Op::CompareAndSwap { register: 0, expected: 0, value: 6 }
+        }
+    );
     let mut process = Process::<Linear>::new(2, 1, 0)?;
     assert_eq!(process.call(Op::CompareAndSwap { register: 0, expected: 0, value: 5 })?, None);
     assert_eq!(process.frames()?, [(1, COMPARED_CAST.to_vec())]);
@@ -148,8 +167,15 @@ impl Words {
             1 => Event::Call { process, op: Op::Write { register, value: self.next() } },
             2 => Event::Call { process, op: Op::Swap { register, value: self.next() } },
             3 => Event::Tick { process },
-            4 => Event::Call { process, op: Op::CompareAndSwap { register, expected: self.below(2), value: self.below(2) } },
-            _ => Event::Take { from: self.below(u64::from(processes)) as u8, to: process, number: self.below(seen / 4 + 2) as u32 },
+            4 => Event::Call {
+                process,
+                op: Op::CompareAndSwap { register, expected: self.below(2), value: self.below(2) },
+            },
+            _ => Event::Take {
+                from: self.below(u64::from(processes)) as u8,
+                to: process,
+                number: self.below(seen / 4 + 2) as u32,
+            },
         }
     }
 }
@@ -257,11 +283,13 @@ fn refusals() {
 
 /// The cast of a compare-and-swap from 0 to 5, as worked by hand.
 const COMPARED_CAST: [u8; 40] = [
-    0, 0x26, 4, 1, 0, 0, 0, 0, 0, 0, 0, 0, 1, 0, 0, 0, 0, 0, 0, 0, 1, 4, 0, 0, 0, 0, 0, 0, 0, 0, 0, 0, 0, 0, 0, 0, 0, 0, 0, 5,
+    0, 0x26, 4, 1, 0, 0, 0, 0, 0, 0, 0, 0, 1, 0, 0, 0, 0, 0, 0, 0, 1, 4, 0, 0, 0, 0, 0, 0, 0, 0, 0, 0, 0, 0, 0, 0, 0,
+    0, 0, 5,
 ];
 
 /// A write of the value 5 by the first of two processes: its cast, and what the other one answers, as worked by hand.
-const CAST: [u8; 32] = [0, 0x1e, 1, 1, 0, 0, 0, 0, 0, 0, 0, 0, 1, 0, 0, 0, 0, 0, 0, 0, 1, 2, 0, 0, 0, 0, 0, 0, 0, 0, 0, 5];
+const CAST: [u8; 32] =
+    [0, 0x1e, 1, 1, 0, 0, 0, 0, 0, 0, 0, 0, 1, 0, 0, 0, 0, 0, 0, 0, 1, 2, 0, 0, 0, 0, 0, 0, 0, 0, 0, 5];
 const GOT: [u8; 12] = [0, 0x0a, 1, 2, 0, 0, 0, 0, 0, 0, 0, 1];
 const ACK: [u8; 21] = [0, 0x13, 1, 1, 0, 0, 0, 0, 0, 0, 0, 0, 2, 0, 0, 0, 0, 0, 0, 0, 2];
 
@@ -273,7 +301,10 @@ fn processes() -> Result<(), Refused> {
     assert_eq!(writer.frames()?, []);
     assert_eq!(writer.call(Op::Write { register: 0, value: 5 })?, None);
     assert_eq!(writer.frames()?, [(1, CAST.to_vec())]);
-    assert_eq!((writer.busy(), writer.pending(), writer.known(1)), (true, 1, Known { first: 0, next: 1, expected: 0, seen: 0 }));
+    assert_eq!(
+        (writer.busy(), writer.pending(), writer.known(1)),
+        (true, 1, Known { first: 0, next: 1, expected: 0, seen: 0 })
+    );
     assert_eq!(writer.take(1, &ACK[..20]), Err(Refused::NotAFrame));
     assert_eq!(writer.frames()?, [(1, CAST.to_vec())]);
     assert_eq!(writer.call(Op::Read { register: 0 }), Err(Refused::Busy));

@@ -3,7 +3,8 @@ use tellwydar::*;
 
 /// The log of a writer, as docs/FORMATS.md has it: its head, the call, and the takes of `GOT` and `ACK`.
 const HEAD: &str = "e009c6ff tellwydar log 1\n69771c8e cluster 7\nded1c05f process 0\n91ba8d59 chapter 0\n\
-    b56a2825 begun 12\n2f99698f tellwydar record 1\n95118964 front linear\nc2025397 processes 2\ndc21685e registers x\n";
+    b56a2825 begun 12\n2f99698f tellwydar record 1\n95118964 front linear\nc2025397 processes 2\n\
+    dc21685e registers x\n";
 const CALLED: &str = "fbc16c9f 0 call write x 5\n";
 const GOT_TAKEN: &str = "92e249cb 0 take 1 000a01020000000000000001\n";
 const ACK_TAKEN: &str = "b9d266ce 0 take 1 001301010000000000000000020000000000000002 = done 0\n";
@@ -50,7 +51,8 @@ fn a_head_is_told_whatever_stands_behind_it() {
         assert_eq!(LoggedNode::head(&[HEAD, behind].concat().into_bytes()), Ok(Some(head(0))), "{behind}");
     }
     // (more names than a short head has bytes)
-    let names = (b'a'..=b'z').flat_map(|it| ["x", "y"].map(|end| format!("{}{end}", (it as char).to_string().repeat(15))));
+    let names =
+        (b'a'..=b'z').flat_map(|it| ["x", "y"].map(|end| format!("{}{end}", (it as char).to_string().repeat(15))));
     let names = names.collect();
     let long_one = LogHead { chapter: 5, front: FrontEnd::LocalWrite, processes: 64, process: 63, names, ..head(0) };
     let log = LoggedNode::begin(&long_one).expect("a log");

@@ -280,7 +280,8 @@ fn seeded_play() {
         let script =
             "['write x 1', 'read y', 'swap y 3', 'read x', 'cas x 1 4', 'read x', 'write x 9', 'cas y 3 2', 'read y'],";
         let text = format!(
-            "front = '{front}' # front\nregisters = ['x', \"y\"]\nseed = {seed}\nloss = {}\nrepeat = 2_0\nbudget = {}\nscripts = [\n{}]\n",
+            "front = '{front}' # front\nregisters = ['x', \"y\"]\nseed = {seed}\nloss = {}\nrepeat = 2_0\n\
+             budget = {}\nscripts = [\n{}]\n",
             seed % 40,
             [500, 5000][seed % 2],
             script.repeat(n)

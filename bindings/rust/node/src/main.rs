@@ -83,9 +83,8 @@ fn run<F: Front>(given: &Given, config: &Config, script: Option<&Script>) -> Res
         pipe::register(signal, node.bell()?)?;
     }
     if !config.sync && !sync {
-        say(
-            "without --sync a crash of the machine may lose entries that others have seen; a crash of this program loses none",
-        );
+        say("without --sync a crash of the machine may lose entries that others have seen; \
+             a crash of this program loses none");
     }
     let done = match (script, &given.socket) {
         (Some(script), _) => script.run(&mut node, &mut io::stdout().lock()),

@@ -47,8 +47,8 @@ impl Status {
     pub fn json(&self) -> String {
         let peers: Vec<String> = self.peers.iter().map(PeerStatus::json).collect();
         format!(
-            "{{\"process\": {}, \"front\": \"{}\", \"chapter\": {}, \"operations\": {}, \"entries\": {}, \"running\": {}, \
-             \"peers\": [{}]}}",
+            "{{\"process\": {}, \"front\": \"{}\", \"chapter\": {}, \"operations\": {}, \"entries\": {}, \
+             \"running\": {}, \"peers\": [{}]}}",
             self.process,
             self.front,
             self.chapter,
@@ -119,9 +119,10 @@ mod tests {
 
     #[test]
     fn it_is_told_as_worked_by_hand() {
-        let json = "{\"process\": 0, \"front\": \"local-read\", \"chapter\": 4, \"operations\": 70000, \"entries\": 90, \
-                    \"running\": true, \"peers\": [{\"process\": 1, \"heard\": true, \"silent\": 0.012, \
-                    \"unacknowledged\": 0}, {\"process\": 2, \"heard\": false, \"silent\": null, \"unacknowledged\": 3}]}";
+        let json = "{\"process\": 0, \"front\": \"local-read\", \"chapter\": 4, \"operations\": 70000, \
+                    \"entries\": 90, \"running\": true, \"peers\": [\
+                    {\"process\": 1, \"heard\": true, \"silent\": 0.012, \"unacknowledged\": 0}, \
+                    {\"process\": 2, \"heard\": false, \"silent\": null, \"unacknowledged\": 3}]}";
         assert_eq!(status().json(), json);
         assert_eq!(status().health(), "waits for 2");
         let mut well = status();
