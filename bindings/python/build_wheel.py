@@ -14,8 +14,8 @@ TAG = "py3-none-linux_x86_64"
 def files():
     """The files of the package: its modules, its mark for type checkers, and the library."""
     if not os.path.isfile(LIBRARY):
-        raise SystemExit(f"{LIBRARY} is not there: `tools/install --library` at the top of the repository builds it, and then "
-                         f"`pip install ~/.local/share/{PACKAGE}/python` has it")
+        raise SystemExit(f"{LIBRARY} is not there: `tools/install --library` at the top of the repository builds it, "
+                         f"and then `pip install ~/.local/share/{PACKAGE}/python` has it")
     for folder, _, names in sorted(os.walk(PACKAGE)):
         for name in sorted(names):
             if name.endswith((".py", ".so")) or name == "py.typed":
@@ -33,7 +33,9 @@ def build_wheel(wheel_directory, config_settings=None, metadata_directory=None):
         project = tomllib.load(file)["project"]
     about = f"{PACKAGE}-{project['version']}.dist-info"
     content = {name: open(name, "rb").read() for name in files()}
-    content[f"{about}/WHEEL"] = f"Wheel-Version: 1.0\nGenerator: {PACKAGE}\nRoot-Is-Purelib: false\nTag: {TAG}\n".encode()
+    content[f"{about}/WHEEL"] = (
+        f"Wheel-Version: 1.0\nGenerator: {PACKAGE}\nRoot-Is-Purelib: false\nTag: {TAG}\n"
+    ).encode()
     content[f"{about}/METADATA"] = (
         f"Metadata-Version: 2.1\nName: {PACKAGE}\nVersion: {project['version']}\nSummary: {project['description']}\n"
         f"Requires-Python: {project['requires-python']}\nProvides-Extra: net\nRequires-Dist: pyzmq; extra == \"net\"\n"

@@ -98,7 +98,8 @@ class States(unittest.TestCase):
         self.assertFalse(node.is_over)
         node.hear_state(1, second)
         self.assertTrue(node.is_over)
-        for other in (state(False, True, 1, (2, 0)), state(True, False, 1, (2, 0)), state(True, True, 1, (1, 0)), state(True, True, 2, (2, 0))):
+        for other in (state(False, True, 1, (2, 0)), state(True, False, 1, (2, 0)), state(True, True, 1, (1, 0)),
+                      state(True, True, 2, (2, 0))):
             node = self.node(2)
             node.hear_state(0, first)
             node.hear_state(1, other)
@@ -117,15 +118,18 @@ class Rooms(unittest.TestCase):
         self.assertEqual(room_of(1, 1, None, None), Room(65_000, 786_432, 262_144))
         # 8,065 entries an operation, and 516,160 for one of each process
         self.assertEqual(room_of(64, 2, None, None), Room(65_000, 8_319, 1))
-        self.refused("with 64 processes and 66 registers a chapter needs 540355 entries to begin, and has 532416", 64, 66, None, None)
+        self.refused("with 64 processes and 66 registers a chapter needs 540355 entries to begin, and has 532416",
+                     64, 66, None, None)
         for entries in (39, 1_048_537):
             self.assertEqual(room_of(3, 2, None, entries).entries, entries // 3)
         for entries in (38, 1_048_538):
-            self.refused(f"chapter_entries is {entries}; with 3 processes and 2 registers it can be 39 to 1048537", 3, 2, None, entries)
+            self.refused(f"chapter_entries is {entries}; with 3 processes and 2 registers it can be 39 to 1048537",
+                         3, 2, None, entries)
         for operations in (3, 65_535):
             self.assertEqual(room_of(3, 2, operations, None).operations, operations)
         for operations in (2, 65_536):
-            self.refused(f"chapter_operations is {operations}; with 2 registers it can be 3 to 65535", 3, 2, operations, None)
+            self.refused(f"chapter_operations is {operations}; with 2 registers it can be 3 to 65535",
+                         3, 2, operations, None)
 
 
 def told_of(reports):
@@ -151,9 +155,11 @@ class Stories(unittest.TestCase):
 
     def test_a_comparison_counts_where_it_found_its_value(self):
         history = "".join(f"{at:>8}  p0    #{at // 2:<6}  {what}\n" for at, what in enumerate([
-            "call    cas x 0 5", "answer  done", "call    cas x 0 6", "answer  unequal", "call    swap y 3", "answer  value 0",
-            "call    cas y 3 4", "answer  done", "call    read x", "answer  value 5"]))
-        text = REPORT.format(count=10, history=history, order=5, ids="".join(f"p0 #{at}\n" for at in range(5)), points="")
+            "call    cas x 0 5", "answer  done", "call    cas x 0 6", "answer  unequal",
+            "call    swap y 3", "answer  value 0", "call    cas y 3 4", "answer  done",
+            "call    read x", "answer  value 5"]))
+        order = "".join(f"p0 #{at}\n" for at in range(5))
+        text = REPORT.format(count=10, history=history, order=5, ids=order, points="")
         first = text.replace("awreg report 2", "awreg report 3").replace("points 5\n", "").encode()
         self.accepted(first, report(("x", 5), ("y", 4)))
         self.unopened(1, "p0 #0", "write x 5", first, report(("x", 6), ("y", 4)))
@@ -167,13 +173,15 @@ class Stories(unittest.TestCase):
         self.unopened(1, "p0 #0", "write x 7", first, report(("x", 5), ("y", 6)))
         self.unopened(1, "p0 #1", "write y 6", first, report(("x", 7), ("x", 6)))
         self.unopened(2, "p0 #0", "write x 7", first, report(("x", 7), ("y", 6)), report(("y", 6), ("x", 7)))
-        self.refused("report 1: other registers", first, report(("x", 7), ("y", 6)).replace(b"\ny\n", b"\nz\n").replace(b" y ", b" z "))
+        other = report(("x", 7), ("y", 6)).replace(b"\ny\n", b"\nz\n").replace(b" y ", b" z ")
+        self.refused("report 1: other registers", first, other)
 
     def test_a_chapter_that_ended_while_it_was_opened_has_nothing_else(self):
         first = report(("x", 5), ("y", 6))
         self.accepted(first, report(("x", 5)))
         self.accepted(first, report())
-        called = report(("x", 5)).replace(b"history 2", b"history 1").replace(b"       0  p0    #0       answer  done\n", b"")
+        called = report(("x", 5)).replace(b"history 2", b"history 1")
+        called = called.replace(b"       0  p0    #0       answer  done\n", b"")
         called = called.replace(b"order 1\np0 #0\npoints 1\np0 #0 at 0\n", b"order 0\npoints 0\n")
         self.assertEqual(check(called).answer, b"serial yes\npoints yes\n")
         self.accepted(first, called)
@@ -190,8 +198,11 @@ class Stories(unittest.TestCase):
     def test_what_comes_before_the_opening_is_refused(self):
         history = "       0  p0    #0       call    write x 5\n       1  p0    #0       answer  done\n"
         other = "       2  p1    #0       call    write y 1\n       3  p1    #0       answer  done\n"
-        of_two = lambda count, history, order, ids: REPORT.format(count=count, history=history, order=order, ids=ids, points="").replace(
-            "processes 1", "processes 2").replace(f"points {order}\n", "").encode()
+
+        def of_two(count, history, order, ids):
+            text = REPORT.format(count=count, history=history, order=order, ids=ids, points="")
+            return text.replace("processes 1", "processes 2").replace(f"points {order}\n", "").encode()
+
         first = of_two(2, history, 1, "p0 #0\n")
         self.accepted(first, of_two(4, history + other, 2, "p0 #0\np1 #0\n"))
         text = of_two(4, history + other, 2, "p1 #0\np0 #0\n")
@@ -300,7 +311,8 @@ class Programs(unittest.TestCase):
                     reports.append(told.stdout)
                 self.assertGreater(len(reports), 1)
                 self.assertEqual(told_of(reports), one_story(reports))
-                openings = sum(len([it for it in (b"x", b"y") if b" call    write " + it in text]) for text in reports[1:])
+                openings = sum(len([it for it in (b"x", b"y") if b" call    write " + it in text])
+                               for text in reports[1:])
                 self.assertGreaterEqual(sum(it.count(b" call ") for it in reports), COUNT * CALLS)
                 self.assertLessEqual(sum(it.count(b" call ") for it in reports), COUNT * CALLS + openings)
 

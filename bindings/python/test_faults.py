@@ -35,8 +35,8 @@ class Calls(Hanging, unittest.TestCase):
 
     def test_what_is_no_operation_is_refused_and_nothing_has_changed(self):
         a, = self.begin(1)
-        for op in (Read("x"), Read(True), Read(-1), Read(2**16), Write("x", 1), Swap(None, 1), CompareAndSwap(0.0, 1, 2),
-                   "read x", None, 5):
+        for op in (Read("x"), Read(True), Read(-1), Read(2**16), Write("x", 1), Swap(None, 1),
+                   CompareAndSwap(0.0, 1, 2), "read x", None, 5):
             with self.subTest(op), self.assertRaises((Refused, TypeError)):
                 a.perform(op, 5)
         a.write("x", 5, 5)
@@ -51,7 +51,8 @@ class Calls(Hanging, unittest.TestCase):
 
     def test_a_disk_that_is_full_where_a_chapter_ends_is_told(self):
         full = OSError(28, "No space left on device")
-        for patched in (mock.patch.object(story, "keep", side_effect=full), mock.patch.object(LogFile, "begin", side_effect=full)):
+        for patched in (mock.patch.object(story, "keep", side_effect=full),
+                        mock.patch.object(LogFile, "begin", side_effect=full)):
             a, = self.begin(1, chapter_operations=3)
             with patched:
                 for value in range(1, 4):
@@ -62,7 +63,8 @@ class Calls(Hanging, unittest.TestCase):
 
     def test_a_call_that_is_held_back_goes_on_whatever_others_ask_for(self):
         a, = self.begin(1)
-        with mock.patch.object(CoreNode, "is_far_ahead", new_callable=mock.PropertyMock, return_value=True) as is_far_ahead:
+        with mock.patch.object(CoreNode, "is_far_ahead", new_callable=mock.PropertyMock,
+                               return_value=True) as is_far_ahead:
             call = self.programs.submit(a.write, "x", 1, 20)
             self.until(lambda: a._is_held_back)
             with self.assertRaises(Refused):
@@ -78,7 +80,8 @@ class Calls(Hanging, unittest.TestCase):
             a.write("x", value, 5)
         a.close()
         os.unlink(self.path(0))
-        with self.assertRaisesRegex(NodeFailed, r"0\.log\.1 is there already: resume it, or take a new one for a new cluster$"):
+        why = r"0\.log\.1 is there already: resume it, or take a new one for a new cluster$"
+        with self.assertRaisesRegex(NodeFailed, why):
             self.start(0)
         self.assertFalse(os.path.exists(self.path(0)))
 
@@ -172,7 +175,8 @@ class Roads(unittest.TestCase):
             DatagramRoad(0, free_addresses(2, "udp"), keys, print).close()
 
     def test_a_port_that_is_none_is_refused(self):
-        for addresses in (["udp://127.0.0.1:99999", "udp://127.0.0.1:7102"], ["udp://127.0.0.1:7101", "udp://127.0.0.1:99999"]):
+        for addresses in (["udp://127.0.0.1:99999", "udp://127.0.0.1:7102"],
+                          ["udp://127.0.0.1:7101", "udp://127.0.0.1:99999"]):
             with self.assertRaises(RoadFault):
                 DatagramRoad(0, addresses, None, print).close()
         for address in ("tcp://127.0.0.1:x", "udp://127.0.0.1:7102"):

@@ -98,7 +98,8 @@ def test_the_same_under_the_lock() -> None:
 
 
 READ = '{"process": "a", "type": "invoke", "f": "read"}\n{"process": "a", "type": "ok", "f": "read", "value": 0}\n'
-EDN = "[{:process 0, :type :invoke, :f :cas, :value [:x [0 1]]}\n #jepsen.history.Op{:process 0, :type :ok, :f :cas, :value [:x [0 1]]}]\n"
+EDN = ("[{:process 0, :type :invoke, :f :cas, :value [:x [0 1]]}\n"
+       " #jepsen.history.Op{:process 0, :type :ok, :f :cas, :value [:x [0 1]]}]\n")
 
 
 def test_texts_are_judged() -> None:
@@ -140,11 +141,13 @@ def test_what_is_no_history_is_refused() -> None:
     assert refusal([row, row]) == "refused: line 2: the process has a call under way"
     assert refusal([{**row, "process": True}]) == "refused: line 1: wanted process, an integer or a string"
     assert refusal([{**row, "value": 1.5}]) == "refused: line 1: wanted value, an integer, a string or null"
-    assert refusal([{**row, "f": "cas", "value": (1, 2, 3)}]) == "refused: line 1: wanted value, the expected value and the new one"
+    triple = {**row, "f": "cas", "value": (1, 2, 3)}
+    assert refusal([triple]) == "refused: line 1: wanted value, the expected value and the new one"
     assert refusal("{:process 0") == "refused: line 1: wanted the end of what is begun"
     assert refusal(b"\xff") == "refused: input: not text"
 
 
 def load_tests(*_: object) -> unittest.TestSuite:
     """The same for unittest."""
-    return unittest.TestSuite(unittest.FunctionTestCase(it) for name, it in globals().items() if name.startswith("test_"))
+    return unittest.TestSuite(
+        unittest.FunctionTestCase(it) for name, it in globals().items() if name.startswith("test_"))

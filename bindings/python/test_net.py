@@ -350,7 +350,8 @@ class Roads(unittest.TestCase):
     def test_loopback(self):
         for address in ("tcp://127.0.0.1:1", "tcp://127.9.9.9:1", "tcp://[::1]:1", "ipc://x"):
             self.assertTrue(road.is_loopback(address), address)
-        for address in ("udp://0.0.0.0:1", "tcp://0.0.0.0:1", "tcp://*:1", "tcp://10.0.0.1:1", "tcp://localhost.example:1", "tcp://[::]:1"):
+        for address in ("udp://0.0.0.0:1", "tcp://0.0.0.0:1", "tcp://*:1", "tcp://10.0.0.1:1",
+                        "tcp://localhost.example:1", "tcp://[::]:1"):
             self.assertFalse(road.is_loopback(address), address)
 
     def test_no_keys_no_network(self):
@@ -598,7 +599,8 @@ class Nodes(unittest.TestCase):
                 except (Busy, ValueError):
                     pass
 
-        threads = [threading.Thread(target=call, args=(1,)), threading.Thread(target=call, args=(10**6,)), threading.Thread(target=wait)]
+        threads = [threading.Thread(target=call, args=(1,)), threading.Thread(target=call, args=(10**6,)),
+                   threading.Thread(target=wait)]
         for it in threads:
             it.start()
         for it in threads:

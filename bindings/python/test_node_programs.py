@@ -36,7 +36,8 @@ class Cluster:
     def __init__(self, folder, front, seed, more="", rust=()):
         self.folder, self.front, self.seed, self.nodes = folder, front, seed, [None] * COUNT
         self.rust = rust  # the processes whose nodes are in Rust
-        self.write("cluster.toml", f'cluster = {seed + 1}\nfront = "{front}"\nregisters = ["x", "y"]\n{more}{self.places()}')
+        shape = f'cluster = {seed + 1}\nfront = "{front}"\nregisters = ["x", "y"]\n'
+        self.write("cluster.toml", f"{shape}{more}{self.places()}")
         words = random.Random(f"{front} {seed}")
         for me in range(COUNT):
             calls = []
@@ -92,7 +93,8 @@ class Cluster:
         return self.path(f"{me}.log" + (f".{chapter}" if chapter else ""))
 
     def merged(self, chapter=0):
-        return subprocess.run(self.program("merge", *(self.log(me, chapter) for me in range(COUNT))), cwd=HERE, capture_output=True)
+        logs = [self.log(me, chapter) for me in range(COUNT)]
+        return subprocess.run(self.program("merge", *logs), cwd=HERE, capture_output=True)
 
 
 class Changed(unittest.TestCase):
@@ -119,7 +121,8 @@ class Changed(unittest.TestCase):
         self.assertTrue(self.has_ended)
         told = [self.cluster.merged()]
         if RUST:
-            told.append(subprocess.run([RUST, "merge", *(self.cluster.log(me) for me in range(COUNT))], capture_output=True))
+            logs = [self.cluster.log(me) for me in range(COUNT)]
+            told.append(subprocess.run([RUST, "merge", *logs], capture_output=True))
         with open(self.cluster.log(1), "wb") as file:
             file.write(self.data)
         for it in told:
@@ -138,7 +141,8 @@ class Changed(unittest.TestCase):
         with open(self.cluster.log(1), "r+b") as file:
             file.seek(at)
             file.write(bytes([self.data[at] ^ 1]))
-        self.assertEqual(self.refused(), f"{self.cluster.log(1)}: line {line + 1}: changed, or a line before it is missing\n")
+        self.assertEqual(
+            self.refused(), f"{self.cluster.log(1)}: line {line + 1}: changed, or a line before it is missing\n")
 
     def test_a_reply_that_was_invented(self):
         place, line = next((at, it) for at, it in enumerate(self.lines) if " = value " in it)
@@ -239,7 +243,8 @@ class Sockets(unittest.TestCase):
 
     def run_client(self, program, path, lines):
         words = [*program, "client", path]
-        told = subprocess.run(words, cwd=HERE, input="".join(f"{it}\n" for it in lines), capture_output=True, text=True, timeout=60)
+        told = subprocess.run(words, cwd=HERE, input="".join(f"{it}\n" for it in lines), capture_output=True,
+                              text=True, timeout=60)
         return told.returncode, told.stdout.splitlines(), told.stderr
 
     def setUp(self):
@@ -254,7 +259,8 @@ class Sockets(unittest.TestCase):
 
     @contextlib.contextmanager
     def node(self, program, log, *more, shell='exec "$@"'):
-        words = [*program, "node", "--me", "0", "--config", self.at("c.toml"), "--log", self.at(log), "--socket", self.socket, *more]
+        words = [*program, "node", "--me", "0", "--config", self.at("c.toml"), "--log", self.at(log),
+                 "--socket", self.socket, *more]
         with subprocess.Popen(["bash", "-c", shell, "bash", *words], cwd=HERE, stderr=subprocess.DEVNULL) as node:
             try:
                 self.assertTrue(wait_until(lambda: os.path.exists(self.socket)))
@@ -268,12 +274,14 @@ class Sockets(unittest.TestCase):
         for k, program in enumerate(PROGRAMS):
             with self.node(program, f"{k}.log"):
                 for client in PROGRAMS:
-                    lines = ["swap x 5", "", "cas x 5 6", "cas x 5 7", "read x", "write x 0", "read y", "health", "metrics"]
+                    lines = ["swap x 5", "", "cas x 5 6", "cas x 5 7", "read x", "write x 0", "read y",
+                             "health", "metrics"]
                     status, out, err = self.run_client(client, self.socket, lines)
                     self.assertEqual((status, err), (0, ""))
                     self.assertEqual(out[:5], ["value 0", "done", "unequal", "value 6", "done"])
                     self.assertRegex(out[5], "^refused: no ")
-                    self.assertEqual((out[6], out[7], out[-1]), ("ok", "# TYPE tellwydar_operations_total counter", "# EOF"))
+                    self.assertEqual((out[6], out[7], out[-1]),
+                                     ("ok", "# TYPE tellwydar_operations_total counter", "# EOF"))
             self.assertEqual(self.status, 0)
             self.assertFalse(os.path.exists(self.socket))
             for client in PROGRAMS:

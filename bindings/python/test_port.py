@@ -30,17 +30,21 @@ def nested(count):
 
 # Calls of a register that is 0, one after another, and what nodes of both languages answer.
 ANSWERED = {
-    '{"f": "write", "key": "x", "value": 18446744073709551615}': '{"type": "ok", "f": "write", "key": "x", "value": 18446744073709551615}',
+    '{"f": "write", "key": "x", "value": 18446744073709551615}':
+        '{"type": "ok", "f": "write", "key": "x", "value": 18446744073709551615}',
     ' {"process": "a  b", "type": "invoke", "f": "read", "key": "x", "value": null, "at": [1e400, {}]} ':
         '{"type": "ok", "f": "read", "key": "x", "value": 18446744073709551615}',
     '{"value":5,"\\u006bey":"x","f":"swap"}': '{"type": "ok", "f": "swap", "key": "x", "value": 18446744073709551615}',
     '{"f": "cas", "key": "x", "value": [5, 6]}': '{"type": "ok", "f": "cas", "key": "x", "value": [5, 6]}',
-    '{"f": "cas", "key": "x", "value": [5, 7]}': '{"type": "fail", "f": "cas", "key": "x", "value": [5, 7], "error": "unequal"}',
+    '{"f": "cas", "key": "x", "value": [5, 7]}':
+        '{"type": "fail", "f": "cas", "key": "x", "value": [5, 7], "error": "unequal"}',
     '{"f": "read", "key": "x"}': '{"type": "ok", "f": "read", "key": "x", "value": 6}',
     # (brackets as deep as they may be)
-    '{"f": "write", "key": "x", "value": 0, "at": ' + nested(126) + "}": '{"type": "ok", "f": "write", "key": "x", "value": 0}',
+    '{"f": "write", "key": "x", "value": 0, "at": ' + nested(126) + "}":
+        '{"type": "ok", "f": "write", "key": "x", "value": 0}',
 }
-F, KEY, INTEGER = "f, one of read, write, swap and cas", "key, the name of a register", "an integer from 0 to 18446744073709551615"
+F, KEY = "f, one of read, write, swap and cas", "key, the name of a register"
+INTEGER = "an integer from 0 to 18446744073709551615"
 PAIR = f"an array of two, each {INTEGER}"
 # Objects that are no calls, and what is wanted.
 WANTED = {
@@ -107,9 +111,9 @@ class Ports(unittest.TestCase):
 
     def test_each_line_is_answered(self):
         calls = {
-            "write x 5": "done", "read x": "value 5", "cas x 5 6": "done", "cas x 5 7": "unequal", " swap x  8 ": "value 6",
-            "read z": "refused: no register", "write x": "refused: no call", "write x -1": "refused: -1 is no number of 64 bits",
-            "add x 1": "refused: no call", "health": "ok",
+            "write x 5": "done", "read x": "value 5", "cas x 5 6": "done", "cas x 5 7": "unequal",
+            " swap x  8 ": "value 6", "read z": "refused: no register", "write x": "refused: no call",
+            "write x -1": "refused: -1 is no number of 64 bits", "add x 1": "refused: no call", "health": "ok",
         }
         with Port(self.node, self.path):
             self.assertEqual(self.told(*calls), list(calls.values()))
@@ -118,7 +122,8 @@ class Ports(unittest.TestCase):
             self.assertIn("# TYPE tellwydar_operations_total counter\ntellwydar_operations_total 5\n", metrics)
             self.assertTrue(metrics.endswith("\n# EOF"))
             self.assertEqual(json.loads(status), {
-                "process": 0, "front": "linear", "chapter": 0, "operations": 5, "entries": 5, "running": False, "peers": [],
+                "process": 0, "front": "linear", "chapter": 0, "operations": 5, "entries": 5, "running": False,
+                "peers": [],
             })
             long = self.told("write x " + "1" * 4100)
             self.assertEqual(long, ["refused: a line is too long"])
@@ -132,7 +137,8 @@ class Ports(unittest.TestCase):
         with Port(self.node, self.path):
             for line, answer in REFUSED.items():
                 self.assertEqual(self.told(line), [answer], line)
-            self.assertEqual(self.told(call("read", "x", None)), ['{"type": "ok", "f": "read", "key": "x", "value": 0}'])
+            self.assertEqual(self.told(call("read", "x", None)),
+                             ['{"type": "ok", "f": "read", "key": "x", "value": 0}'])
         self.assertEqual(self.node.so_far(), (1, False))
 
     def test_programs_take_turns(self):
@@ -150,7 +156,8 @@ class Ports(unittest.TestCase):
             last, = self.told("read x")
         # each value was there once, and was swapped away but for the last one
         values = [it for one in found for it in one] + [last]
-        self.assertEqual(sorted(values), sorted(["value 0", *(f"value {100 * p + k + 1}" for p in range(4) for k in range(50))]))
+        written = [f"value {100 * p + k + 1}" for p in range(4) for k in range(50)]
+        self.assertEqual(sorted(values), sorted(["value 0", *written]))
 
     def test_a_socket_that_is_taken_is_refused_and_one_that_was_left_is_not(self):
         with Port(self.node, self.path):
@@ -183,7 +190,8 @@ class Ports(unittest.TestCase):
             self.assertEqual(json.loads(answer), {"type": "info", "f": "write", "key": "x", "value": 2, "error": full})
             # (the node has stopped, and calls nothing more)
             answer, words = self.told(call("cas", "x", [1, 2]), "write x 3")
-            self.assertEqual(json.loads(answer), {"type": "fail", "f": "cas", "key": "x", "value": [1, 2], "error": full})
+            self.assertEqual(json.loads(answer),
+                             {"type": "fail", "f": "cas", "key": "x", "value": [1, 2], "error": full})
             self.assertEqual(words, f"refused: {full}")
             # (how it is, it doesn't tell either: that is one line too)
             asked = threading.Thread(target=lambda: found.extend(self.told("metrics", "health")), daemon=True)
@@ -248,7 +256,8 @@ class Ends(unittest.TestCase):
         def calls(p):
             for k in range(0, 40, 4):
                 value = 100 * p + k
-                yield from (("write", "x", value), ("read", "x", None), ("cas", "x", [value, value + 1]), ("swap", "x", value + 2))
+                yield from (("write", "x", value), ("read", "x", None), ("cas", "x", [value, value + 1]),
+                            ("swap", "x", value + 2))
 
         for it in [self.programs.submit(self.play, p, p, *calls(p)) for p in (0, 1)]:
             it.result(60)
@@ -269,8 +278,11 @@ class Ends(unittest.TestCase):
         # (one that comes behind it is never called)
         behind = self.asked(0, call("read", "x", None))
         _, refused = self.end(*here, program, behind)
-        self.assertEqual(self.rows[-1], {"process": 0, "type": "info", "f": "write", "key": "x", "value": 2, "error": "the node ends"})
-        self.assertEqual(refused, ['{"type": "fail", "f": "read", "key": "x", "value": null, "error": "the node ends"}'])
+        self.assertEqual(self.rows[-1], {
+            "process": 0, "type": "info", "f": "write", "key": "x", "value": 2, "error": "the node ends",
+        })
+        self.assertEqual(
+            refused, ['{"type": "fail", "f": "read", "key": "x", "value": null, "error": "the node ends"}'])
         # it goes on where the node is resumed, and the next call waits for it, and has an answer of its own
         self.start(0, resume=True), self.start(1, resume=True)
         self.play(0, 0, ("swap", "x", 3))
@@ -317,7 +329,8 @@ class Ends(unittest.TestCase):
         time.sleep(0.3)
         self.start(1, resume=True)
         why = "the log was lost: process 1 accepted 2 bodies, and it has 1"
-        self.assertEqual(waiting.result(20), [json.dumps({"type": "fail", "f": "write", "key": "x", "value": 3, "error": why})])
+        failed = {"type": "fail", "f": "write", "key": "x", "value": 3, "error": why}
+        self.assertEqual(waiting.result(20), [json.dumps(failed)])
 
 
 if __name__ == "__main__":

@@ -123,7 +123,8 @@ class Programs(unittest.TestCase):
     def test_keys_that_are_none_are_refused_and_no_log_is_begun(self):
         public, secret = (it.decode() for it in road.new_keys())
         for k, program in enumerate(PROGRAMS):
-            for known, own in ((public, "~" * 40), (public, "a" * 39), (public, ""), ("~" * 40, secret), ("a" * 35, secret)):
+            for known, own in ((public, "~" * 40), (public, "a" * 39), (public, ""), ("~" * 40, secret),
+                               ("a" * 35, secret)):
                 nodes = zip(self.addresses, (public, known if known != public else road.new_keys()[0].decode()))
                 self.config("".join(f'[[node]]\naddress = "{address}"\nkey = "{key}"\n' for address, key in nodes), 0)
                 os.chmod(self.write("0.secret", own + "\n"), 0o600)
@@ -144,7 +145,8 @@ class Programs(unittest.TestCase):
             for seconds in ("1e19", "inf", "1e300", "nan", "-1"):
                 self.write("script", f"sleep {seconds}\n")
                 with self.subTest(seconds):
-                    line = self.refused(program, self.words(program, f"{k}.{seconds}.log", "--script", self.at("script")))
+                    words = self.words(program, f"{k}.{seconds}.log", "--script", self.at("script"))
+                    line = self.refused(program, words)
                     self.assertIn("line 1: ", line)
 
     def test_answers_that_nobody_takes_end_a_program_with_one_line(self):
@@ -155,7 +157,8 @@ class Programs(unittest.TestCase):
             self.refused(program, self.words(program, log, "--script", self.at("script")), shell=shell)
             self.refused(program, [*program, "merge", self.at(log)], shell=shell)
             self.refused(program, [*program, "keys", self.at(f"{k}.secret")], shell=shell)
-            self.refused(program, [*program, "merge", self.at(log)], shell='(sleep 0.2; exec "$@") | true; exit ${PIPESTATUS[0]}')
+            self.refused(program, [*program, "merge", self.at(log)],
+                         shell='(sleep 0.2; exec "$@") | true; exit ${PIPESTATUS[0]}')
             report = self.start([*program, "merge", self.at(log)], shell='exec "$@" >&-')
             self.assertEqual(self.ended(report)[:2], (0, ""))
 
@@ -188,7 +191,8 @@ class Programs(unittest.TestCase):
         for k, program in enumerate(PROGRAMS):
             path = self.at(f"{k}.socket")
             # (the log has no more than 1,024 bytes)
-            node = self.start(self.words(program, f"{k}.log", "--socket", path), shell='ulimit -f 1; trap "" XFSZ; exec "$@"')
+            node = self.start(self.words(program, f"{k}.log", "--socket", path),
+                              shell='ulimit -f 1; trap "" XFSZ; exec "$@"')
             self.assertTrue(wait_until(lambda: is_open(path)))
             for value in range(100):
                 answer, = told(path, f"write x {value}")
@@ -207,11 +211,13 @@ class Programs(unittest.TestCase):
             path = self.at(f"{k}.socket")
             node = self.start(self.words(program, f"{k}.log", "--socket", path))
             self.assertTrue(wait_until(lambda: is_open(path)))
-            for line in ("write x 1_000", "write x \u0663", "write x \uff15", "write x 1e3", "write x 5.0", "write x 0x5", "write x --5"):
+            for line in ("write x 1_000", "write x \u0663", "write x \uff15", "write x 1e3", "write x 5.0",
+                         "write x 0x5", "write x --5"):
                 self.assertRegex(told(path, line)[0], "^refused: ", line)
             self.assertEqual(told(path, "write x +7", "swap x 007", "read x"), ["done", "value 7", "value 7"])
             for client in PROGRAMS:
-                asked = subprocess.run([*client, "client", path], input=b"read \xff\nread x\n", cwd=HERE, capture_output=True)
+                asked = subprocess.run([*client, "client", path], input=b"read \xff\nread x\n", cwd=HERE,
+                                       capture_output=True)
                 first, second = asked.stdout.decode().splitlines()
                 self.assertRegex(first, "^refused: ")
                 self.assertEqual((second, asked.returncode, asked.stderr), ("value 7", 0, b""))

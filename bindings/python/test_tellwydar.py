@@ -8,7 +8,9 @@ import threading
 import unittest
 
 import tellwydar
-from tellwydar import UNEQUAL, Answered, Called, CompareAndSwap, Fault, Front, Known, Process, Read, Refused, Swap, World, Write
+from tellwydar import (
+    UNEQUAL, Answered, Called, CompareAndSwap, Fault, Front, Known, Process, Read, Refused, Swap, World, Write,
+)
 
 EXAMPLES = os.path.join(os.path.dirname(os.path.abspath(__file__)), "../../examples")
 
@@ -103,15 +105,18 @@ class Tests(unittest.TestCase):
             with World(front, 1, 1) as world:
                 self.assertEqual(world.call(0, CompareAndSwap(0, 0, 5)), tellwydar.Reply(None, 0))
                 self.assertEqual(world.call(0, CompareAndSwap(0, 0, 2**64 - 1)), tellwydar.Reply(UNEQUAL, 1))
-                self.assertEqual(world.history()[2:], [Called(1, 0, 1, CompareAndSwap(0, 0, 2**64 - 1)), Answered(1, 0, 1, UNEQUAL)])
+                self.assertEqual(world.history()[2:], [Called(1, 0, 1, CompareAndSwap(0, 0, 2**64 - 1)),
+                                                       Answered(1, 0, 1, UNEQUAL)])
                 tellwydar.check_serial(1, 1, world.history(), world.serial_order())
                 with self.assertRaisesRegex(Refused, "no register"):
                     world.call(0, CompareAndSwap(1, 0, 5))
-        history = [Called(0, 0, 0, CompareAndSwap(0, 0, 5)), Answered(1, 0, 0, None), Called(2, 1, 0, CompareAndSwap(0, 5, 6)), Answered(3, 1, 0, UNEQUAL)]
+        history = [Called(0, 0, 0, CompareAndSwap(0, 0, 5)), Answered(1, 0, 0, None),
+                   Called(2, 1, 0, CompareAndSwap(0, 5, 6)), Answered(3, 1, 0, UNEQUAL)]
         self.assertEqual(fault_of(tellwydar.check_serial, 2, 1, history, [(0, 0), (1, 0)]), "answer at 1")
         self.assertEqual(fault_of(tellwydar.check_points, 2, 1, history, [(0, 0, 0), (1, 0, 2)]), "answer at 1")
         self.assertRaises(ValueError, tellwydar.check_serial, 2, 1, [Called(0, 0, 0, CompareAndSwap(0, -1, 5))], [])
-        cast = bytes.fromhex("00260401" + "0" * 16 + "01" + "0" * 14 + "01" + "04" + "0000" + "0" * 16 + "0" * 14 + "05")
+        cast = bytes.fromhex(
+            "00260401" + "0" * 16 + "01" + "0" * 14 + "01" + "04" + "0000" + "0" * 16 + "0" * 14 + "05")
         with Process(Front.LINEAR, 2, 1, 0) as writer:
             self.assertIsNone(writer.call(CompareAndSwap(0, 0, 5)))
             self.assertEqual(writer.frames(), [(1, cast)])
@@ -157,13 +162,18 @@ class Tests(unittest.TestCase):
                     me, sender, register = words.randrange(n), words.randrange(n), words.randrange(2)
                     event = words.choice(["call", "tick", "take", "take", "take"])
                     if event == "call":
-                        op = words.choice([Read(register), Write(register, words.getrandbits(64)), Swap(register, words.getrandbits(64)), CompareAndSwap(register, words.randrange(2), words.randrange(2))])
+                        op = words.choice([
+                            Read(register), Write(register, words.getrandbits(64)),
+                            Swap(register, words.getrandbits(64)),
+                            CompareAndSwap(register, words.randrange(2), words.randrange(2)),
+                        ])
                         steps = [lambda: world.call(me, op), lambda: processes[me].call(op)]
                     elif event == "tick":
                         steps = [lambda: world.tick(me), processes[me].tick]
                     elif wires[sender][me]:
                         place = words.randrange(max(0, len(wires[sender][me]) - 6), len(wires[sender][me]))
-                        steps = [lambda: world.take(sender, me, place), lambda: processes[me].take(sender, wires[sender][me][place])]
+                        steps = [lambda: world.take(sender, me, place),
+                                 lambda: processes[me].take(sender, wires[sender][me][place])]
                     else:
                         continue
                     told = []

@@ -44,13 +44,15 @@ class Killed(Cluster):
                 file.write(secret)
 
     def call(self, me, number):
-        op, register, value = self.words.choice(["read", "write", "swap", "cas"]), self.words.choice("xy"), me * 1_000_000 + number + 1
+        op, register = self.words.choice(["read", "write", "swap", "cas"]), self.words.choice("xy")
+        value = me * 1_000_000 + number + 1
         given = {"read": "", "cas": f" {self.words.choice([0, value - 1])} {value}"}
         return f"{op} {register}{given.get(op, f' {value}')}\n"
 
     def places(self):
         nodes = zip(free_addresses(COUNT, self.scheme), self.keys or [None] * COUNT)
-        return "".join(f'[[node]]\naddress = "{address}"\n' + (f'key = "{key[0].decode()}"\n' if key else "") for address, key in nodes)
+        return "".join(f'[[node]]\naddress = "{address}"\n' + (f'key = "{key[0].decode()}"\n' if key else "")
+                       for address, key in nodes)
 
     def around(self, me):
         return [], [*self.given, *(["--secret", self.path(f"{me}.secret")] if self.keys else [])]
@@ -84,7 +86,8 @@ class Killed(Cluster):
         """Whose printed answers, or calls, aren't those of the reports."""
         for me in range(COUNT):
             entries = [it.split() for it in b"".join(reports).decode().split("\n") if f"  p{me} " in it]
-            called, answers = sum(it[3] == "call" for it in entries), [" ".join(it[4:]) for it in entries if it[3] == "answer"]
+            called = sum(it[3] == "call" for it in entries)
+            answers = [" ".join(it[4:]) for it in entries if it[3] == "answer"]
             if called < self.calls:
                 return f"process {me} called {called} of {self.calls}"
             if not is_part([it for it in self.answers(me) if it != "end"], answers):
@@ -149,7 +152,8 @@ def main():
             why, count = run(cluster, pauses)
             kills, chapters, odd = kills + cluster.kills, chapters + count, odd + bool(why)
             if why:
-                print(f"seed {seed}, {cluster.front} over {cluster.scheme}, in Rust {sorted(cluster.rust)}: {why}", flush=True)
+                print(f"seed {seed}, {cluster.front} over {cluster.scheme}, in Rust {sorted(cluster.rust)}: {why}",
+                      flush=True)
     print(f"{runs - odd} runs well, {odd} not; {kills} kills, {chapters} chapters, {time.monotonic() - started:.0f} s")
     return 1 if odd else 0
 

@@ -69,7 +69,8 @@ class Cable:
                     self.lost += 1
                     continue
                 for again in range(2 if self.random.random() < REPEATS else 1):
-                    heapq.heappush(self.late, (time.monotonic() + self.random.uniform(*SECONDS), self.seen * 2 + again, other, frame))
+                    due = time.monotonic() + self.random.uniform(*SECONDS)
+                    heapq.heappush(self.late, (due, self.seen * 2 + again, other, frame))
 
     def close(self):
         self.is_closed = True
@@ -94,8 +95,8 @@ class Nodes(Cluster):
                 file.write(secret)
 
     def places(self):
-        nodes = (f'[[node]]\naddress = "{self.scheme}://{address(me)}:7101"\nkey = "{key.decode()}"\n' for me, (key, _) in enumerate(self.keys))
-        return "".join(nodes)
+        return "".join(f'[[node]]\naddress = "{self.scheme}://{address(me)}:7101"\nkey = "{key.decode()}"\n'
+                       for me, (key, _) in enumerate(self.keys))
 
     def around(self, me):
         return ["ip", "netns", "exec", self.cable.names[me]], ["--secret", self.path(f"{me}.secret")]
@@ -128,7 +129,8 @@ def main(words):
             why = run(front, scheme, cable, {at % COUNT} if RUST else set(), seconds)
             odd += bool(why)
             lost, seen = cable.lost - before[0], cable.seen - before[1]
-            print(f"{front} over {scheme}: {why or 'a run'}, {time.monotonic() - started:.1f} s, {lost} of {seen} frames lost", flush=True)
+            print(f"{front} over {scheme}: {why or 'a run'}, {time.monotonic() - started:.1f} s, "
+                  f"{lost} of {seen} frames lost", flush=True)
     finally:
         cable.close()
     return 1 if odd else 0

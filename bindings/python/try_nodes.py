@@ -66,14 +66,17 @@ def run(seed, folder):
     front, scheme = words.choice(core.FRONTS), words.choice(["tcp", "udp"])
     each = words.randint(2, 10 if count < 8 else 3)
     short = words.choice([4, 6, 65_000])
-    loss, repeats, reorder, delay = words.choice([(0, 0, 0, 0), (0.2, 0.1, 0.2, 0.001), (0.3, 0.2, 0.3, 0), (0.05, 0, 0.3, 0.003)])
+    loss, repeats, reorder, delay = words.choice([
+        (0, 0, 0, 0), (0.2, 0.1, 0.2, 0.001), (0.3, 0.2, 0.3, 0), (0.05, 0, 0.3, 0.003),
+    ])
     lossy = (lambda road: LossyRoad(road, seed, loss, repeats, reorder, delay)) if loss else None
     addresses = free_addresses(count, scheme)
     paths = [os.path.join(folder, f"{p}.log") for p in range(count)]
     of = {"cluster": seed + 1, "lossy": lossy, "say": lambda _: None, "chapter_operations": short}
     nodes = [Node(front, ["x", "y"], p, addresses, None, paths[p], **of) for p in range(count)]
     answers = [[] for _ in range(count)]
-    threads = [threading.Thread(target=perform, args=(node, calls_of(words, p, each), answers[p])) for p, node in enumerate(nodes)]
+    threads = [threading.Thread(target=perform, args=(node, calls_of(words, p, each), answers[p]))
+               for p, node in enumerate(nodes)]
     for it in threads:
         it.start()
     for it in threads:
@@ -112,7 +115,8 @@ def main(words):
             odd += 1
             print(f"seed {seed}: {why}", flush=True)
         if (seed - first + 1) % 50 == 0:
-            print(f"{seed - first + 1} runs, {chapters} chapters, {odd} not well, {time.monotonic() - started:.0f} s", flush=True)
+            print(f"{seed - first + 1} runs, {chapters} chapters, {odd} not well, "
+                  f"{time.monotonic() - started:.0f} s", flush=True)
     print(f"{runs - odd} runs well, {odd} not")
     return 1 if odd else 0
 

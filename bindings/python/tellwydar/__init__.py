@@ -49,19 +49,24 @@ def _load() -> Tuple[ctypes.CDLL, Any]:
     if not os.path.exists(path):
         raise ImportError(f"{path} isn't there: `tools/install --library` makes it, and TELLWYDAR_LIB names its folder")
     library = ctypes.CDLL(path)
-    u8, u16, u32, u64, size, handle = ctypes.c_uint8, ctypes.c_uint16, ctypes.c_uint32, ctypes.c_uint64, ctypes.c_size_t, ctypes.c_void_p
-    room = ctypes.c_char_p
+    u8, u16, u32, u64 = ctypes.c_uint8, ctypes.c_uint16, ctypes.c_uint32, ctypes.c_uint64
+    size, handle, room = ctypes.c_size_t, ctypes.c_void_p, ctypes.c_char_p
     for word in ("replay", "check", "play", "play_fair", "merge", "story", "verify"):
         call = getattr(library, f"tellwydar_{word}")
         call.restype, call.argtypes = u8, [room, size, room, size, room, size, ctypes.POINTER(_Lengths)]
     library.tellwydar_judge.restype = u8
     library.tellwydar_judge.argtypes = [room, size, u8, room, size, room, size, ctypes.POINTER(_Lengths)]
     library.tellwydar_judge_from.restype = u8
-    library.tellwydar_judge_from.argtypes = [room, size, room, size, u8, room, size, room, size, ctypes.POINTER(_Lengths)]
+    library.tellwydar_judge_from.argtypes = [
+        room, size, room, size, u8, room, size, room, size, ctypes.POINTER(_Lengths),
+    ]
     for word, row in (("serial", _Id), ("points", _Point)):
         call = getattr(library, f"tellwydar_check_{word}_expecting")
         call.restype = u32
-        call.argtypes = [u32, u32, ctypes.POINTER(_Entry), size, ctypes.POINTER(u64), size, ctypes.POINTER(row), size, ctypes.POINTER(size)]
+        call.argtypes = [
+            u32, u32, ctypes.POINTER(_Entry), size, ctypes.POINTER(u64), size, ctypes.POINTER(row), size,
+            ctypes.POINTER(size),
+        ]
     for word, result, given in (
         ("new", u32, [u32, u32, u32, ctypes.POINTER(handle)]),
         ("step", u32, [handle, u32, u8, u32, u8, u64]),
@@ -279,7 +284,8 @@ def _rows(entries: Sequence[Entry]) -> "ctypes.Array[_Entry]":
     return rows
 
 
-def _judge(call: Callable[..., int], processes: int, registers: int, entries: Sequence[Entry], rows: Any, count: int) -> None:
+def _judge(call: Callable[..., int], processes: int, registers: int, entries: Sequence[Entry], rows: Any,
+           count: int) -> None:
     place = ctypes.c_size_t()
     given = (_rows(entries), len(entries), _expected(entries), len(entries), rows, count)
     code = call(_ranged(processes, 32), _ranged(registers, 32), *given, ctypes.byref(place))
@@ -296,7 +302,8 @@ def check_serial(processes: int, registers: int, history: Sequence[Entry], order
     _judge(_library.tellwydar_check_serial_expecting, processes, registers, history, rows, len(order))
 
 
-def check_points(processes: int, registers: int, history: Sequence[Entry], points: Sequence[Tuple[int, int, int]]) -> None:
+def check_points(processes: int, registers: int, history: Sequence[Entry],
+                 points: Sequence[Tuple[int, int, int]]) -> None:
     """Raises a `Fault` unless the points, each of process, number and event, are a point order of the history:
     linearizability (Herlihy and Wing 1990)."""
     rows = (_Point * max(1, len(points)))()
@@ -320,7 +327,8 @@ class Refused(Exception):
 
 _REFUSALS: Dict[int, str] = {
     16: "failed", 17: "too many events", 18: "no process", 19: "busy", 20: "no register", 21: "too many operations",
-    22: "no frame", 23: "out of memory", 24: "ahead", 25: "stale", 26: "clock full", 32: "no event", 33: "closed", 34: "no shape", 35: "no front", 48: "not a frame",
+    22: "no frame", 23: "out of memory", 24: "ahead", 25: "stale", 26: "clock full", 32: "no event", 33: "closed",
+    34: "no shape", 35: "no front", 48: "not a frame",
 }
 
 
@@ -385,7 +393,8 @@ class World(_Handle):
 
     def __init__(self, front: Front, processes: int, registers: int):
         self.front = Front(front)
-        super().__init__(_library.tellwydar_world_new, _library.tellwydar_world_close, self.front, _ranged(processes, 32), _ranged(registers, 32))
+        super().__init__(_library.tellwydar_world_new, _library.tellwydar_world_close, self.front,
+                         _ranged(processes, 32), _ranged(registers, 32))
 
     def __enter__(self) -> "World":
         return self

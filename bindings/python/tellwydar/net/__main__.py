@@ -112,7 +112,8 @@ def run_node(a: argparse.Namespace) -> None:
         if a.socket:
             opened.enter_context(port.Port(node, a.socket))
         if not node.sync:
-            say("without --sync a crash of the machine may lose entries that others have seen; a crash of this program loses none")
+            say("without --sync a crash of the machine may lose entries that others have seen; "
+                "a crash of this program loses none")
         if a.script:
             threading.Thread(target=run, args=(node, lines), daemon=True).start()
         signal.sigwait(ENDS)
@@ -143,7 +144,8 @@ def make_keys(a: argparse.Namespace) -> None:
 
 
 def parser() -> argparse.ArgumentParser:
-    whole = argparse.ArgumentParser(prog="python3 -m tellwydar.net", description=__doc__, formatter_class=argparse.RawDescriptionHelpFormatter)
+    whole = argparse.ArgumentParser(prog="python3 -m tellwydar.net", description=__doc__,
+                                    formatter_class=argparse.RawDescriptionHelpFormatter)
     sub = whole.add_subparsers(required=True)
     p = sub.add_parser("node", help="runs a node until SIGTERM or SIGINT")
     p.set_defaults(run=run_node)
@@ -162,7 +164,8 @@ def parser() -> argparse.ArgumentParser:
     p.add_argument("socket")
     p = sub.add_parser("merge", help="prints the report of the run that the logs are")
     p.set_defaults(run=merge)
-    p.add_argument("--cut", action="store_true", help="where no order has all entries, the report of those that one has")
+    p.add_argument("--cut", action="store_true",
+                   help="where no order has all entries, the report of those that one has")
     p.add_argument("logs", nargs="+")
     p = sub.add_parser("story", help="checks that the reports of chapters, in their order, are one story")
     p.set_defaults(run=lambda a: tell_story(a.reports))

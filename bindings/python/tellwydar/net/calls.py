@@ -16,7 +16,10 @@ _NAMES = {op: name for name, op in _OPS.items()}
 _COUNTS = {"read": 0, "write": 1, "swap": 1, "cas": 2}  # how many values a call has
 _DEEPEST = 127  # so many brackets stand within one another at most, as in what the judge reads
 _INTEGER = f"integer from 0 to {2**64 - 1}"
-_WANTED = {"read": "null or nothing", "write": f"an {_INTEGER}", "swap": f"an {_INTEGER}", "cas": f"an array of two, each an {_INTEGER}"}
+_WANTED = {
+    "read": "null or nothing", "write": f"an {_INTEGER}", "swap": f"an {_INTEGER}",
+    "cas": f"an array of two, each an {_INTEGER}",
+}
 
 
 class End(NamedTuple):

@@ -258,7 +258,8 @@ class Node:
         assert isinstance(old, int)
         return old
 
-    def compare_and_swap(self, register: Union[str, int], expected: int, value: int, timeout: Optional[float] = None) -> bool:
+    def compare_and_swap(self, register: Union[str, int], expected: int, value: int,
+                         timeout: Optional[float] = None) -> bool:
         """Writes the value where the expected one is there, and tells whether it was."""
         return self.perform(CompareAndSwap(self._register(register), expected, value), timeout) is None
 

@@ -188,7 +188,8 @@ class Road(Bell):
         for p, socket in self.push.items():
             socket.set(zmq.IMMEDIATE, 1)  # nothing is kept for a peer that isn't there
             if keys is not None:
-                socket.curve_secretkey, socket.curve_publickey, socket.curve_serverkey = keys.secret, keys.known[me], keys.known[p]
+                socket.curve_secretkey, socket.curve_publickey = keys.secret, keys.known[me]
+                socket.curve_serverkey = keys.known[p]
             _at(addresses[p], socket.connect)
 
     def send(self, to: int, message: bytes) -> None:
@@ -240,7 +241,8 @@ class LossyRoad:
     """A road for tests: each message is lost, sent twice, kept back after the next one, or late, as
     the words of a seed say."""
 
-    def __init__(self, road: Any, seed: int, loss: float = 0.0, duplicates: float = 0.0, reorder: float = 0.0, delay: float = 0.0):
+    def __init__(self, road: Any, seed: int, loss: float = 0.0, duplicates: float = 0.0, reorder: float = 0.0,
+                 delay: float = 0.0):
         self.road, self.random = road, random.Random(seed)
         self.loss, self.duplicates, self.reorder, self.delay = loss, duplicates, reorder, delay
         self.kept: Dict[int, bytes] = {}
