@@ -168,7 +168,8 @@ test("a text is run under a table where it is a schedule, and else looked at as 
   const data = told(JSON.stringify(TWO_WRITES)), schedule = told("a schedule: 2 events\n");
   const seen = { kind: "schedule", why: "a schedule, run under table 4", told: TWO_WRITES, refusal: "", table: 4 };
   assert.deepEqual(await look("both take it", { why: schedule, "data-under/4": data }), seen);
-  assert.deepEqual(await look("the named one refuses it", { why: told("event 1: busy\n"), "data-under/4": data }), seen);
+  const busy = told("event 1: busy\n");
+  assert.deepEqual(await look("the named one refuses it", { why: busy, "data-under/4": data }), seen);
   assert.deepEqual(await look("the table refuses it", { why: schedule, "data-under/4": told("", "event 1: busy\n") }),
     { ...seen, told: null, refusal: "event 1: busy" });
   assert.deepEqual(asked, Array(3).fill(["/run/why", "/run/data-under/4"]).flat());

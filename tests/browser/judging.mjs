@@ -13,7 +13,9 @@ export const triesOfJudging = ({ session, browser }) => ({
   async "a report is judged by its history, and drawn"() {
     await session.open(fragment(example("stale-linear.report")));
     const told = await session.inside("#no-run");
-    assert.match(told, /points no: falling at 1[^]*register x: not linearizable\s+by event 4: p1 #0 read x: value 0\s+possible: value 5/);
+    const wanted =
+      /points no: falling at 1[^]*register x: not linearizable\s+by event 4: p1 #0 read x: value 0\s+possible: value 5/;
+    assert.match(told, wanted);
     assert.equal(await session.count("#no-run .bars .lasting"), 2);
     const text = selector => browser.value(`document.querySelector("#no-run ${selector}").textContent`);
     assert.equal(await text(".bars .refused text"), "read x: value 0");
@@ -24,8 +26,9 @@ export const triesOfJudging = ({ session, browser }) => ({
   async "lines of JSON are judged by a report, which becomes the text"() {
     await session.open(fragment(LINES));
     assert.match(await session.inside("#verdict"), /^lines of JSON: 7 events of 3 processes at 1 key$/);
-    assert.match(await session.inside("#no-run"),
-      /register x: not linearizable\s+by line 7: p2 #1 read x: value 1\s+possible: value 2\s+under way line 3: p1 #0 write x 2/);
+    const refused = /register x: not linearizable\s+by line 7: p2 #1 read x: value 1\s+possible: value 2\s+/;
+    const underWay = /under way line 3: p1 #0 write x 2/;
+    assert.match(await session.inside("#no-run"), new RegExp(refused.source + underWay.source));
     await session.click("#as-report");
     assert.match(await session.text(), /^awreg report 2\nfront observed\nprocesses 3\n/);
     assert.match(await session.inside("#no-run"), /by event 6: p2 #1 read x: value 1/);
