@@ -59,7 +59,8 @@ def run_aloud(what, words, **more):
     """Runs a command as `subprocess.run` does, and keeps what it prints. Each ten seconds a line on standard error says
     what it is at, and for how long."""
     started = time.monotonic()
-    with subprocess.Popen(words, text=True, errors="replace", **{"stdout": subprocess.PIPE, "stderr": subprocess.PIPE, **more}) as running:
+    given = {"stdout": subprocess.PIPE, "stderr": subprocess.PIPE, **more}
+    with subprocess.Popen(words, text=True, errors="replace", **given) as running:
         while True:
             try:
                 output, errors = running.communicate(timeout=SECONDS)
