@@ -38,8 +38,8 @@ struct tellwydar_lengths {
 };
 
 /* Each takes a text and two rooms, and puts as much of the answer and of the line of a fault into them as they take. A
- * room may have the length 0: call again with room for `lengths`. The result is the status: 0, or 1 where something
- * was refused or judged no. */
+ * room may have the length 0: call again with room for `lengths`. The result is the status: 0, or 1 where something was
+ * refused or judged no. */
 
 /* A schedule: the answer is the report of its run. */
 uint8_t tellwydar_replay(const uint8_t *text, size_t text_length, uint8_t *output, size_t output_length,
@@ -57,8 +57,8 @@ uint8_t tellwydar_play_fair(const uint8_t *text, size_t text_length, uint8_t *ou
 uint8_t tellwydar_verify(const uint8_t *text, size_t text_length, uint8_t *output, size_t output_length,
                          uint8_t *errors, size_t errors_length, struct tellwydar_lengths *lengths);
 /* A record whose steps stand in any order, those of each process in their own one, as `awshow merge` reads it: the
- * answer is the record of the same steps in an order that is a run. If there is none, the line names a step that no
- * run of first steps has. */
+ * answer is the record of the same steps in an order that is a run. If there is none, the line names a step that no run
+ * of first steps has. */
 uint8_t tellwydar_merge(const uint8_t *text, size_t text_length, uint8_t *output, size_t output_length, uint8_t *errors,
                         size_t errors_length, struct tellwydar_lengths *lengths);
 /* The reports of chapters, one behind another, as `awshow story` reads them: with status 0 they are one story.
