@@ -61,11 +61,18 @@ impl Display for Word {
 #[derive(Clone, Debug, PartialEq, Eq, Hash)]
 pub enum Call {
     Read,
-    Write { value: Word },
+    Write {
+        value: Word,
+    },
     /// Writes, and answers what was there.
-    Swap { value: Word },
+    Swap {
+        value: Word,
+    },
     /// Writes if the expected value is there, and answers whether it was.
-    CompareAndSwap { expected: Word, value: Word },
+    CompareAndSwap {
+        expected: Word,
+        value: Word,
+    },
 }
 
 /// What a client is told of its call.

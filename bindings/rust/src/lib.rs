@@ -48,12 +48,24 @@ pub use worlds::{Event, Front, Linear, LocalRead, LocalWrite, RealTime, Refused,
 /// What a process calls.
 #[derive(Clone, Copy, Debug, PartialEq, Eq, Hash)]
 pub enum Op {
-    Read { register: u16 },
-    Write { register: u16, value: u64 },
+    Read {
+        register: u16,
+    },
+    Write {
+        register: u16,
+        value: u64,
+    },
     /// Writes, and answers what was there.
-    Swap { register: u16, value: u64 },
+    Swap {
+        register: u16,
+        value: u64,
+    },
     /// Writes where the expected value is there, and answers whether it was.
-    CompareAndSwap { register: u16, expected: u64, value: u64 },
+    CompareAndSwap {
+        register: u16,
+        expected: u64,
+        value: u64,
+    },
 }
 
 /// What a process is answered.

@@ -20,9 +20,18 @@ pub enum NoRoom {
     /// Not 1 to 64 processes, or not 1 to 4,096 registers.
     NoShape,
     /// A chapter needs the least number of entries to begin, and has the greatest.
-    NoBeginning { least: u64, most: u64 },
-    BadOperations { least: u64, most: u64 },
-    BadEntries { least: u64, most: u64 },
+    NoBeginning {
+        least: u64,
+        most: u64,
+    },
+    BadOperations {
+        least: u64,
+        most: u64,
+    },
+    BadEntries {
+        least: u64,
+        most: u64,
+    },
 }
 
 /// The room in chapters that end at so many operations of a process, or at so many entries of all logs together, or
