@@ -1,4 +1,5 @@
 """Tests of the port of a node: python3 -m unittest, with TELLWYDAR_LIB set."""
+import fcntl
 import json
 import os
 import re
@@ -7,7 +8,7 @@ import tempfile
 import threading
 import time
 import unittest
-from concurrent.futures import ThreadPoolExecutor
+from concurrent.futures import ThreadPoolExecutor, TimeoutError
 from unittest import mock
 
 from tellwydar import judge
@@ -169,6 +170,19 @@ class Ports(unittest.TestCase):
             self.assertEqual(self.told("read x"), ["value 0"])
         with self.assertRaises(FileNotFoundError):
             self.told("read x")
+
+    def test_a_socket_that_another_one_is_opening_is_not_taken_from_it(self):
+        with socket.socket(socket.AF_UNIX) as other, ThreadPoolExecutor(1) as pool:
+            turn = os.open(self.folder.name, os.O_RDONLY)
+            fcntl.flock(turn, fcntl.LOCK_EX)
+            other.bind(self.path)
+            opening = pool.submit(Port, self.node, self.path)
+            with self.assertRaises(TimeoutError):
+                opening.result(0.3)
+            other.listen()
+            os.close(turn)
+            with self.assertRaisesRegex(OSError, f"^{re.escape(self.path)}: Address already in use$"):
+                opening.result(10)
 
     def test_who_waits_is_told_of(self):
         node = Node("local-read", ["x"], 0, free_addresses(2), None, os.path.join(self.folder.name, "2.log"),

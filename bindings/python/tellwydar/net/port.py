@@ -6,6 +6,7 @@ lines, of which the last is `# EOF` (https://prometheus.io/docs/instrumenting/ex
 since a process has one operation at a time.
 """
 import contextlib
+import fcntl
 import os
 import socket
 import socketserver
@@ -63,6 +64,18 @@ class _Session(socketserver.StreamRequestHandler):
         return form.answer(op, names, self.server.end_of(op))
 
 
+@contextlib.contextmanager
+def _turn_in(folder: str) -> Iterator[None]:
+    """Has others who open a port in this folder wait: a socket that isn't listened to yet would pass for one of a node
+    that is gone."""
+    turn = os.open(folder or ".", os.O_RDONLY)
+    try:
+        fcntl.flock(turn, fcntl.LOCK_EX)
+        yield
+    finally:
+        os.close(turn)
+
+
 def _remove_stale(path: str) -> None:
     """Removes the socket of a node that is gone."""
     if os.path.exists(path) and stat.S_ISSOCK(os.stat(path).st_mode):
@@ -84,10 +97,11 @@ class Port(socketserver.ThreadingUnixStreamServer):
         self._goes_on = node.so_far()[1]  # an operation whose caller is gone, as where the node was resumed
         super().__init__(path, _Session, bind_and_activate=False)
         try:
-            _remove_stale(path)
-            self.server_bind()
-            os.chmod(path, 0o600)  # nobody else calls: it listens only from here on
-            self.server_activate()
+            with _turn_in(os.path.dirname(path)):
+                _remove_stale(path)
+                self.server_bind()
+                os.chmod(path, 0o600)  # nobody else calls: it listens only from here on
+                self.server_activate()
         except OSError as why:
             self.server_close()
             raise OSError(f"{path}: {why.strerror or why}") from None

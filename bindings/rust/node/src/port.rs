@@ -8,7 +8,7 @@ use crate::calls::{End, Form};
 use crate::fault::{Fault, at_path};
 use crate::node::Node;
 use socket2::{Domain, SockAddr, Socket, Type};
-use std::fs::{self, Permissions};
+use std::fs::{self, File, Permissions};
 use std::io::{self, BufRead, BufReader, Read, Write};
 use std::os::unix::fs::{FileTypeExt, PermissionsExt};
 use std::os::unix::net::{UnixListener, UnixStream};
@@ -73,6 +73,14 @@ impl Desk {
     }
 }
 
+/// Has others who open a port in this folder wait: a socket that isn't listened to yet would pass for one of a node that
+/// is gone.
+fn turn_in(folder: &Path) -> io::Result<File> {
+    let turn = File::open(if folder.as_os_str().is_empty() { Path::new(".") } else { folder })?;
+    turn.lock()?;
+    Ok(turn)
+}
+
 /// Removes the socket of a node that is gone.
 fn remove_stale(path: &Path) -> io::Result<()> {
     let is_socket = fs::metadata(path).is_ok_and(|it| it.file_type().is_socket());
@@ -92,6 +100,7 @@ impl Port {
     /// Opens it at this path, for the node of this bell. Nobody but this user may call there.
     pub fn open(path: &Path, bell: UnixStream) -> Result<Self, Fault> {
         let open = || {
+            let _turn = turn_in(path.parent().unwrap_or(path))?;
             remove_stale(path)?;
             let socket = Socket::new(Domain::UNIX, Type::STREAM, None)?;
             socket.bind(&SockAddr::unix(path)?)?;

@@ -1,6 +1,7 @@
 //! Nodes that programs on their machine call.
+use socket2::{Domain, SockAddr, Socket, Type};
 use std::error::Error;
-use std::fs;
+use std::fs::{self, File};
 use std::io::{self, Write};
 use std::net::TcpListener;
 use std::os::unix::fs::PermissionsExt;
@@ -112,6 +113,25 @@ fn each_line_is_answered() -> Told<()> {
     let socket = node.socket.clone();
     node.end()?;
     assert!(!socket.exists());
+    Ok(fs::remove_dir_all(room)?)
+}
+
+#[test]
+fn a_socket_that_another_one_is_opening_is_not_taken_from_it() -> Told<()> {
+    let room = room("turns")?;
+    let socket = room.join("0.socket");
+    let turn = File::open(&room)?;
+    turn.lock()?;
+    let other = Socket::new(Domain::UNIX, Type::STREAM, None)?;
+    other.bind(&SockAddr::unix(&socket)?)?;
+    let (path, (bell, _ring)) = (socket.clone(), UnixStream::pair()?);
+    let opening = thread::spawn(move || Port::open(&path, bell).err().map(|why| why.to_string()));
+    thread::sleep(Duration::from_millis(300));
+    assert!(!opening.is_finished());
+    other.listen(1)?;
+    drop(turn);
+    let why = opening.join().map_err(|_| "the opening failed")?;
+    assert_eq!(why, Some(format!("{}: Address already in use (os error 98)", socket.display())));
     Ok(fs::remove_dir_all(room)?)
 }
 
