@@ -76,7 +76,13 @@ fn frames(rt: HostRuntime) {
 fn links(rt: HostRuntime) {
     let body = Body::Ack { time: 2 };
     let mut inbox = Inbox::new();
-    assert!(rt; inbox.take(1, body) == None && inbox.take(0, body) == Some(body));
+    assert_eq!(rt;
+        (
+            inbox.take(1, body) == None,
+            inbox.take(0, body) == Some(body)
+        ),
+        (true, true)
+    );
     let is_got = {
         let mut outbox = Outbox::new(rt.alloc());
         outbox.queue(body) == Ok(Frame::Numbered { number: 0, body })
@@ -153,7 +159,10 @@ fn written(rt: &impl Abort, alloc: Global) -> History {
         id: FIRST,
         answer: Answer::Done,
     };
-    assert!(rt; history.push(called).is_ok() && history.push(answered).is_ok());
+    assert_eq!(rt;
+        (history.push(called).is_ok(), history.push(answered).is_ok()),
+        (true, true)
+    );
     history
 }
 
@@ -359,7 +368,7 @@ fn clusters(rt: HostRuntime) {
     let mut parts = made.expect(&rt, "a cluster");
     let is_performed = performs_the_write(&rt, parts.passes.as_mut_slice());
     let is_closed = close(&rt, rt.alloc(), parts).is_ok();
-    assert!(rt; is_performed && is_closed);
+    assert_eq!(rt; (is_performed, is_closed), (true, true));
 }
 
 const LIVED: &str =

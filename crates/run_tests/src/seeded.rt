@@ -324,5 +324,5 @@ fn some_casts_are_lost_and_some_reads_share_a_place(rt: HostRuntime) {
         let right = agrees::<LocalWrite>(&mut seen, rt.alloc(), shape, seed);
         demand(&rt, &seed, right);
     }
-    assert!(rt; seen.lost && seen.reads);
+    assert_eq!(rt; (seen.lost, seen.reads), (true, true));
 }

@@ -267,5 +267,6 @@ fn a_world_that_lists_no_events_makes_the_run(rt: HostRuntime) {
             answer: Answer::Done,
         },
     ];
-    assert!(rt; world.events() == 3 && world.history().entries() == told.as_slice());
+    assert_eq!(rt; world.events(), 3);
+    assert!(rt; world.history().entries() == told.as_slice());
 }

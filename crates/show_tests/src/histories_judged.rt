@@ -220,5 +220,6 @@ fn the_report_of_a_history_is_accepted(rt: HostRuntime) {
         }
         _ => 255,
     };
-    assert!(rt; status == 0 && output.as_slice() == "serial yes\npoints yes\n".as_bytes());
+    assert_eq!(rt; status, 0);
+    assert!(rt; output.as_slice() == "serial yes\npoints yes\n".as_bytes());
 }

@@ -235,7 +235,7 @@ Never taken: take 0 1 0: data 0: cast (1, 0) write x 5.
 fn a_drawing_says_in_words_what_it_shows(rt: HostRuntime) {
     let (status, output, errors) = shown(rt.alloc(), Showing::Draw, LOST.as_bytes());
     let drawing = str::from_utf8(output.as_slice()).unwrap_or("");
-    assert!(rt; status == 0 && errors.is_empty());
+    assert_eq!(rt; (status, errors.is_empty()), (0, true));
     assert!(rt; drawing.contains(LOST_IN_WORDS), "{drawing}");
 }
 

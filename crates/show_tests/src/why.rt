@@ -58,7 +58,11 @@ fn broken_documents_are_told_alike(rt: HostRuntime) {
         let (mut lent, mut faults) = (Vec::new(alloc), Vec::new(alloc));
         run_command(ExplainLent, alloc, &mut other, &mut lent, &mut faults);
         let is_same = output.as_slice() == lent.as_slice() && output.len() > "toml\n".len();
-        assert!(rt; is_same && errors.is_empty() && faults.is_empty(), "{text}");
+        assert_eq!(rt;
+            (is_same, errors.is_empty(), faults.is_empty()),
+            (true, true, true),
+            "{text}"
+        );
     }
 }
 

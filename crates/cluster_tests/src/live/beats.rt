@@ -54,7 +54,7 @@ fn what_comes_ends_a_long_silence(rt: HostRuntime) {
         );
     }
     is_tick = beat.look(Some(7), false);
-    assert!(rt; is_tick && beat.is_long());
+    assert_eq!(rt; (is_tick, beat.is_long()), (true, true));
     beat.hear();
-    assert!(rt; !beat.is_long() && beat.look(Some(7), false));
+    assert_eq!(rt; (beat.is_long(), beat.look(Some(7), false)), (false, true));
 }

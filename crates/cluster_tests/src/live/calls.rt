@@ -26,7 +26,10 @@ fn a_later_caller_is_not_told_an_earlier_answer(rt: HostRuntime) {
     let stopped = call_back(&rt, alloc, &mut parts, couriers);
     let second = pass_of(&rt, &mut parts.passes, 0).perform(&rt, read(0));
     let told = told(&shut(&rt, alloc, parts), 0);
-    assert!(rt; first && stopped && second == Err(LiveFault::Failed) && told == Some(1));
+    assert_eq!(rt;
+        (first, stopped, second, told),
+        (true, true, Err(LiveFault::Failed), Some(1))
+    );
 }
 
 /// Holds the first parcel until another caller was answered, and tells where that took too long.
@@ -114,7 +117,10 @@ fn a_caller_is_told_at_once_where_a_station_stops(rt: HostRuntime) {
     let stopped = call_back(&rt, alloc, &mut parts, couriers);
     watch.end(&rt);
     let (events, _) = size_of(shut(&rt, alloc, parts));
-    assert!(rt; refused == Err(LiveFault::Failed) && stopped && events == 1);
+    assert_eq!(rt;
+        (refused, stopped, events),
+        (Err(LiveFault::Failed), true, 1)
+    );
 }
 
 /// Whether a write is answered, and the journal gets five sections within some seconds.
@@ -145,5 +151,5 @@ fn what_comes_of_an_answering_frame_is_sent(rt: HostRuntime) {
     let stopped = call_back(&rt, alloc, &mut parts, couriers);
     watch.end(&rt);
     let (events, _) = size_of(shut(&rt, alloc, parts));
-    assert!(rt; sent && stopped && events == 5);
+    assert_eq!(rt; (sent, stopped, events), (true, true, 5));
 }

@@ -85,5 +85,5 @@ fn a_section_under_way_is_in_the_record(rt: HostRuntime) {
     let events = events_of(&rt, alloc, parts);
     releasing.join(&rt);
     drop(join_all(&rt, alloc, second));
-    assert!(rt; sent && entered && events == Some(2));
+    assert_eq!(rt; (sent, entered, events), (true, true, Some(2)));
 }

@@ -128,7 +128,7 @@ fn two_stations_are_held_at_once(rt: HostRuntime) {
     perform_both(rt, &mut parts.passes, read(0), &flags);
     let late = flags.late.load(Ordering::SeqCst);
     let (events, _) = size_of(shut(&rt, alloc, parts));
-    assert!(rt; !late && events == 2);
+    assert_eq!(rt; (late, events), (false, 2));
 }
 
 #[test]
@@ -143,5 +143,5 @@ fn others_go_on_while_one_is_held(rt: HostRuntime) {
     let late = flags.late.load(Ordering::SeqCst);
     let (_, entries) = size_of(end(&rt, alloc, running, passes));
     watch.end(&rt);
-    assert!(rt; !late && entries == 4);
+    assert_eq!(rt; (late, entries), (false, 4));
 }

@@ -31,7 +31,7 @@ fn a_pass_calls_so_many_operations(rt: HostRuntime) {
     let mut parts = parts_of::<Linear, NoGate>(&rt, alloc, (1, 1), NoGate);
     let full = gets_full(&rt, pass_of(&rt, &mut parts.passes, 0));
     let (events, _) = size_of(shut(&rt, alloc, parts));
-    assert!(rt; full && events == MOST_OPERATIONS);
+    assert_eq!(rt; (full, events), (true, MOST_OPERATIONS));
 }
 
 /// Fills a journal by reads that are answered from the copies, all but the last places. Whether all are answered.
@@ -76,5 +76,5 @@ fn no_caller_waits_once_the_journal_is_full(rt: HostRuntime) {
     let read = reads_all(&rt, &mut parts.passes);
     let told = tells_of_the_end(rt, &mut parts.passes, &mut parts.pacer);
     let (events, _) = size_of(shut(&rt, alloc, parts));
-    assert!(rt; read && told && events == MOST_EVENTS);
+    assert_eq!(rt; (read, told, events), (true, true, MOST_EVENTS));
 }

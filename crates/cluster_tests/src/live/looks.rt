@@ -145,5 +145,8 @@ fn looks_are_ten_milliseconds_apart(rt: HostRuntime) {
         pacer,
     };
     let _size = size_of(shut(&rt, alloc, parts));
-    assert!(rt; written && stopped && lengths == (Some(1), Some(2)));
+    assert_eq!(rt;
+        (written, stopped, lengths),
+        (true, true, (Some(1), Some(2)))
+    );
 }

@@ -377,5 +377,5 @@ fn an_honest_road_needs_no_tick(rt: HostRuntime) {
     let all = perform_all(rt, alloc, &mut parts.passes);
     let stopped = call_back(&rt, alloc, &mut parts, couriers);
     let (_, entries) = size_of(shut(&rt, alloc, parts));
-    assert!(rt; all && stopped && entries == 6_000);
+    assert_eq!(rt; (all, stopped, entries), (true, true, 6_000));
 }

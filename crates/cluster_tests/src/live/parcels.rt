@@ -57,7 +57,10 @@ fn litter_is_dropped(rt: HostRuntime) {
     let stopped = call_back(&rt, alloc, &mut parts, couriers);
     let (_, entries) = size_of(shut(&rt, alloc, parts));
     watch.end(&rt);
-    assert!(rt; stopped && !wrong.load(Ordering::SeqCst) && entries == 12);
+    assert_eq!(rt;
+        (stopped, wrong.load(Ordering::SeqCst), entries),
+        (true, false, 12)
+    );
 }
 
 /// How many writes are sent over a rough road.

@@ -53,7 +53,7 @@ fn one_process_answers_at_once(rt: HostRuntime) {
     let closed = shut(&rt, alloc, parts);
     let passes = closed.receipts.len();
     let (_, entries) = size_of(closed);
-    assert!(rt; right && entries == 10 && passes == 1);
+    assert_eq!(rt; (right, entries, passes), (true, 10, 1));
 }
 
 /// Whether two writes have the event of a tick between them.
@@ -78,5 +78,5 @@ fn a_round_makes_a_tick(rt: HostRuntime) {
     let right = has_a_tick_between(&rt, pass, &mut parts.pacer);
     parts.passes.reverse();
     let (events, _) = size_of(shut(&rt, alloc, parts));
-    assert!(rt; right && events == 3);
+    assert_eq!(rt; (right, events), (true, 3));
 }

@@ -110,5 +110,8 @@ fn so_many_processes_are_performed(rt: HostRuntime) {
     let alloc = rt.alloc();
     let mut text = String::new(alloc);
     let added = add_largest(&mut text).is_ok();
-    assert!(rt; added && lived(rt, alloc, text.as_str()).is_some());
+    assert_eq!(rt;
+        (added, lived(rt, alloc, text.as_str()).is_some()),
+        (true, true)
+    );
 }

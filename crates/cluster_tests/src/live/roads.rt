@@ -67,7 +67,11 @@ fn callers_are_answered_over_rough_roads(rt: HostRuntime) {
         let linear = is_pointed(rt.alloc(), &run_rough::<Linear, _>(rt, rt.alloc(), seed));
         let local_read = runs_serially::<LocalRead, _>(rt, rt.alloc(), seed);
         let local_write = runs_serially::<LocalWrite, _>(rt, rt.alloc(), seed);
-        assert!(rt; linear && local_read && local_write, "seed {seed}");
+        assert_eq!(rt;
+            (linear, local_read, local_write),
+            (true, true, true),
+            "seed {seed}"
+        );
     }
 }
 
@@ -103,5 +107,5 @@ fn fronts_are_handed_on(rt: HostRuntime) {
     let right = hands_on(rt, &mut passes);
     let (_, entries) = size_of(end(&rt, alloc, running, passes));
     watch.end(&rt);
-    assert!(rt; right && entries == 6);
+    assert_eq!(rt; (right, entries), (true, 6));
 }

@@ -45,7 +45,7 @@ fn a_running_cluster_has_a_pacer(rt: HostRuntime) {
         .close_in::<_, PackedWires<Global>>(&rt, alloc, passes)
         .is_ok();
     watch.end(&rt);
-    assert!(rt; told.is_ok() && closed);
+    assert_eq!(rt; (told.is_ok(), closed), (true, true));
 }
 
 /// Loses all parcels, and holds the courier that brings one from this process until it may go on.

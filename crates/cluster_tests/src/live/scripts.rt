@@ -53,7 +53,7 @@ fn each_caller_reads_what_it_wrote(rt: HostRuntime) {
     let behind = is_called_behind(rt, &mut passes);
     let all = has_all(&end(&rt, alloc, running, passes));
     watch.end(&rt);
-    assert!(rt; behind && all);
+    assert_eq!(rt; (behind, all), (true, true));
 }
 
 /// Adds the script that writes a register and reads it.

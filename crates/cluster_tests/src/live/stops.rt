@@ -155,7 +155,7 @@ fn a_station_stops_alone(rt: HostRuntime) {
     let stopped = stops_second(&rt, &mut passes, &seen);
     let both = has_both_writes(&end(&rt, alloc, running, passes));
     watch.end(&rt);
-    assert!(rt; stopped && both);
+    assert_eq!(rt; (stopped, both), (true, true));
 }
 
 /// Closes a cluster in which a value was changed on its way, without its last pass where `less`. No pacer runs, so that
@@ -178,7 +178,7 @@ fn fault_of_change<R: Threads + Wait + Clock + Abort + Copy + Send + Sync + 'sta
     }
     let fault = close(&rt, alloc, parts).err();
     watch.end(&rt);
-    assert!(rt; written && stopped);
+    assert_eq!(rt; (written, stopped), (true, true));
     fault
 }
 
@@ -218,7 +218,7 @@ fn all_callers_are_told_where_a_station_stops(rt: HostRuntime) {
     let told = both_are_told(rt, &mut passes);
     let (_, entries) = size_of(end(&rt, alloc, running, passes));
     watch.end(&rt);
-    assert!(rt; told && entries == 2);
+    assert_eq!(rt; (told, entries), (true, 2));
 }
 
 /// Counts turns until this number of sections was made, and some more, in which their callers begin to wait.
@@ -252,5 +252,5 @@ fn no_caller_waits_once_the_cluster_is_stopped(rt: HostRuntime) {
     }
     let (events, _) = size_of(shut(&rt, alloc, parts));
     watch.end(&rt);
-    assert!(rt; told && events == 3);
+    assert_eq!(rt; (told, events), (true, 3));
 }

@@ -106,11 +106,20 @@ fn a_process_tells_how_far_it_has_come(rt: HostRuntime) {
     let mut process = Process::new(alloc, shape_of(&rt, 2), 0).expect(&rt, "a process");
     assert!(rt; tells(alloc, &process, true, state!(3, 0, 0, 0)));
     let called = process.call(WRITE_FIVE).is_ok();
-    assert!(rt; called && tells(alloc, &process, false, state!(0, 1, 0, 0)));
+    assert_eq!(rt;
+        (called, tells(alloc, &process, false, state!(0, 1, 0, 0))),
+        (true, true)
+    );
     let taken = process.take(1, &GOT).is_ok();
-    assert!(rt; taken && tells(alloc, &process, false, state!(2, 1, 0, 0)));
+    assert_eq!(rt;
+        (taken, tells(alloc, &process, false, state!(2, 1, 0, 0))),
+        (true, true)
+    );
     let done = process.take(1, &ACK).is_ok();
-    assert!(rt; done && tells(alloc, &process, false, state!(2, 1, 0, 1)));
+    assert_eq!(rt;
+        (done, tells(alloc, &process, false, state!(2, 1, 0, 1))),
+        (true, true)
+    );
     assert!(rt; tells(alloc, &process, true, state!(3, 1, 0, 1)));
 }
 

@@ -70,7 +70,7 @@ fn a_cast_waits_until_all_are_heard(rt: HostRuntime) {
 fn an_own_cast_waits_behind_an_earlier_one(rt: HostRuntime) {
     let mut held = Holdback::new(rt.alloc(), 1, shape_of(&rt, 2)).expect(&rt, "memory");
     let cast = held.cast(stamp!(1, 1), WRITE_FIVE).is_ok();
-    assert!(rt; cast && answers(&mut held, BEHIND_ITS_OWN));
+    assert_eq!(rt; (cast, answers(&mut held, BEHIND_ITS_OWN)), (true, true));
 }
 
 /// Whether a read of time 1 is popped, and nothing after it.
@@ -82,7 +82,7 @@ fn pops_the_read(held: &mut Holdback) -> bool {
 fn one_process_waits_for_none(rt: HostRuntime) {
     let mut held = Holdback::new(rt.alloc(), 0, shape_of(&rt, 1)).expect(&rt, "memory");
     let cast = held.cast(stamp!(1, 0), READ).is_ok();
-    assert!(rt; cast && pops_the_read(&mut held));
+    assert_eq!(rt; (cast, pops_the_read(&mut held)), (true, true));
 }
 
 /// Whether a cast that comes is refused for want of memory, and not held, and it is held when it comes again.
@@ -119,7 +119,7 @@ fn a_refused_growth_keeps_an_own_cast(rt: HostRuntime) {
     let heap = Refusing::new(rt.alloc(), 2);
     let mut held = Holdback::new(&heap, 1, shape_of(&rt, 2)).expect(&rt, "memory for the times");
     let cast = held.cast(stamp!(1, 1), WRITE_FIVE).is_ok();
-    assert!(rt; cast && keeps_the_earlier(&mut held, 1));
+    assert_eq!(rt; (cast, keeps_the_earlier(&mut held, 1)), (true, true));
 }
 
 #[test]
@@ -129,5 +129,8 @@ fn a_refused_growth_holds_no_own_cast(rt: HostRuntime) {
     let is_refused = held.cast(stamp!(1, 1), READ).is_err();
     let count = held.len();
     let is_held_later = held.cast(stamp!(2, 1), WRITE_FIVE).is_ok();
-    assert!(rt; is_refused && count == 0 && is_held_later && held.len() == 1);
+    assert_eq!(rt;
+        (is_refused, count, is_held_later, held.len()),
+        (true, 0, true, 1)
+    );
 }

@@ -187,8 +187,17 @@ fn a_process_is_ahead_by_its_casts(rt: HostRuntime) {
 fn the_first_chapter_writes_nothing_first(rt: HostRuntime) {
     let course = course_in(rt.alloc());
     let (start, called) = (at(0, 0, 0, false), at(0, 1, 0, true));
-    assert!(rt; course.next_opening(&start).is_none() && !course.is_opening(&start));
-    assert!(rt; course.own_calls(&called) == 1 && !course.is_opening(&called));
+    assert_eq!(rt;
+        (
+            course.next_opening(&start).is_none(),
+            course.is_opening(&start)
+        ),
+        (true, false)
+    );
+    assert_eq!(rt;
+        (course.own_calls(&called), course.is_opening(&called)),
+        (1, false)
+    );
 }
 
 /// Whether the values are refused for want of memory, and noted when they come again.
@@ -217,9 +226,12 @@ fn calls_are_counted_with_those_of_the_log(rt: HostRuntime) {
     let opened = Node::open(rt.alloc(), shape_of(&rt, 2), 0, &log);
     let mut node = opened.expect(&rt, "a node");
     assert!(rt; counts(&node) == (2, 1));
-    assert!(rt; node.tick().is_ok() && counts(&node) == (3, 1));
-    assert!(rt; node.call(WRITE_FIVE).is_ok() && counts(&node) == (4, 2));
-    assert!(rt; node.call(READ).is_err() && counts(&node) == (4, 2));
+    assert_eq!(rt; (node.tick().is_ok(), counts(&node)), (true, (3, 1)));
+    assert_eq!(rt;
+        (node.call(WRITE_FIVE).is_ok(), counts(&node)),
+        (true, (4, 2))
+    );
+    assert_eq!(rt; (node.call(READ).is_err(), counts(&node)), (true, (4, 2)));
 }
 
 /// The log of process 0, its calls, its entries, and its casts that are and aren't delivered there.

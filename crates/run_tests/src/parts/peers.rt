@@ -202,17 +202,23 @@ fn a_peer_is_silent_for_long_after_127_looks(rt: HostRuntime) {
         peers.look(&node, 1);
         assert!(rt; peers.is_long(1) == (look == 127), "{look}");
     }
-    assert!(rt; !peers.is_long(2) && !peers.is_long(3));
-    assert!(rt; !peers.hear(&node, 2) && peers.is_long(1));
-    assert!(rt; !peers.hear(&node, 3) && peers.is_long(1));
-    assert!(rt; !peers.hear(&node, 1) && !peers.is_long(1));
+    assert_eq!(rt; (peers.is_long(2), peers.is_long(3)), (false, false));
+    assert_eq!(rt; (peers.hear(&node, 2), peers.is_long(1)), (false, true));
+    assert_eq!(rt; (peers.hear(&node, 3), peers.is_long(1)), (false, true));
+    assert_eq!(rt; (peers.hear(&node, 1), peers.is_long(1)), (false, false));
 }
 
 #[test]
 fn a_node_has_heard_from_whom_it_heard(rt: HostRuntime) {
     let node = MeetingNode::<Linear>::open(rt.alloc(), shape_of(&rt, 3), 0, &[]);
     let mut node = node.expect(&rt, "a node");
-    assert!(rt; !node.has_heard(1) && !node.has_heard(2) && !node.has_heard(3));
+    assert_eq!(rt;
+        (node.has_heard(1), node.has_heard(2), node.has_heard(3)),
+        (false, false, false)
+    );
     let heard = node.hear(2, 0);
-    assert!(rt; heard.is_ok() && !node.has_heard(1) && node.has_heard(2));
+    assert_eq!(rt;
+        (heard.is_ok(), node.has_heard(1), node.has_heard(2)),
+        (true, false, true)
+    );
 }
