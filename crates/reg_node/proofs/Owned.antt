@@ -1,22 +1,12 @@
--- The steps of one process, and the names of a head.
-use Rattle.std.proofs.Common.{ℕ, zero, suc, ◌≡◌, ◌+◌, ◌<◌, ◌≤◌, List, [], ◌∷◌, ◌++◌, length, map, take, drop, get_or}
-use Rattle.std.proofs.Common.{refl, sym, ap, ◌∙◌, arith, append-nil}
-use Rattle.std.proofs.lemmas.Grind.{flat_map-append}
-use Rattle.std.proofs.lemmas.List.{map-append, take_more}
+-- The steps of one process, and the parts of its log.
+use Rattle.std.proofs.Common.{ℕ, zero, suc, ◌≡◌, ◌<◌, ◌≤◌, List, [], ◌∷◌, length, map, take, drop, get_or}
+use Rattle.std.proofs.Common.{refl, sym, ap, ◌∙◌, arith}
 use Rattle.reg_base.specs.Shape.{Extent}
 use Rattle.reg_front.specs.declared.named.Front.{Front}
 use Rattle.reg_records.specs.declared.entries.LogEntry.{LogEntry}
-use Rattle.reg_text.specs.Words.{names_text}
 use Rattle.reg_node.specs.declared.transcripts.logs.LogId.{LogId}
 use Rattle.reg_node.specs.declared.transcripts.recorded.Recorded.{Recorded}
 use Rattle.reg_node.specs.LogTexts.{Journal, recorded_by}
-
-pub owned_more : (p : ℕ) (steps : List Recorded) (k : ℕ) (d : Recorded) (old new : List LogEntry) → k < length steps
-    → take k steps ≡ map (recorded_by p) old → (get_or steps k d).process ≡ p
-    → new ≡ old ++ (get_or steps k d).entry ∷ [] → take (k + 1) steps ≡ map (recorded_by p) new
-owned_more p steps k d old new within so_far is grown =
-    take_more steps k d within ∙ ap (λ l. l ++ get_or steps k d ∷ []) so_far ∙ ap (λ q. map (recorded_by p) old ++ recorded_by q (get_or steps k d).entry ∷ []) is
-    ∙ sym (map-append (recorded_by p) old ((get_or steps k d).entry ∷ [])) ∙ ap (map (recorded_by p)) (sym grown)
 
 take_all : (steps : List Recorded) (k : ℕ) → length steps ≤ k → take k steps ≡ steps
 take_all [] zero l = refl
@@ -40,12 +30,6 @@ process_at p (x ∷ es) (s ∷ steps) (suc k) d e l = process_at p es steps k d 
 pub entries_of : (p : ℕ) (es : List LogEntry) → map (λ r. r.entry) (map (recorded_by p) es) ≡ es
 entries_of p [] = refl
 entries_of p (e ∷ es) = ap (λ l. e ∷ l) (entries_of p es)
-
--- one more name
-pub names_more : (names : List (List ℕ)) (i : ℕ) → i < length names
-    → names_text (take (i + 1) names) ≡ names_text (take i names) ++ (32 ∷ get_or names i [])
-names_more names i l =
-    ap names_text (take_more names i [] l) ∙ flat_map-append (λ n. 32 ∷ n) (take i names) (get_or names i [] ∷ []) ∙ ap (λ x. names_text (take i names) ++ x) (append-nil (32 ∷ get_or names i []))
 
 pub same_id : (a b c d : ℕ) (id : LogId) → a ≡ id.cluster → b ≡ id.process → c ≡ id.chapter → d ≡ id.begun
     → record { cluster = a; process = b; chapter = c; begun = d } ≡ id

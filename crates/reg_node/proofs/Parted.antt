@@ -100,9 +100,3 @@ whole bytes text behind b is told =
       | inl p ↦ subst (λ (n : ℕ). n < 5) (sym (quiet bytes text behind is p)) (lit< tt)
       | inr s ↦ subst (λ (l : List ℕ). feeds l < 5) (append_cancel_left text s.0 behind (sym s.1 ∙ is)) s.2
     ] in (λ t. inr (behind, is, ltb-true (feeds behind) 5 (sym told ∙ t)), λ h. told ∙ lt-ltb (feeds behind) 5 (few h))
-
--- not all of the text stands first
-pub apart : (bytes text : List ℕ) (b : Bool) → ((behind : List ℕ) → ¬ (bytes ≡ text ++ behind))
-    → (b ≡ true ↔ IsPartAndZeros bytes text) → (b ≡ true ↔ (IsPartAndZeros bytes text ⊎ IsShort bytes text))
-apart bytes text b not_first told =
-    (λ t. inl (told.0 t), elim [ inl p ↦ told.1 p | inr s ↦ absurd (not_first s.0 s.1) ])

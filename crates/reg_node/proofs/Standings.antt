@@ -1,21 +1,15 @@
 -- The bytes of a state of a process in its chapter.
-use Rattle.std.proofs.Common.{◌≡◌, ℕ, zero, suc, ◌+◌, ◌*◌, ◌/◌, ◌%◌, ◌<◌, ◌≤◌, ◌==◌, Bool, true, false, List, [], ◌∷◌}
-use Rattle.std.proofs.Common.{◌++◌, length, take, drop, get_or, refl, sym, ap, ap₂, ◌∙◌, arith, append-nil, drop-cons}
-use Rattle.std.proofs.Common.{length-append, take-append-drop}
+use Rattle.std.proofs.Common.{◌≡◌, ℕ, ◌+◌, ◌*◌, ◌≤◌, Bool, true, false, List, [], ◌∷◌, ◌++◌, length, take, drop, get_or}
+use Rattle.std.proofs.Common.{refl, sym, ap, ap₂, ◌∙◌, arith, append-nil, length-append}
 use Rattle.std.specs.Int.{w64, to_be_bytes}
 use Rattle.std.proofs.Math.Seq.{take-add}
 use Rattle.std.proofs.lemmas.Grind.{flat_map-append}
-use Rattle.std.proofs.lemmas.List.{drop-drop, take_more}
 use Rattle.reg_node.specs.Chapters.{Standing, SpellsStanding, bit, numbers_bytes}
 
 -- one more number
 pub numbers_more : (ns : List ℕ) (n : ℕ) → numbers_bytes (ns ++ n ∷ []) ≡ numbers_bytes ns ++ to_be_bytes w64 n
 numbers_more ns n =
     flat_map-append (to_be_bytes w64) ns (n ∷ []) ∙ ap (λ x. numbers_bytes ns ++ x) (append-nil (to_be_bytes w64 n))
-
-pub numbers_taken : (ns : List ℕ) (i : ℕ) → i < length ns
-    → numbers_bytes (take (i + 1) ns) ≡ numbers_bytes (take i ns) ++ to_be_bytes w64 (get_or ns i 0)
-numbers_taken ns i within = ap numbers_bytes (take_more ns i 0 within) ∙ numbers_more (take i ns) (get_or ns i 0)
 
 -- the bytes of so many numbers, and those of one more
 pub eight_more : (bytes ns new : List ℕ) (k at n : ℕ) → at ≡ k → take (k * 8) bytes ≡ numbers_bytes ns
@@ -25,25 +19,6 @@ eight_more bytes ns new k at n here so_far is grown =
     let e : (k + 1) * 8 ≡ k * 8 + 8 = omega arith in
     let there = ap (λ i. take 8 (drop (i * 8) bytes)) (sym here) ∙ sym is in
     ap (λ m. take m bytes) e ∙ take-add (k * 8) 8 bytes ∙ ap₂ (λ x y. x ++ y) so_far there ∙ sym (numbers_more ns n) ∙ ap numbers_bytes (sym grown)
-
-flags_again : (f : ℕ) → f ≤ 3 → f ≡ bit (f % 2 == 1) 1 + bit (f / 2 == 1) 2
-flags_again zero few = refl
-flags_again (suc zero) few = refl
-flags_again (suc (suc zero)) few = refl
-flags_again (suc (suc (suc zero))) few = refl
-flags_again (suc (suc (suc (suc f)))) few = absurd (omega (arith, few))
-
--- what is read is spelled so
-pub read_back : (n : ℕ) (bytes ns : List ℕ) (put : ℕ) → length bytes ≡ 9 + n * 8 → get_or bytes 0 0 ≤ 3
-    → to_be_bytes w64 put ≡ take 8 (drop 1 bytes) → length ns ≡ n → drop 9 bytes ≡ numbers_bytes ns
-    → SpellsStanding n bytes (record { is_quiet = get_or bytes 0 0 % 2 == 1; is_at_rest = get_or bytes 0 0 / 2 == 1; put = put; accepted = ns })
-read_back n bytes ns put size few head count rest =
-    let front = drop-cons bytes 0 0 (omega (arith, size)) in
-    let behind = sym (take-append-drop 8 (drop 1 bytes)) ∙ ap₂ (λ x y. x ++ y) (sym head) (drop-drop 8 1 bytes ∙ rest) in
-    record {
-      of_all = count;
-      spelled = front ∙ ap₂ (λ (x : ℕ) (xs : List ℕ). x ∷ xs) (flags_again (get_or bytes 0 0) few) behind;
-    }
 
 length_numbers : (ns : List ℕ) → length (numbers_bytes ns) ≡ length ns * 8
 length_numbers [] = refl

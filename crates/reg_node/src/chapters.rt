@@ -103,10 +103,7 @@ fn accepted<F: FrontEnd, A: Allocator + Copy>(process: &Process<F, A>, of: u8) -
     ensures other { of ≢ process.now.state.me → result ≡ (peer_at process.now.state of).expected }
     ensures own { of ≡ process.now.state.me → result ≡ 0 }
 {
-    match process.known(of) {
-        Some(known) => known.expected,
-        None => 0,
-    }
+    process.known(of).map_or(0, |known| known.expected)
 }
 
 /// How many bodies a process queued for another.
@@ -114,10 +111,7 @@ fn queued<F: FrontEnd, A: Allocator + Copy>(process: &Process<F, A>, other: u8) 
     ensures value { other ≢ process.now.state.me → result ≡ next_of (peer_at process.now.state other) }
     ensures of_one { (result ≡ 0) ⊎ (result ≡ next_of (peer_at process.now.state other)) }
 {
-    match process.known(other) {
-        Some(known) => known.next,
-        None => 0,
-    }
+    process.known(other).map_or(0, |known| known.next)
 }
 
 /// The most bodies that a process queued for any other.
@@ -299,9 +293,7 @@ impl<A: Allocator + Copy> Chapter<A> {
         }
         let processes = self.told.len() as u8;
         let alloc = *self.told.allocator();
-        let Ok(read) = Told::read(alloc, bytes, processes) else {
-            return Err(ToldFault::OutOfMemory);
-        };
+        let read = Told::read(alloc, bytes, processes).map_err(|_| ToldFault::OutOfMemory)?;
         let Some(told) = read else {
             return Err(ToldFault::NoState);
         };

@@ -1,7 +1,6 @@
 //! A node that spells the entries of its log.
 ghost use Rattle.std.specs.Prelude.{◌≡◌, ◌≢◌, ◌<◌, ◌≤◌, false, IfErr, IfOk, MatchOption, MatchResult, OnErr, OnOk};
 ghost use Rattle.reg_process.specs.Process.{State};
-ghost use Rattle.reg_process.specs.declared.steps.Step.TheVariants.{Call, Take, Tick};
 ghost use Rattle.reg_node.specs.LogTexts.{Journal, log_crc};
 ghost use Rattle.reg_node.specs.Logged.{IsSpelled, IsSpelledOn, LoggedHandsOut, LoggedHandsOutNothing, SpellsEntry};
 ghost use Rattle.reg_node.specs.Logged.{SpellsNothing, Writes, WritesNothing};
@@ -14,9 +13,9 @@ use crate::faults::{HelloFault, LoggedFault, MeetingFault, NotLogged, OpenFault}
 use crate::meetings::MeetingNode;
 use crate::outputs::Output;
 use crate::transcripts::{Log, ReadLog, Recorded, sealed_entry};
-use reg_base::{Names, Op};
-use reg_frames::Frame;
+use reg_base::Names;
 use reg_front::FrontEnd;
+use reg_process::Step;
 use reg_records::LogEntry;
 use std::alloc::{Allocator, Global};
 use std::marker::Model;
@@ -130,10 +129,10 @@ impl<F: FrontEnd, A: Allocator + Copy> LoggedNode<F, A> {
         }
     }
 
-    /// Calls the next operation, as by `MeetingNode::call`, and gives the bytes of the entry.
-    pub fn call(&mut self, op: Op) -> Result<Vec<u8, A>, LoggedFault>
-        ensures written { MatchResult result (λ v. Writes F.start self.old (Call op) v.items self.new)
-            (λ fault. WritesNothing F.start self.old (Call op) fault self.new) }
+    /// Makes a step, as by `MeetingNode::step`, and gives the bytes of the entry.
+    pub fn step(&mut self, step: &Step) -> Result<Vec<u8, A>, LoggedFault>
+        ensures written { MatchResult result (λ v. Writes F.start self.old step.now v.items self.new)
+            (λ fault. WritesNothing F.start self.old step.now fault self.new) }
         ensures spelled { (first : State) (j : Journal) (past : Past) → IsSpelled F.start first j past self.old
             → MatchResult result (λ v. IsSpelledOn F.start first j past v.items self.new)
             (λ fault. fault ≢ LoggedFault.Unspelled → IsSpelled F.start first j past self.new) }
@@ -141,37 +140,7 @@ impl<F: FrontEnd, A: Allocator + Copy> LoggedNode<F, A> {
         if self.stopped {
             return Err(LoggedFault::Stopped);
         }
-        let made = self.meeting.call(op);
-        self.spell(made)
-    }
-
-    /// Takes a frame, as by `MeetingNode::take`, and gives the bytes of the entry.
-    pub fn take(&mut self, from: u8, frame: &Frame) -> Result<Vec<u8, A>, LoggedFault>
-        ensures written { MatchResult result (λ v. Writes F.start self.old (Take from frame.now) v.items self.new)
-            (λ fault. WritesNothing F.start self.old (Take from frame.now) fault self.new) }
-        ensures spelled { (first : State) (j : Journal) (past : Past) → IsSpelled F.start first j past self.old
-            → MatchResult result (λ v. IsSpelledOn F.start first j past v.items self.new)
-            (λ fault. fault ≢ LoggedFault.Unspelled → IsSpelled F.start first j past self.new) }
-    {
-        if self.stopped {
-            return Err(LoggedFault::Stopped);
-        }
-        let made = self.meeting.take(from, frame);
-        self.spell(made)
-    }
-
-    /// Puts unacknowledged data frames again, as by `MeetingNode::tick`, and gives the bytes of the entry.
-    pub fn tick(&mut self) -> Result<Vec<u8, A>, LoggedFault>
-        ensures written { MatchResult result (λ v. Writes F.start self.old Tick v.items self.new)
-            (λ fault. WritesNothing F.start self.old Tick fault self.new) }
-        ensures spelled { (first : State) (j : Journal) (past : Past) → IsSpelled F.start first j past self.old
-            → MatchResult result (λ v. IsSpelledOn F.start first j past v.items self.new)
-            (λ fault. fault ≢ LoggedFault.Unspelled → IsSpelled F.start first j past self.new) }
-    {
-        if self.stopped {
-            return Err(LoggedFault::Stopped);
-        }
-        let made = self.meeting.tick();
+        let made = self.meeting.step(step);
         self.spell(made)
     }
 

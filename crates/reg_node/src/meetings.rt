@@ -3,7 +3,6 @@ ghost use Rattle.std.specs.Prelude.{◌≡◌, ◌<◌, ◌≤◌, true, false, 
 ghost use Rattle.std.specs.Prelude.{MatchResult, OnErr, OnOk};
 ghost use Rattle.reg_process.specs.Faults.{is_cast};
 ghost use Rattle.reg_process.specs.Process.{State, unsettled};
-ghost use Rattle.reg_process.specs.declared.steps.Step.TheVariants.{Call, Take, Tick};
 ghost use Rattle.reg_node.specs.Logs.{first_state};
 ghost use Rattle.reg_node.specs.Meetings.{Hears, HearsNothing, MeetingHandsOut, MeetingHandsOutNothing, MeetingLogs};
 ghost use Rattle.reg_node.specs.Meetings.{MeetingLogsNothing, all_heard, heard_at_first};
@@ -15,8 +14,8 @@ use crate::faults::{HelloFault, MeetingFault, NotLogged, OpenFault};
 use crate::nodes::Node;
 use crate::outputs::Output;
 use reg_base::{Op, Shape};
-use reg_frames::Frame;
 use reg_front::{FrontEnd, Start};
+use reg_process::Step;
 use reg_records::LogEntry;
 use std::alloc::{AllocError, Allocator, Global};
 use std::marker::Model;
@@ -156,55 +155,25 @@ impl<F: FrontEnd, A: Allocator + Copy> MeetingNode<F, A> {
         matches!(start, Start::Cast | Start::CastAndAnswer)
     }
 
-    /// Calls the next operation, as by `Node::call`, unless it would be cast too early.
-    pub fn call(&mut self, op: Op) -> Result<LogEntry, MeetingFault>
-        ensures made { MatchResult result (λ entry. MeetingLogs F.start self.old (Call op) entry self.new)
-            (λ fault. MeetingLogsNothing F.start self.old (Call op) fault self.new) }
+    /// Makes a step, as by `Node::step`, unless it is a call that would be cast too early.
+    pub fn step(&mut self, step: &Step) -> Result<LogEntry, MeetingFault>
+        ensures made { MatchResult result (λ entry. MeetingLogs F.start self.old step.now entry self.new)
+            (λ fault. MeetingLogsNothing F.start self.old step.now fault self.new) }
         ensures lives { (first : State) (past : Past) → Lives F.start first past self.old.node
             → Lives F.start first (past_logged past result) self.new.node }
     {
         if self.lost {
             return Err(MeetingFault::LogLost);
         }
-        if self.casts(&op) && !are_all(&self.heard) {
+        if let Step::Call { op } = step
+            && self.casts(op)
+            && !are_all(&self.heard)
+        {
             return Err(MeetingFault::Unheard);
         }
-        match self.node.call(op) {
-            Ok(entry) => Ok(entry),
-            Err(fault) => Err(MeetingFault::OfNode { fault }),
-        }
-    }
-
-    /// Takes a frame, as by `Node::take`.
-    pub fn take(&mut self, from: u8, frame: &Frame) -> Result<LogEntry, MeetingFault>
-        ensures made { MatchResult result (λ entry. MeetingLogs F.start self.old (Take from frame.now) entry self.new)
-            (λ fault. MeetingLogsNothing F.start self.old (Take from frame.now) fault self.new) }
-        ensures lives { (first : State) (past : Past) → Lives F.start first past self.old.node
-            → Lives F.start first (past_logged past result) self.new.node }
-    {
-        if self.lost {
-            return Err(MeetingFault::LogLost);
-        }
-        match self.node.take(from, frame) {
-            Ok(entry) => Ok(entry),
-            Err(fault) => Err(MeetingFault::OfNode { fault }),
-        }
-    }
-
-    /// Puts unacknowledged data frames again, as by `Node::tick`.
-    pub fn tick(&mut self) -> Result<LogEntry, MeetingFault>
-        ensures made { MatchResult result (λ entry. MeetingLogs F.start self.old Tick entry self.new)
-            (λ fault. MeetingLogsNothing F.start self.old Tick fault self.new) }
-        ensures lives { (first : State) (past : Past) → Lives F.start first past self.old.node
-            → Lives F.start first (past_logged past result) self.new.node }
-    {
-        if self.lost {
-            return Err(MeetingFault::LogLost);
-        }
-        match self.node.tick() {
-            Ok(entry) => Ok(entry),
-            Err(fault) => Err(MeetingFault::OfNode { fault }),
-        }
+        self.node
+            .step(step)
+            .map_err(|fault| MeetingFault::OfNode { fault })
     }
 
     /// Notes that the first `count` entries of the log are durable, as by `Node::mark_durable`.

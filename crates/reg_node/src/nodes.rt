@@ -1,20 +1,18 @@
 //! One node.
-ghost use Rattle.std.specs.Prelude.{◌≡◌, ◌<◌, ◌≤◌, [], false, if◌then◌else◌, length, IfOk, IfErr, IsErrOf, OnErr, OnOk};
+ghost use Rattle.std.specs.Prelude.{◌≡◌, ◌<◌, ◌≤◌, if◌then◌else◌, length, IfOk, IfErr, IsErrOf, OnErr, OnOk};
 ghost use Rattle.std.specs.Prelude.{MatchOption, MatchResult};
-ghost use Rattle.reg_process.specs.Faults.{NewRefused, StepTakesMemory};
+ghost use Rattle.reg_process.specs.Faults.{StepTakesMemory};
 ghost use Rattle.reg_process.specs.Process.{State};
-ghost use Rattle.reg_process.specs.declared.steps.Step.TheVariants.{Call, Take, Tick};
 ghost use Rattle.reg_node.specs.Logs.{calls_in, first_state, is_call as is_call_of};
 ghost use Rattle.reg_node.specs.Opening.{IsOpened, IsOpenFault, opened_with, unopened_by};
-ghost use Rattle.reg_node.specs.Nodes.{HandsOut, HandsOutNothing, Lives, Logs, LogsNothing, Past, marked, nothing_yet};
-ghost use Rattle.reg_node.specs.Nodes.{past_given, past_logged};
+ghost use Rattle.reg_node.specs.Nodes.{HandsOut, HandsOutNothing, Lives, Logs, LogsNothing, Past, marked, past_given};
+ghost use Rattle.reg_node.specs.Nodes.{past_logged};
 
 use crate::faults::{NodeFault, NotLogged, OpenFault};
 use crate::outputs::Output;
 use crate::replaying::replay;
+use reg_base::Shape;
 use reg_base::limits::MOST_EVENTS;
-use reg_base::{Op, Shape};
-use reg_frames::Frame;
 use reg_front::FrontEnd;
 use reg_process::{Process, ProcessFault, Step};
 use reg_records::LogEntry;
@@ -82,29 +80,6 @@ fn count_calls(entries: &[LogEntry]) -> u64
 }
 
 impl<F: FrontEnd, A: Allocator + Copy> Node<F, A> {
-    /// A node whose log is empty.
-    pub fn new(alloc: A, shape: Shape, me: u8) -> Result<Node<F, A>, ProcessFault>
-        ensures made { IfOk result (λ n. n
-            ≡ record {
-              process = record { failed = false; state = first_state shape me; room = 0 };
-              logged = 0;
-              calls = 0;
-              durable = 0;
-              held = [];
-            }) }
-        ensures lives { IfOk result (Lives F.start (first_state shape me) nothing_yet) }
-        ensures fault { IfErr result (λ fault. NewRefused shape.processes me fault) }
-    {
-        let process = Process::new(alloc, shape, me)?;
-        Ok(Node {
-            process,
-            logged: 0,
-            calls: 0,
-            durable: 0,
-            held: VecDeque::new(alloc),
-        })
-    }
-
     /// A node that goes on after its log, which is all durable. Nothing of these entries is held back: a caller of
     /// before is gone, and frames that were lost are put again by ticks.
     ///
@@ -170,8 +145,10 @@ impl<F: FrontEnd, A: Allocator + Copy> Node<F, A> {
         self.durable
     }
 
-    /// Makes a step, and hands out its entry for the log alone.
-    fn step(&mut self, step: &Step) -> Result<LogEntry, NodeFault>
+    /// Makes a step of its process: calls the next operation, takes a frame that another process put for it, or puts
+    /// unacknowledged data frames again, as far as a process does in one tick. The entry is for the log alone: its
+    /// reply is told where it is handed out.
+    pub fn step(&mut self, step: &Step) -> Result<LogEntry, NodeFault>
         ensures made { MatchResult result (λ entry. Logs F.start self.old step.now entry self.new)
             (λ fault. LogsNothing F.start self.old step.now fault self.new) }
         ensures memory { IsErrOf result (NodeFault.Refused ProcessFault.OutOfMemory)
@@ -196,46 +173,6 @@ impl<F: FrontEnd, A: Allocator + Copy> Node<F, A> {
             }
             Err(fault) => Err(NodeFault::Refused { fault }),
         }
-    }
-
-    /// Calls the next operation of its process. The entry is for the log alone: its reply is told where it is handed
-    /// out.
-    pub fn call(&mut self, op: Op) -> Result<LogEntry, NodeFault>
-        ensures made { MatchResult result (λ entry. Logs F.start self.old (Call op) entry self.new)
-            (λ fault. LogsNothing F.start self.old (Call op) fault self.new) }
-        ensures memory { IsErrOf result (NodeFault.Refused ProcessFault.OutOfMemory)
-            → StepTakesMemory F.start self.old.process.state self.old.process.room (Call op) }
-        ensures lives { (first : State) (past : Past) → Lives F.start first past self.old
-            → Lives F.start first (past_logged past result) self.new }
-    {
-        self.step(&Step::Call { op })
-    }
-
-    /// Takes a frame that another process put for it. The entry is for the log alone.
-    pub fn take(&mut self, from: u8, frame: &Frame) -> Result<LogEntry, NodeFault>
-        ensures made { MatchResult result (λ entry. Logs F.start self.old (Take from frame.now) entry self.new)
-            (λ fault. LogsNothing F.start self.old (Take from frame.now) fault self.new) }
-        ensures memory { IsErrOf result (NodeFault.Refused ProcessFault.OutOfMemory)
-            → StepTakesMemory F.start self.old.process.state self.old.process.room (Take from frame.now) }
-        ensures lives { (first : State) (past : Past) → Lives F.start first past self.old
-            → Lives F.start first (past_logged past result) self.new }
-    {
-        self.step(&Step::Take {
-            from,
-            frame: *frame,
-        })
-    }
-
-    /// Puts unacknowledged data frames again, as far as a process does in one tick. The entry is for the log alone.
-    pub fn tick(&mut self) -> Result<LogEntry, NodeFault>
-        ensures made { MatchResult result (λ entry. Logs F.start self.old Tick entry self.new)
-            (λ fault. LogsNothing F.start self.old Tick fault self.new) }
-        ensures memory { IsErrOf result (NodeFault.Refused ProcessFault.OutOfMemory)
-            → StepTakesMemory F.start self.old.process.state self.old.process.room Tick }
-        ensures lives { (first : State) (past : Past) → Lives F.start first past self.old
-            → Lives F.start first (past_logged past result) self.new }
-    {
-        self.step(&Step::Tick)
     }
 
     /// Notes that the first `count` entries of the log are durable. A count that is not above an earlier one changes

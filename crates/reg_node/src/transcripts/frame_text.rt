@@ -31,10 +31,7 @@ fn spelled<const M: usize>(text: &[u8], bytes: &[u8]) -> Option<Frame>
     if !are_digits_of::<M>(text, bytes) {
         return None;
     }
-    match decode(bytes) {
-        Ok(frame) => Some(frame),
-        Err(_) => None,
-    }
+    decode(bytes).ok()
 }
 
 /// The frame of N bytes that the text spells, each of them as two of the M digits.
