@@ -176,8 +176,6 @@ pub fn start<
     ensures cluster { IfOk result (λ started. started.0 ≡ shape) }
     ensures passes { IfOk result (λ started. AreNew shape started.1.items) }
 {
-    let Ok(parts) = set_up::<F, G>(&rt, alloc, shape, gate) else {
-        return Err(StartFault::OutOfMemory);
-    };
+    let parts = set_up::<F, G>(alloc, shape, gate)?;
     run_parts(rt, alloc, parts, &road)
 }

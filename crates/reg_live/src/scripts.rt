@@ -112,10 +112,7 @@ fn call<F: FrontEnd + Send + Sync + 'static, R: Threads + Wait + Copy + Send + S
         requires { pass.receipts ≡ [] }
         ensures { IsPerformed pass.me script.items result.pass result.fault }
     { perform_all(&rt, pass, &script) };
-    match thread::spawn_with(&rt, promise, performed) {
-        Ok(started) => Ok(started),
-        Err(_) => Err(AllocError),
-    }
+    thread::spawn_with(&rt, promise, performed).map_err(|_| AllocError)
 }
 
 /// Starts the caller of each script, the k-th with the k-th pass.
@@ -300,9 +297,7 @@ pub fn run_scripts_in<
 {
     let mut callers = Vec::new(alloc);
     callers.reserve(scripts.len())?;
-    let Ok(road) = Arc::new(alloc, Honest) else {
-        return Err(RunStop::OutOfMemory);
-    };
+    let road = Arc::new(alloc, Honest).map_err(|_| RunStop::OutOfMemory)?;
     let (running, passes) = start::<F, _, _, _>(rt, alloc, shape, NoGate, road)?;
     let all = start_callers(rt, &mut callers, shape, passes, scripts).is_ok();
     end(&rt, alloc, running, callers, all)
