@@ -13,7 +13,6 @@ use Rattle.clap.specs.Walk.{subcommand_met, walk_from, walked}
 use Rattle.clap.specs.Simple.{Shape, built_leaf, filled, help_rule, new_shape}
 use Rattle.clap.specs.Faults.{level_fault, long_fault, react_fault, short_fault, stray_fault, turn_fault, walk_fault}
 use Rattle.clap.specs.declared.error.ErrorKind.{ErrorKind}
-use Rattle.clap.specs.declared.error.ErrorKind.TheVariants.{UnknownArgument}
 use Rattle.reg_cli.specs.Subcommands.{fair_app, fair_rule, is_dashes, is_flag}
 use Rattle.reg_cli.proofs.Strays.{both_none, held, long_word, some_kind, stray_word}
 
@@ -182,10 +181,3 @@ stray_turn s unplaced shorts word names none flag =
 
 pub first_fails : (a b c : Kinds) (k : ErrorKind) (ks : Kinds) → a ≡ k ∷ ks → or_else (or_else a b) c ≡ k ∷ ks
 first_fails a b c k ks e = rw e refl
-
--- a stray word of a subcommand is an unknown argument
-pub plain_stray : (name word : Text) (words : List Text) → is_flag word ≡ false
-    → level_fault (plain_leaf name) [] nothing_held (word ∷ words) false [] ≡ UnknownArgument ∷ []
-unfolding walk_fault
-plain_stray name word words flag = first_fails _ _ _ _ _
-    (stray_turn (plain_leaf name) refl (λ x rest next h. help_short (104 == x) (plain_leaf name).rules rest [] next h) word [] refl flag)

@@ -1,5 +1,5 @@
 -- Command lines with subcommands that take no word, or the flag `--fair`, and what clap's parse reads of them.
-use Rattle.std.specs.Prelude.{◌==◌, ◌||◌, Bool, true, false, List, [], ◌∷◌, drop, map, codes, Option, Some, None}
+use Rattle.std.specs.Prelude.{◌==◌, Bool, true, false, List, [], ◌∷◌, drop, map, codes, Option, Some, None}
 use Rattle.std.specs.Prelude.{option_map, String, string_bytes, if◌then◌else◌}
 use Rattle.std.specs.Borrow.{Bor}
 use Rattle.std.specs.Str.{bytes_eq}
@@ -22,10 +22,6 @@ is_dashes word = bytes_eq word (codes "--")
 abbrev pub is_flag : Text → Bool
 is_flag [] = false
 is_flag (x ∷ xs) = x == 45
-
--- the word is `help`, or begins with a hyphen
-abbrev pub may_ask_help : Text → Bool
-may_ask_help word = bytes_eq (codes "help") word || is_flag word
 
 -- the flag `--fair`
 abbrev pub fair_rule : Rule

@@ -97,10 +97,8 @@ fn obey<R: Threads + Wait + Clock + Copy + Send + Sync + 'static, I: Read, W: Wr
     ensures part { IsErrOf result (Command Output)
         → IfSome (I.remaining reader.old) (Lives (AppendsPart (W.contents writer.old) (W.contents writer.new))) }
 {
-    match read_input(alloc, reader) {
-        Ok(text) => perform_text(rt, alloc, text.as_str(), writer),
-        Err(fault) => Err(Stop::from(fault)),
-    }
+    let text = read_input(alloc, reader)?;
+    perform_text(rt, alloc, text.as_str(), writer)
 }
 
 /// Reads a workload, has its scripts performed by threads, and writes the report of the run that they made. Its seed,

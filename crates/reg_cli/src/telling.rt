@@ -16,10 +16,9 @@ use std::rt::Env;
 /// `OutOfMemory` where memory was refused, and else `CommandLine`. No clause says so.
 pub fn words_of<R: AllocGlobal + Env>(rt: &R) -> Result<Vec<String>, WordsFault> {
     match env::args(rt) {
-        Ok(args) => match args.collect(rt.alloc()) {
-            Ok(words) => Ok(words),
-            Err(_) => Err(WordsFault::OutOfMemory),
-        },
+        Ok(args) => args
+            .collect(rt.alloc())
+            .map_err(|_| WordsFault::OutOfMemory),
         Err(error) if error.kind() == ErrorKind::OutOfMemory => Err(WordsFault::OutOfMemory),
         Err(_) => Err(WordsFault::CommandLine),
     }

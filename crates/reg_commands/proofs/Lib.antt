@@ -13,3 +13,4 @@ pub mod Held
 pub mod Joined
 pub mod Plain
 pub mod Printed
+pub mod Blamed

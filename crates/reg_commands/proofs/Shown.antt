@@ -92,11 +92,6 @@ pub shows_same : {E : Type 0} (start : Op → ℕ → Start) (p q : Plan) (repor
     → IfOk report (λ r. Shows start p r) → IfOk report (λ r. Shows start q r)
 shows_same start p q report same shown = subst (λ (x : Plan). IfOk report (λ r. Shows start x r)) same shown
 
-pub points_same : {E : Type 0} (start : Op → ℕ → Start) (p q : Plan) (report : Result Contents E) → p ≡ q
-    → IfOk report (λ r. ShowsPoints start p r.points) → IfOk report (λ r. ShowsPoints start q r.points)
-points_same start p q report same shown =
-    subst (λ (x : Plan). IfOk report (λ r. ShowsPoints start x r.points)) same shown
-
 -- want of memory blames nothing
 pub memory_blames : {R : Type 0} (start : Op → ℕ → Start) (p : Plan) (report : Result R Fault)
     → IfErr report (λ f. f ≡ OutOfMemory) → IfErr report (λ f. BlamesRun start p f)

@@ -38,10 +38,7 @@ fn checked<A: Allocator + Copy>(alloc: A, text: String<A>) -> Result<Verdicts, F
     let report = read_report_text(alloc, text.as_str())?;
     // The checkers don't need the text, which can take more memory than the report.
     drop(text);
-    match judge(alloc, &report) {
-        Ok(verdicts) => Ok(verdicts),
-        Err(_) => Err(Fault::OutOfMemory),
-    }
+    Ok(judge(alloc, &report)?)
 }
 
 /// Reads a report, and writes what the checkers say of it. The answer is whether every line says yes.

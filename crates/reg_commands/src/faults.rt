@@ -2,6 +2,7 @@
 use reg_history::ReadWhy;
 use reg_inputs::WorkloadFault;
 use reg_world::{RunFault, WorldFault};
+use std::alloc::AllocError;
 use std::fmt;
 use thiserror::Error;
 
@@ -43,6 +44,17 @@ impl fmt::Display for Fault {
             Fault::Workload { fault } => write!(f, "{fault}"),
             Fault::OutOfMemory => f.write_str("out of memory"),
         }
+    }
+}
+
+impl From<AllocError> for Fault {
+    ghost use Rattle.std.specs.Prelude.{◌≡◌};
+    ghost use Rattle.reg_commands.specs.declared.faults.Fault.TheVariants.{OutOfMemory};
+
+    ghost from_gives = { λ _ fault. fault ≡ OutOfMemory };
+
+    fn from(_error: AllocError) -> Fault {
+        Self::OutOfMemory
     }
 }
 

@@ -81,9 +81,7 @@ fn report_of<F: NamedFront, A: Allocator + Copy>(
     ensures shows { IfOk result (λ r. ShowsPlay fair F.start work (PointsOf F.front) r) }
     ensures why { IfErr result (λ f. f ≡ Fault.OutOfMemory) }
 {
-    let Ok(play) = play_by::<F, A, UnlistedWires<A>>(alloc, &work, fair) else {
-        return Err(Fault::OutOfMemory);
-    };
+    let play = play_by::<F, A, UnlistedWires<A>>(alloc, &work, fair)?;
     report_run(alloc, work.front, work.names, play.world)
 }
 

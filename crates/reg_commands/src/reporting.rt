@@ -73,12 +73,8 @@ fn report_world<F: FrontEnd, A: Allocator + Copy, W: WireStore<A>>(
     ensures points { IfOk result (λ r. r.points ≡ option_map (λ v. v.items) points) }
     ensures why { IfErr result (λ f. f ≡ Fault.OutOfMemory) }
 {
-    let Ok(title) = String::from_str(alloc, front.name()) else {
-        return Err(Fault::OutOfMemory);
-    };
-    let Ok((_, order)) = world.serial_order() else {
-        return Err(Fault::OutOfMemory);
-    };
+    let title = String::from_str(alloc, front.name())?;
+    let (_, order) = world.serial_order()?;
     Ok(report(title, names, world.into_history(), order, points))
 }
 
@@ -120,9 +116,7 @@ pub fn report_run<F: NamedFront, A: Allocator + Copy, W: WireStore<A>>(
     ensures points { IfOk result (λ r. PointsOf F.front (plan_in front names world) r.points) }
     ensures why { IfErr result (λ f. f ≡ Fault.OutOfMemory) }
 {
-    let Ok(points) = standing_points(&world) else {
-        return Err(Fault::OutOfMemory);
-    };
+    let points = standing_points(&world)?;
     report_world(alloc, front, names, world, points)
 }
 

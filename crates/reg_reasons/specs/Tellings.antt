@@ -122,7 +122,3 @@ TellsAny false is_accepted answer text = Tells (kind_of text) is_accepted answer
 abbrev pub Answers : Bool → (List ℕ → Type 0) → List ℕ → Type 0
 Answers is_accepted Wrote text =
     (answer : List ℕ) × TellsAny (begins_record text) is_accepted answer text × Wrote answer
-
--- a first part of it
-abbrev pub AnswersAny : (List ℕ → Type 0) → List ℕ → Type 0
-AnswersAny Wrote text = (is_accepted : Bool) × Answers is_accepted Wrote text

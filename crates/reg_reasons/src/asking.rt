@@ -18,10 +18,8 @@ pub struct Explain {
 }
 
 impl TextCommand for Explain {
-    ghost use Rattle.std.specs.Prelude.{⊤, false};
-    ghost use Rattle.reg_commands.specs.declared.command.Command.TheVariants.{Play, Replay};
-    ghost use Rattle.reg_commands.specs.declared.faults.Fault.TheVariants.{Unread, TooLong, NotText, Output, Line};
-    ghost use Rattle.reg_commands.specs.declared.faults.Fault.TheVariants.{Event, Workload, OutOfMemory};
+    ghost use Rattle.std.specs.Prelude.{⊤};
+    ghost use Rattle.reg_commands.proofs.Blamed.{told_by_all};
 
     type Fault = Fault;
 
@@ -42,16 +40,7 @@ impl TextCommand for Explain {
         Ok(told.is_accepted)
     }
 
-    ghost blames_input = { λ _. elim [
-      | Unread ↦ λ _ _ _. tt
-      | TooLong ↦ λ _ _ blamed. blamed Replay
-      | NotText ↦ λ _ _ blamed. blamed Replay
-      | Output ↦ λ _ _ _. tt
-      | Line line why ↦ λ _ _ blamed. blamed (Play false)
-      | Event at fault ↦ λ _ _ blamed. blamed (Play false)
-      | Workload fault ↦ λ _ _ blamed. blamed Replay
-      | OutOfMemory ↦ λ _ _ _. tt
-    ] };
+    ghost blames_input = { λ _ fault text. told_by_all Halts text tt (λ long. long) (λ no. no) tt fault };
 }
 
 /// Tells the same where there is no heap but the one of the answer, as in a page. A workload is read in its layout
@@ -60,10 +49,8 @@ impl TextCommand for Explain {
 pub struct ExplainLent;
 
 impl TextCommand for ExplainLent {
-    ghost use Rattle.std.specs.Prelude.{⊤, false};
-    ghost use Rattle.reg_commands.specs.declared.command.Command.TheVariants.{Play, Replay};
-    ghost use Rattle.reg_commands.specs.declared.faults.Fault.TheVariants.{Unread, TooLong, NotText, Output, Line};
-    ghost use Rattle.reg_commands.specs.declared.faults.Fault.TheVariants.{Event, Workload, OutOfMemory};
+    ghost use Rattle.std.specs.Prelude.{⊤};
+    ghost use Rattle.reg_commands.proofs.Blamed.{told_by_all};
 
     type Fault = Fault;
 
@@ -84,14 +71,5 @@ impl TextCommand for ExplainLent {
         Ok(told.is_accepted)
     }
 
-    ghost blames_input = { λ _. elim [
-      | Unread ↦ λ _ _ _. tt
-      | TooLong ↦ λ _ _ blamed. blamed Replay
-      | NotText ↦ λ _ _ blamed. blamed Replay
-      | Output ↦ λ _ _ _. tt
-      | Line line why ↦ λ _ _ blamed. blamed (Play false)
-      | Event at fault ↦ λ _ _ blamed. blamed (Play false)
-      | Workload fault ↦ λ _ _ blamed. blamed Replay
-      | OutOfMemory ↦ λ _ _ _. tt
-    ] };
+    ghost blames_input = { λ _ fault text. told_by_all Halts text tt (λ long. long) (λ no. no) tt fault };
 }

@@ -134,10 +134,7 @@ impl<'a> Document<'a> {
 
     /// What stands from the value of a key on, and nothing where no line has it.
     fn value(&self, key: Key) -> &'a [u8] {
-        match self.entry(key) {
-            Some(entry) => entry.value,
-            None => b"",
-        }
+        self.entry(key).map_or(b"", |entry| entry.value)
     }
 
     /// Puts the line of a key.

@@ -167,8 +167,6 @@ pub fn explain_event<A: Allocator + Copy>(
     let Some(line) = kept_at(text.as_bytes(), at.saturating_add(HEAD_LINES)) else {
         return Ok(());
     };
-    match parse_schedule(notes.alloc, text) {
-        Ok(schedule) => explain_in(notes, &schedule, line, at, fault),
-        Err(_) => Err(AllocError),
-    }
+    let schedule = parse_schedule(notes.alloc, text).map_err(|_| AllocError)?;
+    explain_in(notes, &schedule, line, at, fault)
 }

@@ -23,10 +23,7 @@ fn nth(mut lines: Lines<'_>, place: u64) -> Option<Line<'_>> {
 
 /// The bytes of a line, and none where it isn't there.
 pub fn bytes_of(line: Option<Line<'_>>) -> &[u8] {
-    match line {
-        Some(line) => line.bytes,
-        None => b"",
-    }
+    line.map_or(b"", |line| line.bytes)
 }
 
 /// The line of this number.

@@ -235,10 +235,8 @@ fn explain_step<A: Allocator + Copy>(
         return Ok(());
     };
     notes.put_place(line, 0);
-    match parse_record(notes.alloc, text) {
-        Ok(record) => explain_in(notes, &record, number.saturating_sub(FIRST_STEP) as usize),
-        Err(_) => Err(AllocError),
-    }
+    let record = parse_record(notes.alloc, text).map_err(|_| AllocError)?;
+    explain_in(notes, &record, number.saturating_sub(FIRST_STEP) as usize)
 }
 
 /// What explains the fault that `verify` tells of a record.

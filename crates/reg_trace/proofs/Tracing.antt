@@ -1,6 +1,6 @@
 -- The lines of a trace as they are put are its text.
 use Rattle.std.proofs.Common.{ℕ, zero, suc, ◌≡◌, ◌+◌, ◌<◌, List, [], ◌∷◌, ◌++◌, length, take, map, flat_map, get_or}
-use Rattle.std.proofs.Common.{codes, cond, Bool, true, false, Option, None, Some, refl, sym, ap, ap₂, ◌∙◌, arith}
+use Rattle.std.proofs.Common.{codes, Option, None, Some, sym, ap, ap₂, ◌∙◌, arith}
 use Rattle.std.proofs.Common.{append_assoc, append-nil}
 use Rattle.std.specs.Fmt.{decimal}
 use Rattle.std.proofs.lemmas.Grind.{flat_map-append}
@@ -67,14 +67,6 @@ moment_put held names number f a b t c d e h j k one two turn three four five wa
 abbrev pub lines_at : (ℕ → List (List ℕ)) → Option ℕ → List (List ℕ)
 lines_at f None = []
 lines_at f (Some x) = f x
-
-pub lines_if : (f : ℕ → List (List ℕ)) (b : Bool) (x : ℕ) (o : Option ℕ) → o ≡ cond b (Some x) None
-    → lines_at f o ≡ cond b (f x) []
-lines_if f b x o is = ap (lines_at f) is ∙ chosen b
-  where
-    chosen : (b : Bool) → lines_at f (cond b (Some x) None) ≡ cond b (f x) []
-    chosen true = refl
-    chosen false = refl
 
 -- the lines of one more of these
 block_more : {X : Type 0} (f : X → List (List ℕ)) (xs : List X) (i : ℕ) (d : X) → i < length xs

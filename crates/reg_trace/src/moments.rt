@@ -126,10 +126,9 @@ fn expected_of<F: FrontEnd, A: Allocator + Copy>(world: &World<F, A>, event: &Ev
     ensures { result ≡ expected_by world.now.processes (run_in F.start world.now).nodes event.now }
 {
     match event {
-        Event::Take { from, to, .. } => match world.wire(*from, *to) {
-            Some(_) => Some(expected_from(world, *from, *to)),
-            None => None,
-        },
+        Event::Take { from, to, .. } => world
+            .wire(*from, *to)
+            .map(|_| expected_from(world, *from, *to)),
         _ => None,
     }
 }

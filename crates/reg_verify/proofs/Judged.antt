@@ -25,10 +25,8 @@ use Rattle.reg_commands.specs.Verdicts.{AllPointsSay, Judges, PointsSay, SerialS
 use Rattle.reg_commands.specs.Verdicts.{is_yes_or_none}
 use Rattle.reg_node.specs.Openings.{opening_of, writes_from}
 use Rattle.reg_verify.specs.declared.stories.breaches.Breach.{Breach}
-use Rattle.reg_verify.specs.declared.stories.breaches.Breach.TheVariants.{Order, Points, Other}
-use Rattle.reg_verify.specs.declared.stories.breaches.ChapterPart.{ChapterPart}
-use Rattle.reg_verify.specs.declared.stories.breaches.ChapterPart.TheVariants.{Front, Processes, Registers}
-use Rattle.reg_verify.specs.Stories.{AreAlike, AreStory, DiffersFirst, EndsWith, Follows, GoesOn, IsBreach}
+use Rattle.reg_verify.specs.declared.stories.breaches.Breach.TheVariants.{Order, Points}
+use Rattle.reg_verify.specs.Stories.{AreAlike, AreStory, EndsWith, Follows, GoesOn, IsBreach}
 use Rattle.reg_verify.specs.Stories.{IsBreachBehind, IsOpened, IsRefused, IsUnopened, Passes, is_last}
 
 -- One report
@@ -129,16 +127,6 @@ few_in_opening values = few_writes 0 values
 
 -- A report behind another one
 
-pub differs_behind : (last : Bool) (a b : Contents) (part : ChapterPart) → DiffersFirst a b part
-    → IsBreachBehind last a b (Other part)
-differs_behind last a b part differs =
-    record { says = inl (part, refl, differs); never = λ f. not part differs f.alike }
-  where
-    not : (p : ChapterPart) → DiffersFirst a b p → AreAlike a b → ⊥
-    not Front d alike = d alike.front
-    not Processes d alike = d.1 alike.processes
-    not Registers d alike = d.2 alike.names
-
 pub behind_so : (last : Bool) (a b : Contents) (values : List ℕ) (writes : List Op) (o : Option Breach) → IsReport a
     → AreAlike a b → EndsWith a values → writes ≡ opening_of values
     → MatchOption o (IsOpened last writes b) (λ breach. IsUnopened writes b breach × ¬ IsOpened last writes b)
@@ -155,11 +143,6 @@ behind_so last a b values writes (Some breach) good alike ends is m = record {
 pub refused_at : (reports : List Contents) (place : ℕ) (r : Contents) (breach : Breach) → IsAt reports place r
     → IsRefused r breach → IsBreach reports place breach
 refused_at reports place r breach at refused = record { report = r; at = at; wrong = inl refused }
-
-pub goes_first : (reports : List Contents) (place : ℕ) (r : Contents) → IsAt reports place r → Passes r → place ≡ 0
-    → GoesOn reports place
-goes_first reports place r at passed first =
-    record { report = r; at = at; accepted = passed; follows = λ k a e there. absurd (omega (arith, first, e)) }
 
 pub goes_so : (reports : List Contents) (place k : ℕ) (a r : Contents) (last : Bool) (o : Option Breach)
     → IsAt reports place r → Passes r → place ≡ k + 1 → IsAt reports k a → last ≡ is_last reports place

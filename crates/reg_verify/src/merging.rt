@@ -1,9 +1,7 @@
 //! The command that puts the steps of a record into an order that is a run.
-ghost use Rattle.std.specs.Prelude.{ℕ, ◌≡◌, ◌≢◌, ◌<◌, ◌≤◌, IfOk, IfErr, IsErrOf, length, string_bytes};
-ghost use Rattle.std.specs.Io.KnownBytes.{Appends};
+ghost use Rattle.std.specs.Prelude.{ℕ, ◌≡◌, ◌≢◌, ◌<◌, ◌≤◌, IfOk, IfErr, length, string_bytes};
 ghost use Rattle.reg_base.specs.Lists.{lists};
 ghost use Rattle.reg_base.specs.declared.limits.TheConstants.{MOST_EVENTS};
-ghost use Rattle.reg_text.specs.Writing.{AppendsPart};
 ghost use Rattle.reg_commands.specs.Replays.{start_of};
 ghost use Rattle.reg_node.specs.RecordLines.{IsAccount};
 ghost use Rattle.reg_records.specs.Merges.{IsFull};
@@ -186,34 +184,14 @@ fn merged_text<A: Allocator + Copy>(alloc: A, text: String<A>) -> Result<Vec<u8,
     }
 }
 
-/// Reads a record, and writes the record of the same steps in an order that is a run.
-fn write_merged<A: Allocator + Copy, W: Write>(
-    alloc: A,
-    text: String<A>,
-    writer: &mut W,
-) -> Result<(), VerifyFault>
-    ensures ok { IfOk result
-        (λ _. Merges (Appends (W.contents writer.old) (W.contents writer.new)) (string_bytes text)) }
-    ensures why { IfErr result (λ f. BlamesMerge f (string_bytes text)) }
-    ensures silent { IfErr result (λ f. f ≢ VerifyFault.Command Fault.Output → writer.new ≡ writer.old) }
-    ensures part { IsErrOf result (VerifyFault.Command Fault.Output)
-        → Merges (AppendsPart (W.contents writer.old) (W.contents writer.new)) (string_bytes text) }
-{
-    let bytes = merged_text(alloc, text)?;
-    write_answer(writer, &bytes)?;
-    Ok(())
-}
-
 /// Puts the steps of a record into an order that is a run, those of each process in their own order, and writes the
 /// record of it.
 #[derive(Clone, Copy, Debug)]
 pub struct Merge;
 
 impl TextCommand for Merge {
-    ghost use Rattle.std.specs.Prelude.{false, refl};
-    ghost use Rattle.reg_commands.specs.declared.command.Command.TheVariants.{Check, Play};
-    ghost use Rattle.reg_commands.specs.declared.faults.Fault.TheVariants.{Unread, TooLong, NotText, Output, Line};
-    ghost use Rattle.reg_commands.specs.declared.faults.Fault.TheVariants.{Event, Workload, OutOfMemory};
+    ghost use Rattle.reg_commands.proofs.Blamed.{told_by_all};
+    ghost use Rattle.reg_verify.specs.Merges.{BlamesInput};
 
     type Fault = VerifyFault;
 
@@ -227,18 +205,10 @@ impl TextCommand for Merge {
         text: String<A>,
         writer: &mut W,
     ) -> Result<bool, VerifyFault> {
-        write_merged(alloc, text, writer)?;
+        let bytes = merged_text(alloc, text)?;
+        write_answer(writer, &bytes)?;
         Ok(true)
     }
 
-    ghost blames_input = { λ _. elim [
-      | Unread ↦ λ _ _ _. tt
-      | TooLong ↦ λ _ _ blamed. blamed Check
-      | NotText ↦ λ _ _ blamed. blamed Check
-      | Output ↦ λ _ other _. absurd (other refl)
-      | Line line why ↦ λ _ _ blamed. absurd (blamed (Play false))
-      | Event at fault ↦ λ _ _ blamed. absurd (blamed Check)
-      | Workload fault ↦ λ _ _ blamed. absurd (blamed Check)
-      | OutOfMemory ↦ λ _ _ _. tt
-    ] };
+    ghost blames_input = { λ _ fault text. told_by_all BlamesInput text tt (λ long. long) (λ no. no) tt fault };
 }

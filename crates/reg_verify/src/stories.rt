@@ -10,9 +10,8 @@ ghost use Rattle.std.specs.Prelude.{◌≡◌, ◌≢◌, ◌<◌, ◌⊎◌, Bo
 ghost use Rattle.std.specs.Io.KnownBytes.{Appends};
 ghost use Rattle.reg_text.specs.Writing.{AppendsPart};
 ghost use Rattle.reg_history.specs.Reports.{Contents};
-ghost use Rattle.reg_commands.specs.Statuses.{IsEither};
 ghost use Rattle.reg_verify.specs.Stories.{IsRuling};
-ghost use Rattle.reg_verify.specs.StoryTexts.{BlamesStory, SpellsReports, TellsReports, TellsStory};
+ghost use Rattle.reg_verify.specs.StoryTexts.{BlamesStory, SpellsReports, TellsReports};
 ghost use Rattle.reg_verify.specs.StoryTexts.{is_story as is_story_of};
 
 mod breaches;
@@ -62,10 +61,7 @@ fn ruled<A: Allocator + Copy>(alloc: A, reports: &[Report<A>]) -> Result<Ruling,
     ensures ruling { IfOk result (λ ruling. IsRuling reports.now ruling) }
     ensures why { IfErr result (λ f. f ≡ Fault.OutOfMemory) }
 {
-    match judge_story(alloc, reports) {
-        Ok(ruling) => Ok(ruling),
-        Err(_) => Err(Fault::OutOfMemory),
-    }
+    Ok(judge_story(alloc, reports)?)
 }
 
 /// Writes what is said of reports. The answer is whether they are one story.
@@ -90,33 +86,14 @@ fn tell_of<A: Allocator + Copy, W: Write>(
     }
 }
 
-/// Reads reports, and writes what is said of them. The answer is whether they are one story.
-fn tell_story<A: Allocator + Copy, W: Write>(
-    alloc: A,
-    text: String<A>,
-    writer: &mut W,
-) -> Result<bool, Fault>
-    ensures ok { IfOk result
-        (λ agrees. TellsStory agrees (Appends (W.contents writer.old) (W.contents writer.new)) (string_bytes text)) }
-    ensures why { IfErr result (λ f. BlamesStory f (string_bytes text)) }
-    ensures silent { IfErr result (λ f. f ≢ Fault.Output → writer.new ≡ writer.old) }
-    ensures part { IsErrOf result Fault.Output
-        → IsEither TellsStory (AppendsPart (W.contents writer.old) (W.contents writer.new)) (string_bytes text) }
-{
-    let reports = reports_in(alloc, text)?;
-    tell_of(alloc, &reports, writer)
-}
-
 /// Judges whether the reports that a text is, one behind another, are one story: each is accepted by `check`, and each
 /// goes on where the one before it ended.
 #[derive(Clone, Copy, Debug)]
 pub struct Story;
 
 impl TextCommand for Story {
-    ghost use Rattle.std.specs.Prelude.{⊤, false, refl};
-    ghost use Rattle.reg_commands.specs.declared.command.Command.TheVariants.{Check, Play};
-    ghost use Rattle.reg_commands.specs.declared.faults.Fault.TheVariants.{Unread, TooLong, NotText, Output, Line};
-    ghost use Rattle.reg_commands.specs.declared.faults.Fault.TheVariants.{Event, Workload, OutOfMemory};
+    ghost use Rattle.std.specs.Prelude.{⊤};
+    ghost use Rattle.reg_commands.proofs.Blamed.{told_by_all};
     ghost use Rattle.reg_verify.specs.StoryTexts.{BlamesStory, TellsStory};
 
     type Fault = Fault;
@@ -133,17 +110,9 @@ impl TextCommand for Story {
         text: String<A>,
         writer: &mut W,
     ) -> Result<bool, Fault> {
-        tell_story(alloc, text, writer)
+        let reports = reports_in(alloc, text)?;
+        tell_of(alloc, &reports, writer)
     }
 
-    ghost blames_input = { λ _. elim [
-      | Unread ↦ λ _ _ _. tt
-      | TooLong ↦ λ _ _ blamed. blamed Check
-      | NotText ↦ λ _ _ blamed. blamed Check
-      | Output ↦ λ _ other _. absurd (other refl)
-      | Line line why ↦ λ _ _ blamed. absurd (blamed (Play false))
-      | Event at fault ↦ λ _ _ blamed. absurd (blamed Check)
-      | Workload fault ↦ λ _ _ blamed. absurd (blamed Check)
-      | OutOfMemory ↦ λ _ _ _. tt
-    ] };
+    ghost blames_input = { λ _ fault text. told_by_all BlamesStory text tt (λ long. long) (λ no. no) tt fault };
 }

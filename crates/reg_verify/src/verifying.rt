@@ -1,9 +1,7 @@
 //! The command that judges a record and prints the report of its run.
-ghost use Rattle.std.specs.Prelude.{ℕ, ◌≡◌, ◌≢◌, ◌≤◌, ◌⊎◌, IfOk, IfErr, IsErrOf, length, string_bytes};
-ghost use Rattle.std.specs.Io.KnownBytes.{Appends};
+ghost use Rattle.std.specs.Prelude.{ℕ, ◌≡◌, ◌≢◌, ◌≤◌, ◌⊎◌, IfOk, IfErr, length, string_bytes};
 ghost use Rattle.reg_base.specs.Lists.{lists};
 ghost use Rattle.reg_base.specs.declared.limits.TheConstants.{MOST_EVENTS};
-ghost use Rattle.reg_text.specs.Writing.{AppendsPart};
 ghost use Rattle.reg_commands.specs.Replays.{PointsOf, start_of};
 ghost use Rattle.reg_records.specs.Records.{FailsAt, IsFaithful};
 ghost use Rattle.reg_verify.specs.Judging.{BlamesSteps};
@@ -138,33 +136,12 @@ fn verified<A: Allocator + Copy>(alloc: A, text: String<A>) -> Result<Report<A>,
     report_by_front(alloc, account)
 }
 
-/// Reads a record, and writes the report of its run.
-fn judge_record<A: Allocator + Copy, W: Write>(
-    alloc: A,
-    text: String<A>,
-    writer: &mut W,
-) -> Result<(), VerifyFault>
-    ensures ok { IfOk result
-        (λ _. Verifies (Appends (W.contents writer.old) (W.contents writer.new)) (string_bytes text)) }
-    ensures why { IfErr result (λ f. BlamesAccount f (string_bytes text)) }
-    ensures silent { IfErr result (λ f. f ≢ VerifyFault.Command Fault.Output → writer.new ≡ writer.old) }
-    ensures part { IsErrOf result (VerifyFault.Command Fault.Output)
-        → Verifies (AppendsPart (W.contents writer.old) (W.contents writer.new)) (string_bytes text) }
-{
-    let report = verified(alloc, text)?;
-    write_out(writer, &report)?;
-    Ok(())
-}
-
 /// Judges the record that a text spells, and writes the report of the run that it is, once all steps are judged.
 #[derive(Clone, Copy, Debug)]
 pub struct Verify;
 
 impl TextCommand for Verify {
-    ghost use Rattle.std.specs.Prelude.{false, refl};
-    ghost use Rattle.reg_commands.specs.declared.command.Command.TheVariants.{Check, Play};
-    ghost use Rattle.reg_commands.specs.declared.faults.Fault.TheVariants.{Unread, TooLong, NotText, Output, Line};
-    ghost use Rattle.reg_commands.specs.declared.faults.Fault.TheVariants.{Event, Workload, OutOfMemory};
+    ghost use Rattle.reg_commands.proofs.Blamed.{told_by_all};
 
     type Fault = VerifyFault;
 
@@ -178,18 +155,10 @@ impl TextCommand for Verify {
         text: String<A>,
         writer: &mut W,
     ) -> Result<bool, VerifyFault> {
-        judge_record(alloc, text, writer)?;
+        let report = verified(alloc, text)?;
+        write_out(writer, &report)?;
         Ok(true)
     }
 
-    ghost blames_input = { λ _. elim [
-      | Unread ↦ λ _ _ _. tt
-      | TooLong ↦ λ _ _ blamed. blamed Check
-      | NotText ↦ λ _ _ blamed. blamed Check
-      | Output ↦ λ _ other _. absurd (other refl)
-      | Line line why ↦ λ _ _ blamed. absurd (blamed (Play false))
-      | Event at fault ↦ λ _ _ blamed. absurd (blamed Check)
-      | Workload fault ↦ λ _ _ blamed. absurd (blamed Check)
-      | OutOfMemory ↦ λ _ _ _. tt
-    ] };
+    ghost blames_input = { λ _ fault text. told_by_all BlamesText text tt (λ long. long) (λ no. no) tt fault };
 }

@@ -2,10 +2,7 @@
 
 /// The first byte, 0 where there is none.
 pub(crate) fn first(bytes: &[u8]) -> u8 {
-    match bytes.first() {
-        Some(byte) => *byte,
-        None => 0,
-    }
+    bytes.first().copied().unwrap_or(0)
 }
 
 /// What stands after the first byte.

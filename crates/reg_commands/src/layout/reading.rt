@@ -31,32 +31,19 @@ fn front_at(bytes: &[u8]) -> Result<Front, WorkloadFault> {
     let Some((text, _)) = text_at(bytes) else {
         return Err(WorkloadFault::Kind { key });
     };
-    let Ok(name) = str::from_utf8(text) else {
-        return Err(WorkloadFault::Range { key });
-    };
-    match Front::from_name(name) {
-        Some(front) => Ok(front),
-        None => Err(WorkloadFault::Range { key }),
-    }
+    let name = str::from_utf8(text).map_err(|_| WorkloadFault::Range { key })?;
+    Front::from_name(name).ok_or(WorkloadFault::Range { key })
 }
 
 fn owned<A: Allocator + Copy>(alloc: A, bytes: &[u8]) -> Result<String<A>, WorkloadFault> {
-    let Ok(copy) = Vec::from_slice(alloc, bytes) else {
-        return Err(WorkloadFault::OutOfMemory);
-    };
-    match String::from_utf8(copy) {
-        Ok(text) => Ok(text),
-        Err(_) => Err(WorkloadFault::Toml),
-    }
+    let copy = Vec::from_slice(alloc, bytes).map_err(|_| WorkloadFault::OutOfMemory)?;
+    String::from_utf8(copy).map_err(|_| WorkloadFault::Toml)
 }
 
 fn names_of<A: Allocator + Copy>(texts: Vec<String<A>, A>) -> Result<Names<A>, WorkloadFault> {
-    match Names::new(texts) {
-        Ok(names) => Ok(names),
-        Err(_) => Err(WorkloadFault::Range {
-            key: Key::Registers,
-        }),
-    }
+    Names::new(texts).map_err(|_| WorkloadFault::Range {
+        key: Key::Registers,
+    })
 }
 
 fn names_at<A: Allocator + Copy>(alloc: A, bytes: &[u8]) -> Result<Names<A>, WorkloadFault> {

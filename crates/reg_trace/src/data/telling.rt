@@ -151,10 +151,8 @@ pub fn tell_data_under<F: FrontEnd, A: Allocator + Copy>(
         → (run_in F.start (after_events F.start schedule.shape (take f.at schedule.events))).accepted
         ≡ take f.at schedule.events) }
 {
-    match tell_run::<F, A>(alloc, schedule, notes) {
-        Ok((data, _world)) => Ok(data),
-        Err(fault) => Err(fault),
-    }
+    let (data, _world) = tell_run::<F, A>(alloc, schedule, notes)?;
+    Ok(data)
 }
 
 /// Runs a schedule: all that is told of the run, with these notes. Each event is made once.

@@ -36,9 +36,9 @@ impl<F: FrontEnd, A: Allocator + Copy> WatchedStates<F, A> {
             → refusal F.start self.old.world event.now ≡ Some f) }
     {
         let moment = watch(alloc, &mut self.world, event)?;
-        let Ok(look) = look_in(alloc, &self.world, moment.process) else {
-            return Err(WorldFault::OutOfMemory);
-        };
+        let look = look_in(alloc, &self.world, moment.process).map_err(
+            |_| WorldFault::OutOfMemory,
+        )?;
         if self.moments.push(moment).is_err() || self.looks.push(look).is_err() {
             return Err(WorldFault::OutOfMemory);
         }

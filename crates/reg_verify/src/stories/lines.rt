@@ -1,6 +1,5 @@
 //! The line that is told of reports in a row.
 ghost use Rattle.std.specs.Prelude.{[]};
-ghost use Rattle.std.specs.Fmt.{decimal};
 ghost use Rattle.reg_text.specs.Writing.{Puts, IsWritten, IsWrittenOr};
 ghost use Rattle.reg_verify.specs.StoryTexts.{breach_text, part_text, ruling_text};
 

@@ -4,6 +4,6 @@ use Rattle.reg_commands.proofs.Parts.{of_input}
 use Rattle.reg_cli.specs.Lives.{Lives}
 use Rattle.reg_cli.proofs.performing.obey.Goals as goal
 
-pub returns-in-Ok-clause-part : goal.returns-in-Ok-clause-part
-returns-in-Ok-clause-part g c failed =
-    of_input (Lives (AppendsPart (g.W.Write.contents c.args.writer.now) (g.W.Write.contents c.perform_text.new.writer))) (g.I.Read.remaining c.args.reader.now) (string_bytes c.in-Ok.text) c.as_str.result.now c.in-Ok.ensures.ok c.as_str.ensures.value (c.perform_text.ensures.part failed)
+pub returns-clause-part : goal.returns-clause-part
+returns-clause-part g c failed =
+    of_input (Lives (AppendsPart (g.W.Write.contents c.args.writer.now) (g.W.Write.contents c.perform_text.new.writer))) (g.I.Read.remaining c.args.reader.now) (string_bytes c.in_ok-text.text) c.as_str.result.now c.in_ok-text.ensures.ok c.as_str.ensures.value (c.perform_text.ensures.part failed)

@@ -6,14 +6,14 @@ use Rattle.reg_commands.proofs.Shown.{points_given, serial_given, shows, time_gi
 use Rattle.reg_commands.proofs.reporting.report_world.Goals as goal
 
 pub report-requires-clause-title : goal.report-requires-clause-title
-report-requires-clause-title g c = (c.args.front, c.in-Ok.ensures.ok ∙ c.name.ensures)
+report-requires-clause-title g c = (c.args.front, c.in_ok-title.ensures.ok ∙ c.name.ensures)
 
 pub report-requires-clause-names : goal.report-requires-clause-names
 report-requires-clause-names g c = ap (λ (s : Extent). s.registers) c.into_history.ensures.shape ∙ c.requires.names
 
 pub report-requires-clause-order : goal.report-requires-clause-order
 report-requires-clause-order g c =
-    serial_given c.in-Ok-serial_order.field-0-0.now c.into_history.result c.args.world c.in-Ok-serial_order.order.items c.in-Ok-serial_order.ensures.shape c.in-Ok-serial_order.ensures.value c.into_history.ensures.shape c.into_history.ensures.value c.in-Ok-serial_order.ensures.serial
+    serial_given c.in_ok-order.field-0-0.now c.into_history.result c.args.world c.in_ok-order.order.items c.in_ok-order.ensures.shape c.in_ok-order.ensures.value c.into_history.ensures.shape c.into_history.ensures.value c.in_ok-order.ensures.serial
 
 pub report-requires-clause-points : goal.report-requires-clause-points
 report-requires-clause-points g c = points_given c.into_history.result c.args.world _ c.into_history.ensures.shape c.into_history.ensures.value c.requires.points
@@ -21,14 +21,14 @@ report-requires-clause-points g c = points_given c.into_history.result c.args.wo
 pub returns-clause-shows : goal.returns-clause-shows
 returns-clause-shows g c =
     let P : Made → Type 0 = λ w. (run_in g.F.FrontEnd.start w).accepted ≡ w.accepted in
-    shows g.F.FrontEnd.start c.args.front c.args.names c.args.world c.into_history.result c.in-Ok-serial_order.order.items (option_map (λ v. v.items) c.args.points) c.report.result
-    (record { accepted = subst P c.world.view_is c.world.invariant.tells.accepted; shape = c.into_history.ensures.shape; entries = c.into_history.ensures.entries; order = c.in-Ok-serial_order.ensures.keyed })
+    shows g.F.FrontEnd.start c.args.front c.args.names c.args.world c.into_history.result c.in_ok-order.order.items (option_map (λ v. v.items) c.args.points) c.report.result
+    (record { accepted = subst P c.world.view_is c.world.invariant.tells.accepted; shape = c.into_history.ensures.shape; entries = c.into_history.ensures.entries; order = c.in_ok-order.ensures.keyed })
     (record {
-      serial = serial_given c.in-Ok-serial_order.field-0-0.now c.into_history.result c.args.world c.in-Ok-serial_order.order.items c.in-Ok-serial_order.ensures.shape c.in-Ok-serial_order.ensures.value c.into_history.ensures.shape c.into_history.ensures.value c.in-Ok-serial_order.ensures.serial;
+      serial = serial_given c.in_ok-order.field-0-0.now c.into_history.result c.args.world c.in_ok-order.order.items c.in_ok-order.ensures.shape c.in_ok-order.ensures.value c.into_history.ensures.shape c.into_history.ensures.value c.in_ok-order.ensures.serial;
       points = points_given c.into_history.result c.args.world _ c.into_history.ensures.shape c.into_history.ensures.value c.requires.points;
     })
-    (time_given g.F.FrontEnd.start c.in-Ok-serial_order.field-0-0.now c.into_history.result c.args.world c.in-Ok-serial_order.order.items c.in-Ok-serial_order.ensures.value c.into_history.ensures.value c.in-Ok-serial_order.ensures.real_time)
-    (rw (← (c.in-Ok.ensures.ok ∙ c.name.ensures)) c.report.ensures)
+    (time_given g.F.FrontEnd.start c.in_ok-order.field-0-0.now c.into_history.result c.args.world c.in_ok-order.order.items c.in_ok-order.ensures.value c.into_history.ensures.value c.in_ok-order.ensures.real_time)
+    (rw (← (c.in_ok-title.ensures.ok ∙ c.name.ensures)) c.report.ensures)
 
 pub returns-clause-points : goal.returns-clause-points
 returns-clause-points g c = ap (λ (r : Contents). r.points) c.report.ensures

@@ -5,7 +5,7 @@ use Rattle.std.proofs.lemmas.Result.{IfOk-weaker, MatchResult-weaker}
 use Rattle.reg_text.specs.Writing.{AppendsPart}
 use Rattle.reg_verify.specs.StoryTexts.{TellsReports}
 use Rattle.reg_verify.proofs.StoryTold.{blamed_of, told_of}
-use Rattle.reg_verify.proofs.stories.tell_story.Goals as goal
+use Rattle.reg_verify.proofs.stories.StoryTextCommand.answer.Goals as goal
 
 pub returns-clause-ok : goal.returns-clause-ok
 returns-clause-ok g c =
