@@ -1,38 +1,21 @@
 -- Lists of stages that grow.
-use Rattle.std.proofs.Common.{◌≡◌, inl, inr, ℕ, ◌+◌, ◌<◌, ◌≤◌, List, [], ◌∷◌, ◌++◌, get_or, length, set, Vec, sym, ap}
-use Rattle.std.proofs.Common.{◌∙◌, subst, refl, arith}
+use Rattle.std.proofs.Common.{◌≡◌, inl, inr, ℕ, ◌+◌, ◌<◌, ◌≤◌, List, [], ◌∷◌, ◌++◌, get_or, length, set, Vec, sym}
+use Rattle.std.proofs.Common.{◌∙◌, subst, arith}
 use Rattle.std.specs.Int.{bit_at}
 use Rattle.std.proofs.lemmas.Bool.{cases_eq}
 use Rattle.std.proofs.lemmas.Option.{slice_get-get_or}
 use Rattle.reg_checkers.specs.History.{IsAt}
-use Rattle.reg_checkers.proofs.Places.{element_at, get_push_other, get_push_same, get_set_other, get_set_same, same_at}
+use Rattle.reg_checkers.proofs.Places.{element_at, get_set_other, get_set_same, same_at}
 use Rattle.reg_checkers.proofs.Places.{within}
 use Rattle.reg_checkers.proofs.Pushing.{at_push}
 use Rattle.reg_judge.specs.declared.stages.Mover.{Mover}
 use Rattle.reg_judge.specs.declared.stages.Stage.{Stage}
-use Rattle.reg_judge.specs.Completing.{put}
-use Rattle.reg_judge.specs.Stages.{AreDone, AreDoneTo, Extends, HasAfter, HasAfterTo, HasEach, HasEachTo, HasStage}
+use Rattle.reg_judge.specs.Stages.{AreDoneTo, Extends, HasAfter, HasAfterTo, HasEach, HasEachTo, HasStage}
 use Rattle.reg_judge.specs.Stages.{HasWithout, IsDone, IsRead, Keeps, KeepsTo, Reads}
 use Rattle.reg_judge.specs.Searching.{AreFirst, IsFirst}
-use Rattle.reg_judge.proofs.Puts.{put_here, put_there}
 
 pub at_get : {X : Type 0} (xs : List X) (k : ℕ) (d : X) → k < length xs → IsAt xs k (get_or xs k d)
 at_get xs k d lt = slice_get-get_or xs k d lt
-
-pub extends_push : (old : List Stage) (s : Stage) (new : List Stage) → new ≡ old ++ s ∷ [] → Extends old new
-extends_push old s new e j t at = subst (λ (l : List Stage). IsAt l j t) (sym e) (get_push_other old j s (λ is. (let lt = within old j t at in omega (arith, lt, is))) ∙ at)
-
-pub at_push_end : (old : List Stage) (s : Stage) (new : List Stage) → new ≡ old ++ s ∷ [] → IsAt new (length old) s
-at_push_end old s new e =
-    subst (λ (l : List Stage). IsAt l (length old) s) (sym e) (get_push_same old (length old) s refl)
-
--- without a process, by its bits
-pub without_bits : (more less p : ℕ) → bit_at less p ≡ 0 → ((q : ℕ) → (q ≡ p → ⊥) → bit_at less q ≡ bit_at more q)
-    → (q : ℕ) → bit_at less q ≡ put (bit_at more) p 0 q
-without_bits more less p here others q = elim (cases_eq q p) [
-  | inl is ↦ ap (bit_at less) is ∙ here ∙ sym (put_here (bit_at more) p 0 q is)
-  | inr apart ↦ others q apart ∙ sym (put_there (bit_at more) p 0 q apart)
-]
 
 pub keeps_more : (k p : ℕ) (old new newer : List Stage) (s : Stage) → IsAt old k s → Extends new newer
     → (bit_at s.placed p ≡ 1 → HasWithout p newer s) → KeepsTo k p old new → KeepsTo (k + 1) p old newer
@@ -93,22 +76,8 @@ done_more k movers p old new s here extends done before j t lt at = elim (cases_
       done_extends movers p t old new extends (subst (IsDone movers p old) same (before j was.0 (omega (arith, lt, not)) was.1))
 ]
 
-pub done_all : (k : ℕ) (movers : List Mover) (p : ℕ) (stages : List Stage) → length stages ≤ k
-    → AreDoneTo k movers p stages → AreDone movers p stages
-done_all k movers p stages le done j s at = done j s (let lt = within stages j s at in omega (arith, lt, le)) at
-
-pub extends_itself : (stages : List Stage) → Extends stages stages
-extends_itself stages j s at = at
-
 pub extends_twice : (a b c : List Stage) → Extends a b → Extends b c → Extends a c
 extends_twice a b c one two j s at = two j s (one j s at)
-
-pub mover_narrow : (movers : List Mover) → ((i : ℕ) (m : Mover) → IsAt movers i m → m.id.process < 64)
-    → (k : ℕ) (d : Mover) → k < length movers → (get_or movers k d).id.process < 64
-mover_narrow movers narrow k d lt = narrow k (get_or movers k d) (at_get movers k d lt)
-
-pub reads_itself : (p : ℕ) (stages : List Stage) → Reads p stages stages
-reads_itself p stages j s at = (s, at, (refl, λ q. inl refl))
 
 pub read_twice : (p : ℕ) (a b c : Stage) → IsRead p a b → IsRead p b c → IsRead p a c
 read_twice p a b c (value, bits) (value_2, bits_2) = (

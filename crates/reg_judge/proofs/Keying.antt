@@ -112,14 +112,6 @@ pub ruled_to : (processes i n keys : ℕ) (rows : List Row) (rulings : List Ruli
 ruled_to processes i n keys rows rulings low high all are =
     subst (λ (k : ℕ). AreRuled processes k rows rulings) (omega (arith, low, high, all)) are
 
-pub ruled_none : (processes : ℕ) (rows : List Row) (rulings : List Ruling) → rulings ≡ []
-    → AreRuled processes 0 rows rulings
-ruled_none processes rows rulings e =
-    record { all = ap length e; each = λ key r at. absurd (none key r (ap (λ l. slice_get l key) (sym e) ∙ at)) }
-  where
-    none : (key : ℕ) (r : Ruling) → slice_get [] key ≡ Some r → ⊥
-    none key r h = cc
-
 -- the answer that none explains, by its event
 pub ruled_not : (registers : ℕ) (entries : List Entry) (place at : ℕ) → registers ≡ 1
     → (¬ HasPointOrder registers entries) × IsFirstUnexplained registers entries place

@@ -22,10 +22,6 @@ abbrev pub merged : List Point → List Point → List Point
 merged [] qs = qs
 merged (p ∷ ps) qs = put_in p (merged ps qs)
 
--- where a point stands
-IsOneOf : Point → List Point → Type 0
-IsOneOf x xs = (k : ℕ) × IsAt xs k x
-
 put_cases : (p q x : Point) (qs more : List Point) (b : Bool)
     → ((k : ℕ) → IsAt more k x → (p ≡ x) ⊎ ((j : ℕ) × IsAt qs j x)) → (k : ℕ)
     → IsAt (cond b (p ∷ q ∷ qs) (q ∷ more)) k x → (p ≡ x) ⊎ ((j : ℕ) × IsAt (q ∷ qs) j x)

@@ -162,9 +162,6 @@ impl Act {
     pub fn value_after(&self, value: u64) -> u64
         ensures { result ≡ after_act self.now value }
     {
-        match self.makes {
-            Some(made) => made,
-            None => value,
-        }
+        self.makes.unwrap_or(value)
     }
 }

@@ -1,6 +1,5 @@
 //! A point order of a history, or the first answer that none explains.
 ghost use Rattle.std.specs.Prelude.{◌≡◌, ◌+◌, ◌-◌, ◌<◌, ◌≤◌, IfErr, IfOk, MatchResult, length, take};
-ghost use Rattle.reg_checkers.specs.History.{IsHistory};
 ghost use Rattle.reg_checkers.specs.Orders.{IsPointOrder};
 ghost use Rattle.reg_judge.specs.Judging.{AreBounds, HasPointOrder, IsDecided, IsExplained, IsFirstUnexplained};
 ghost use Rattle.reg_judge.specs.Judging.{IsPointsFault};
@@ -166,9 +165,7 @@ fn narrowed<A: Allocator + Copy>(
     ensures refused { IfErr result (IsPointsFault history.now.shape.registers history.now.entries) }
 {
     let count = between(bounds.good, bounds.bad, bounds.reached);
-    let Ok(part) = first_part(alloc, history, count) else {
-        return Err(PointsFault::OutOfMemory);
-    };
+    let part = first_part(alloc, history, count)?;
     match decide(alloc, &part, limit) {
         Ok(Decided::Order(_)) => Ok(Bounds {
             good: count,

@@ -19,6 +19,7 @@ pub use judge::{MOST_STAGES, PointsFault, judge_points};
 pub use possible::possible_answers;
 pub use rulings::{
     Act, JudgeReport, Judgement, NOT_LOOKED_FOR, Naming, POSSIBLE, Row, RuleFault, Ruling,
-    RulingFault, Serial, Sought, Step, Unseated, history_of, judge_report, possible_all, rule_all,
-    ruling_text, seek, seek_serial, serial_text, yes_or_no,
+    RulingFault, Serial, Sought, Step, TextOrReport, Unseated, history_of, judge_report,
+    possible_all, rule_all, ruling_text, seek, seek_serial, serial_text, write_text_or_report,
+    yes_or_no,
 };

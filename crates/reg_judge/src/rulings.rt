@@ -14,7 +14,7 @@ mod search;
 mod seats;
 mod serial;
 
-pub use answers::yes_or_no;
+pub use answers::{TextOrReport, write_text_or_report, yes_or_no};
 pub use command::JudgeReport;
 pub use details::{NOT_LOOKED_FOR, POSSIBLE, ruling_text, serial_text};
 pub use faults::{RuleFault, RulingFault};

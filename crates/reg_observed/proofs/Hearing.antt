@@ -66,9 +66,6 @@ pub record Heard (v : Vocabulary) (events : List Event) (whole rest : Tellings) 
   pub are : AreEvents v told events
   pub is_whole : whole ≡ all_in_front told rest
 
-pub heard_first : (v : Vocabulary) (whole : Tellings) → Heard v [] whole whole
-heard_first v whole = record { told = []; are = tt; is_whole = refl }
-
 -- nothing is left
 pub heard_all : (v : Vocabulary) (events : List Event) (whole rest : Tellings) → Heard v events whole rest
     → rest ≡ Ok [] → (told : List (ℕ × Telling)) × (whole ≡ Ok told) × AreEvents v told events

@@ -12,5 +12,4 @@ pub mod Turns
 pub mod Rows
 pub mod Verdicts
 pub mod Commands
-pub mod Answers
 pub mod Faults

@@ -1,30 +1,16 @@
 //! What is written of a verdict.
-ghost use Rattle.std.specs.Prelude.{◌≡◌, IfOk, MatchResult, is_some, string_bytes, true};
-ghost use Rattle.std.specs.Io.KnownBytes.{Appends};
-ghost use Rattle.reg_text.specs.Writing.{AppendsPart};
-ghost use Rattle.reg_observed.specs.Answers.{answer_text};
-ghost use Rattle.reg_observed.specs.Commands.{IsAnswer};
+ghost use Rattle.std.specs.Prelude.{◌≡◌, IfOk, is_some, string_bytes, true};
+ghost use Rattle.reg_judge.specs.Answers.{answer_text};
 ghost use Rattle.reg_judge.specs.Reported.{Says};
+ghost use Rattle.reg_observed.specs.Commands.{IsAnswer};
 
 use crate::details::details;
 use crate::faults::JudgeFault;
 use crate::heard::Heard;
 use crate::judging::Verdict;
 use crate::reports::report_of;
-use reg_commands::{Fault, write_answer, write_out};
-use reg_history::Report;
-use reg_judge::yes_or_no;
+use reg_judge::{TextOrReport, yes_or_no};
 use std::alloc::{AllocError, Allocator, Global};
-use std::io::Write;
-
-/// What is written of a verdict.
-#[derive(Drop)]
-pub(crate) enum Answer {
-    /// A first word, and then lines for a person.
-    Text(String),
-    /// The report of the history, with its points.
-    Report(Report<Global>),
-}
 
 /// Whether the verdict has a point order.
 pub(crate) fn has_points<A: Allocator + Copy>(verdict: &Verdict<A>) -> bool
@@ -52,11 +38,11 @@ fn answer_by_report(
     global: Global,
     heard: &Heard,
     verdict: Verdict<Global>,
-) -> Result<Answer, JudgeFault>
+) -> Result<TextOrReport<Global>, JudgeFault>
     ensures { IfOk result (λ a. IsAnswer true verdict (answer_text a)) }
 {
     if !has_points(&verdict) {
-        return Ok(Answer::Text(text_of(global, heard, &verdict)?));
+        return Ok(TextOrReport::Text(text_of(global, heard, &verdict)?));
     }
     let Verdict {
         history,
@@ -64,7 +50,7 @@ fn answer_by_report(
         ..
     } = verdict;
     match points {
-        Some(points) => Ok(Answer::Report(report_of(global, history, points)?)),
+        Some(points) => Ok(TextOrReport::Report(report_of(global, history, points)?)),
         None => unreachable!(),
     }
 }
@@ -76,23 +62,12 @@ pub(crate) fn answer_of(
     heard: &Heard,
     verdict: Verdict<Global>,
     report: bool,
-) -> Result<Answer, JudgeFault>
+) -> Result<TextOrReport<Global>, JudgeFault>
     ensures { IfOk result (λ a. IsAnswer report verdict (answer_text a)) }
 {
     if report {
         answer_by_report(global, heard, verdict)
     } else {
-        Ok(Answer::Text(text_of(global, heard, &verdict)?))
-    }
-}
-
-/// Writes an answer, to the last byte.
-pub(crate) fn write_of<W: Write>(writer: &mut W, answer: &Answer) -> Result<(), Fault>
-    ensures { MatchResult result (λ _. Appends (W.contents writer.old) (W.contents writer.new) (answer_text answer.now))
-        (λ f. f ≡ Fault.Output) }
-{
-    match answer {
-        Answer::Text(text) => write_answer(writer, text.as_bytes()),
-        Answer::Report(report) => write_out(writer, report),
+        Ok(TextOrReport::Text(text_of(global, heard, &verdict)?))
     }
 }

@@ -2,17 +2,17 @@
 ghost use Rattle.std.specs.Prelude.{◌≡◌, ◌≢◌, ◌≤◌, ◌⊎◌, IfErr, IfOk, IfSome, OnOk, length, string_bytes, true, false};
 ghost use Rattle.std.specs.Io.KnownBytes.{Appends};
 ghost use Rattle.reg_base.specs.declared.limits.TheConstants.{LONGEST_INPUT};
-ghost use Rattle.reg_observed.specs.Answers.{answer_text};
+ghost use Rattle.reg_judge.specs.Answers.{answer_text};
 ghost use Rattle.reg_observed.specs.Commands.{IsAnyJudged, IsJudgedAs, IsJudgedText};
 ghost use Rattle.reg_observed.specs.declared.command.CommandFault.{CommandFault as AnyFault};
 
-use crate::answers::{Answer, answer_of, has_points, write_of};
+use crate::answers::{answer_of, has_points};
 use crate::faults::JudgeFault;
 use crate::flags::JudgeFlags;
 use crate::judging::judge;
 use crate::reading::read_history;
 use reg_commands::{Fault, Kind, Refusal, TextCommand, kind_of, read_input};
-use reg_judge::{JudgeReport, RuleFault, RulingFault};
+use reg_judge::{JudgeReport, RuleFault, RulingFault, TextOrReport, write_text_or_report};
 use reg_text::write_bytes;
 use std::alloc::{AllocError, Allocator, Global};
 use std::io::{Read, Write};
@@ -63,7 +63,11 @@ impl From<RulingFault> for CommandFault {
 }
 
 /// What a text of JSON lines or of EDN comes to, and what is written of that.
-fn judged(global: Global, flags: JudgeFlags<'_>, text: &str) -> Result<(bool, Answer), JudgeFault>
+fn judged(
+    global: Global,
+    flags: JudgeFlags<'_>,
+    text: &str,
+) -> Result<(bool, TextOrReport<Global>), JudgeFault>
     ensures { IfOk result (λ p. IsJudgedText flags.entry p.0 (λ answer. answer ≡ answer_text p.1) text.now) }
 {
     let mut heard = read_history(global, text)?;
@@ -89,7 +93,7 @@ fn answer_lines<W: Write>(
     ensures silent { IfErr result (λ f. f ≢ CommandFault.Command Fault.Output → writer.new ≡ writer.old) }
 {
     let judged = judged(global, flags, text)?;
-    write_of(writer, &judged.1)?;
+    write_text_or_report(writer, &judged.1)?;
     Ok(judged.0)
 }
 

@@ -16,9 +16,9 @@ use reg_history::Report;
 use std::alloc::{AllocError, Allocator};
 use std::io::Write;
 
-/// What is answered of a report.
+/// What is answered of a history.
 #[derive(Drop)]
-pub(crate) enum Answer<A: Allocator + Copy> {
+pub enum TextOrReport<A: Allocator + Copy> {
     /// A first word, and then lines for a person.
     Text(String<A>),
     /// The report with the points that were found.
@@ -65,10 +65,9 @@ fn pointed<A: Allocator + Copy>(
     ensures { IfOk result (IsPointed report points.items) }
 {
     let order = ids_of_points(alloc, &points)?;
-    match report.with_lists(order, Some(points)) {
-        Ok(report) => Ok(report),
-        Err(_) => Err(RuleFault::NoReport),
-    }
+    report
+        .with_lists(order, Some(points))
+        .map_err(|_| RuleFault::NoReport)
 }
 
 /// The answer where a report is asked for.
@@ -76,15 +75,15 @@ fn answer_by_report<A: Allocator + Copy>(
     alloc: A,
     report: Report<A>,
     judgement: Judgement<A>,
-) -> Result<Answer<A>, RuleFault>
+) -> Result<TextOrReport<A>, RuleFault>
     ensures { IfOk result (λ a. IsReportAnswer true report (found_in judgement.sought) (answer_text a)) }
 {
     if !has_order(&judgement.sought) {
-        return Ok(Answer::Text(text_of(alloc, &report, &judgement)?));
+        return Ok(TextOrReport::Text(text_of(alloc, &report, &judgement)?));
     }
     let Judgement { sought, .. } = judgement;
     match sought {
-        Sought::Points(points) => Ok(Answer::Report(pointed(alloc, report, points)?)),
+        Sought::Points(points) => Ok(TextOrReport::Report(pointed(alloc, report, points)?)),
         Sought::None { place: _ } => unreachable!(),
     }
 }
@@ -96,25 +95,25 @@ pub(crate) fn answer_of<A: Allocator + Copy>(
     report: Report<A>,
     judgement: Judgement<A>,
     as_report: bool,
-) -> Result<Answer<A>, RuleFault>
+) -> Result<TextOrReport<A>, RuleFault>
     ensures { IfOk result (λ a. IsReportAnswer as_report report (found_in judgement.sought) (answer_text a)) }
 {
     if as_report {
         answer_by_report(alloc, report, judgement)
     } else {
-        Ok(Answer::Text(text_of(alloc, &report, &judgement)?))
+        Ok(TextOrReport::Text(text_of(alloc, &report, &judgement)?))
     }
 }
 
 /// Writes an answer, to the last byte.
-pub(crate) fn write_of<A: Allocator + Copy, W: Write>(
+pub fn write_text_or_report<A: Allocator + Copy, W: Write>(
     writer: &mut W,
-    answer: &Answer<A>,
+    answer: &TextOrReport<A>,
 ) -> Result<(), Fault>
     ensures { IsWrittenOr Fault.Output result (W.contents writer.old) (W.contents writer.new) (answer_text answer.now) }
 {
     match answer {
-        Answer::Text(text) => write_answer(writer, text.as_bytes()),
-        Answer::Report(report) => write_out(writer, report),
+        TextOrReport::Text(text) => write_answer(writer, text.as_bytes()),
+        TextOrReport::Report(report) => write_out(writer, report),
     }
 }

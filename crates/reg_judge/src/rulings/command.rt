@@ -1,12 +1,9 @@
 //! The command that judges the history of a report.
-ghost use Rattle.std.specs.Prelude.{◌≡◌, ◌≢◌, ⊤, IfOk, IfErr, IsErrOf, string_bytes};
-ghost use Rattle.std.specs.Io.KnownBytes.{Appends};
-ghost use Rattle.reg_text.specs.Writing.{AppendsPart};
-ghost use Rattle.reg_commands.specs.Statuses.{IsEither};
+ghost use Rattle.std.specs.Prelude.{◌≡◌, ◌≢◌, ⊤, IfOk, IfErr, string_bytes};
 ghost use Rattle.reg_judge.specs.Answers.{answer_text};
 ghost use Rattle.reg_judge.specs.Reported.{BlamesRuling, JudgesReport};
 
-use crate::rulings::answers::{Answer, answer_of, has_order, write_of};
+use crate::rulings::answers::{TextOrReport, answer_of, has_order, write_text_or_report};
 use crate::rulings::faults::RulingFault;
 use crate::rulings::reported::judge_report;
 use reg_commands::{Fault, TextCommand, read_report_text};
@@ -19,7 +16,7 @@ fn judged<A: Allocator + Copy>(
     alloc: A,
     as_report: bool,
     text: String<A>,
-) -> Result<(bool, Answer<A>), RulingFault>
+) -> Result<(bool, TextOrReport<A>), RulingFault>
     ensures ok { IfOk result
         (λ p. JudgesReport as_report p.0 (λ answer. answer ≡ answer_text p.1) (string_bytes text)) }
     ensures why { IfErr result (λ f. BlamesRuling f (string_bytes text)) }
@@ -31,27 +28,6 @@ fn judged<A: Allocator + Copy>(
     let found = has_order(&judgement.sought);
     let answer = answer_of(alloc, report, judgement, as_report)?;
     Ok((found, answer))
-}
-
-/// Judges a report, and writes what was found out. The answer is whether there is a point order.
-fn answer<A: Allocator + Copy, W: Write>(
-    alloc: A,
-    as_report: bool,
-    text: String<A>,
-    writer: &mut W,
-) -> Result<bool, RulingFault>
-    ensures ok { IfOk result
-        (λ found. JudgesReport as_report found (Appends (W.contents writer.old) (W.contents writer.new))
-        (string_bytes text)) }
-    ensures why { IfErr result (λ f. BlamesRuling f (string_bytes text)) }
-    ensures silent { IfErr result (λ f. f ≢ RulingFault.Command Fault.Output → writer.new ≡ writer.old) }
-    ensures part { IsErrOf result (RulingFault.Command Fault.Output)
-        → IsEither (JudgesReport as_report) (AppendsPart (W.contents writer.old) (W.contents writer.new))
-        (string_bytes text) }
-{
-    let judged = judged(alloc, as_report, text)?;
-    write_of(writer, &judged.1)?;
-    Ok(judged.0)
 }
 
 /// Judges the history of the report that a text spells, whose own order and points are not looked at. The text that is
@@ -81,7 +57,9 @@ impl TextCommand for JudgeReport {
         text: String<A>,
         writer: &mut W,
     ) -> Result<bool, RulingFault> {
-        answer(alloc, self.as_report, text, writer)
+        let judged = judged(alloc, self.as_report, text)?;
+        write_text_or_report(writer, &judged.1)?;
+        Ok(judged.0)
     }
 
     ghost blames_input = { λ _ _ _ _ blamed. blamed Check };

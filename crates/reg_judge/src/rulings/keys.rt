@@ -71,10 +71,7 @@ pub(crate) fn alone<A: Allocator + Copy>(
     let Ok(shape) = Shape::new(MOST_PROCESSES, 1) else {
         unreachable!()
     };
-    match history_of(alloc, shape, Naming::Any, processes, rows) {
-        Ok(history) => Ok(history),
-        Err(fault) => Err(RuleFault::from(fault)),
-    }
+    history_of(alloc, shape, Naming::Any, processes, rows).map_err(RuleFault::from)
 }
 
 /// Whether a history of one register has a point order, and else by which answer it has none.

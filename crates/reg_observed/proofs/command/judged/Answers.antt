@@ -1,5 +1,5 @@
 use Rattle.std.proofs.Common.{refl, sym}
-use Rattle.reg_observed.specs.Answers.{answer_text}
+use Rattle.reg_judge.specs.Answers.{answer_text}
 use Rattle.reg_observed.proofs.command.judged.Goals as goal
 
 pub returns : goal.returns

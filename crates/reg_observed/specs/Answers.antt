@@ -1,9 +1,0 @@
--- The bytes of an answer. They carry a proof: no promise speaks of them.
-use Rattle.std.specs.Prelude.{ℕ, List, string_bytes}
-use Rattle.reg_history.specs.Reports.{report_text}
-use Rattle.reg_observed.specs.declared.answers.Answer.{Answer}
-use Rattle.reg_observed.specs.declared.answers.Answer.TheVariants.{Text, Report}
-
-abbrev pub answer_text : Answer → List ℕ
-answer_text (Text text) = string_bytes text
-answer_text (Report report) = report_text report
