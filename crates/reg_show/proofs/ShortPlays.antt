@@ -1,5 +1,6 @@
 -- The short form of a workload's play, and its schedule.
-use Rattle.std.proofs.Common.{ℕ, ◌≡◌, ◌⊎◌, inl, inr, ◌<◌, Bool, List, length, take, Some, refl, ap, sym, ◌∙◌, subst}
+use Rattle.std.proofs.Common.{ℕ, ◌≡◌, ◌⊎◌, inl, inr, ◌<◌, Bool, List, length, take, Option, Some, refl, ap, sym, ◌∙◌}
+use Rattle.std.proofs.Common.{subst}
 use Rattle.std.specs.Prelude.{slice_get}
 use Rattle.reg_base.specs.declared.memory.Op.{Op}
 use Rattle.reg_base.specs.Shape.{Extent}
@@ -7,6 +8,7 @@ use Rattle.reg_front.specs.declared.named.Front.{Front}
 use Rattle.reg_front.specs.declared.starts.Start.{Start}
 use Rattle.reg_checkers.specs.declared.entries.Entry.{Entry}
 use Rattle.reg_commands.specs.Plays.{IsPlayBy}
+use Rattle.reg_commands.specs.Replays.{start_of}
 use Rattle.reg_commands.specs.declared.faults.Fault.TheVariants.{OutOfMemory}
 use Rattle.reg_inputs.specs.Loads.{IsLoad, Load}
 use Rattle.reg_inputs.specs.Schedules.{Plan}
@@ -14,11 +16,13 @@ use Rattle.reg_inputs.specs.ScheduleText.{schedule_text}
 use Rattle.reg_process.specs.declared.events.Event.{Event}
 use Rattle.reg_world.specs.World.{whole}
 use Rattle.reg_world.specs.Worlds.{Made, after_events, run_in}
+use Rattle.reg_show.specs.Seeds.{is_fair, reseeded, seed_of}
 use Rattle.reg_show.specs.Shorts.{IsLongPlay, IsShort, IsShortPlay, KeepsAnswers, LacksShort, SendsEvents, ShowsShort}
 use Rattle.reg_show.specs.Shorts.{Shortens, plan_with, up_to_end, up_to_last_answer}
 use Rattle.reg_show.specs.ToldRuns.{EventHasBits}
 use Rattle.reg_show.specs.declared.faults.ShowFault.{ShowFault}
 use Rattle.reg_show.specs.declared.faults.ShowFault.TheVariants.{Command, TooManyToShorten}
+use Rattle.reg_show.specs.declared.players.Player.{Player}
 use Rattle.reg_show.specs.declared.short_schedules.TheConstants.{MOST_SHORTENED}
 use Rattle.reg_show.proofs.Accepted.{made_schedule}
 use Rattle.reg_show.proofs.Beginnings.{beginning_keeps}
@@ -90,3 +94,13 @@ shows_short fair start work Wrote shape names front events short same_shape same
   play = play;
   sent = sends_events start work Wrote shape names front events short same_shape same_names same_front same_events load play.keeps.accepted bits written;
 }
+
+-- what is written of a workload with another seed is that of the player's play
+pub shows_reseeded : (player : Player) (fair : Bool) (seed : Option ℕ) (given work : Load) (Wrote : List ℕ → Type 0)
+    → fair ≡ is_fair player → seed ≡ seed_of player → work ≡ reseeded seed given
+    → ShowsShort fair (start_of work.front) Wrote work
+    → ShowsShort (is_fair player) (start_of given.front) Wrote (reseeded (seed_of player) given)
+shows_reseeded player fair seed given work Wrote same_fair same_seed is shown =
+    let here : ShowsShort fair (start_of given.front) Wrote (reseeded seed given) = subst (λ (w : Load). ShowsShort fair (start_of w.front) Wrote w) is shown in
+    let seeded : ShowsShort fair (start_of given.front) Wrote (reseeded (seed_of player) given) = subst (λ (n : Option ℕ). ShowsShort fair (start_of given.front) Wrote (reseeded n given)) same_seed here in
+    subst (λ (b : Bool). ShowsShort b (start_of given.front) Wrote (reseeded (seed_of player) given)) same_fair seeded

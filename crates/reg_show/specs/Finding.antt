@@ -64,9 +64,6 @@ abbrev pub Finds : OrderKind → Bool → (List ℕ → Type 0) → List ℕ →
 Finds kind true Wrote text = WritesFound kind Wrote text
 Finds kind false Wrote text = WritesNone kind Wrote text
 
-abbrev pub FindsAny : OrderKind → (List ℕ → Type 0) → List ℕ → Type 0
-FindsAny kind Wrote text = (found : Bool) × Finds kind found Wrote text
-
 -- some number of operations of the report's history, placed one after another, leads to more stages than the most
 abbrev pub IsWiderReport : OrderKind → Contents → Type 0
 IsWiderReport kind r = IsWiderSearch kind r.shape.processes r.shape.registers r.entries MOST_STAGES

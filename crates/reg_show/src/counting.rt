@@ -1,9 +1,9 @@
 //! The command that plays a workload many times and prints the table of what the plays told.
-ghost use Rattle.std.specs.Prelude.{◌≡◌, ◌≢◌, ◌≤◌, IfOk, IfErr, IsErrOf};
-ghost use Rattle.std.specs.Io.KnownBytes.{Appends};
-ghost use Rattle.reg_text.specs.Writing.{AppendsPart, IsWrittenOr};
+ghost use Rattle.std.specs.Prelude.{◌≤◌, IfOk, IfErr};
+ghost use Rattle.reg_text.specs.Writing.{IsWrittenOr};
 ghost use Rattle.reg_commands.specs.Replays.{start_of};
 ghost use Rattle.reg_outcomes.specs.declared.tables.plays.TheConstants.{MOST_PLAYS};
+ghost use Rattle.reg_outcomes.specs.Outcomes.{AreOutcomes, IsPlaysFault};
 ghost use Rattle.reg_outcomes.specs.TableText.{table_text};
 ghost use Rattle.reg_show.specs.Outcomes.{ShowsOutcomes, StopsPlays};
 ghost use Rattle.reg_show.specs.Seeds.{IsSeed, reseeded};
@@ -11,8 +11,8 @@ ghost use Rattle.reg_show.specs.Seeds.{IsSeed, reseeded};
 use crate::faults::ShowFault;
 use crate::seeding::reseed;
 use reg_commands::{Fault, WorkCommand};
-use reg_front::{FrontEnd, by_front};
-use reg_outcomes::{Outcomes, play_many, write_table};
+use reg_front::by_front;
+use reg_outcomes::{InterleavingFault, Outcomes, play_many, write_table};
 use reg_workload::Workload;
 use std::alloc::Allocator;
 use std::io::Write;
@@ -32,47 +32,18 @@ fn send<A: Allocator + Copy, W: Write>(
     Ok(())
 }
 
-/// Plays a workload, and writes the table of its plays.
-fn write_plays<F: FrontEnd, A: Allocator + Copy, W: Write>(
+/// What so many plays of a workload under its front end told.
+fn plays_of<A: Allocator + Copy>(
     alloc: A,
     work: &Workload<A>,
     plays: u32,
-    writer: &mut W,
-) -> Result<(), ShowFault>
+) -> Result<Outcomes<A>, InterleavingFault>
     requires { plays ≤ MOST_PLAYS }
-    ensures ok { IfOk result
-        (λ _. ShowsOutcomes plays F.start (Appends (W.contents writer.old) (W.contents writer.new)) work.now) }
-    ensures why { IfErr result (StopsPlays plays F.start work.now) }
-    ensures silent { IfErr result (λ f. f ≢ ShowFault.Command Fault.Output → writer.new ≡ writer.old) }
-    ensures part { IsErrOf result (ShowFault.Command Fault.Output)
-        → ShowsOutcomes plays F.start (AppendsPart (W.contents writer.old) (W.contents writer.new)) work.now }
+    ensures told { IfOk result
+        (λ o. AreOutcomes (start_of work.now.front) work.now plays o.rows.items o.unfinished o.undrawn) }
+    ensures why { IfErr result (IsPlaysFault (start_of work.now.front) work.now plays) }
 {
-    let outcomes = play_many::<F, A>(alloc, work, plays)?;
-    send(writer, plays, &outcomes)?;
-    Ok(())
-}
-
-/// Plays a workload under its front end, and writes the table of its plays.
-fn write_outcomes<A: Allocator + Copy, W: Write>(
-    alloc: A,
-    work: &Workload<A>,
-    plays: u32,
-    writer: &mut W,
-) -> Result<(), ShowFault>
-    requires { plays ≤ MOST_PLAYS }
-    ensures ok { IfOk result
-        (λ _. ShowsOutcomes plays (start_of work.now.front) (Appends (W.contents writer.old) (W.contents writer.new))
-        work.now) }
-    ensures why { IfErr result (StopsPlays plays (start_of work.now.front) work.now) }
-    ensures silent { IfErr result (λ f. f ≢ ShowFault.Command Fault.Output → writer.new ≡ writer.old) }
-    ensures part { IsErrOf result (ShowFault.Command Fault.Output)
-        → ShowsOutcomes plays (start_of work.now.front) (AppendsPart (W.contents writer.old) (W.contents writer.new))
-        work.now }
-{
-    by_front!(
-        work.front,
-        write_plays::<_, A, W>(alloc, work, plays, writer)
-    )
+    by_front!(work.front, play_many::<_, A>(alloc, work, plays))
 }
 
 /// Plays the workload that a text says `plays` times, from this seed on or else from its own, and writes the table of
@@ -99,6 +70,8 @@ impl WorkCommand for ManyPlays {
         writer: &mut W,
     ) -> Result<(), ShowFault> {
         let work = reseed(work, self.seed);
-        write_outcomes(alloc, &work, self.plays, writer)
+        let outcomes = plays_of(alloc, &work, self.plays)?;
+        send(writer, self.plays, &outcomes)?;
+        Ok(())
     }
 }

@@ -1,12 +1,8 @@
 //! The command that prints all outcomes that a workload's scripts can have.
-ghost use Rattle.std.specs.Prelude.{◌≡◌, ◌≢◌, ◌⊎◌, IfOk, IfErr, IsErrOf};
 ghost use Rattle.std.specs.Option.{option_map};
-ghost use Rattle.std.specs.Io.KnownBytes.{Appends};
 ghost use Rattle.reg_base.specs.Lists.{lists};
-ghost use Rattle.reg_text.specs.Writing.{AppendsPart, IsWrittenOr};
+ghost use Rattle.reg_text.specs.Writing.{IsWrittenOr};
 ghost use Rattle.reg_outcomes.specs.AllText.{ShowsAll, all_text};
-ghost use Rattle.reg_outcomes.specs.Interleavings.{IsWider};
-ghost use Rattle.reg_outcomes.specs.declared.interleavings.outcomes.TheConstants.{MOST_STAGES};
 ghost use Rattle.reg_show.specs.AllOutcomes.{StopsAll};
 
 use crate::faults::ShowFault;
@@ -36,30 +32,6 @@ fn send<A: Allocator + Copy, W: Write>(
     Ok(())
 }
 
-/// Finds all outcomes of a workload's scripts, and writes their text.
-fn write_all_of<A: Allocator + Copy, W: Write>(
-    alloc: A,
-    work: &Workload<A>,
-    writer: &mut W,
-) -> Result<(), ShowFault>
-    ensures ok { IfOk result
-        (λ _. ShowsAll work.now.scripts work.now.shape.registers
-        (Appends (W.contents writer.old) (W.contents writer.new))) }
-    ensures why { IfErr result
-        (λ f. ((f ≡ ShowFault.Command Fault.Output) ⊎ (f ≡ ShowFault.Command Fault.OutOfMemory))
-        ⊎ ((f ≡ ShowFault.TooManyStages) × IsWider work.now.scripts work.now.shape.registers MOST_STAGES)) }
-    ensures silent { IfErr result (λ f. f ≢ ShowFault.Command Fault.Output → writer.new ≡ writer.old) }
-    ensures part { IsErrOf result (ShowFault.Command Fault.Output)
-        → ShowsAll work.now.scripts work.now.shape.registers
-        (AppendsPart (W.contents writer.old) (W.contents writer.new)) }
-{
-    let scripts = work.scripts.as_slice();
-    let registers = work.shape.registers() as u16;
-    let all = all_outcomes(alloc, scripts, registers, MOST_STAGES)?;
-    let nevers = nevers_of(alloc, all.list.as_slice())?;
-    send(writer, count_operations(scripts) as u64, &all, &nevers)
-}
-
 /// Writes all outcomes that the scripts of the workload that a text says can have, and the combinations of their
 /// answers that no outcome has, once all are found.
 #[derive(Clone, Copy, Debug)]
@@ -78,6 +50,10 @@ impl WorkCommand for EveryOutcome {
         work: Workload<A>,
         writer: &mut W,
     ) -> Result<(), ShowFault> {
-        write_all_of(alloc, &work, writer)
+        let scripts = work.scripts.as_slice();
+        let registers = work.shape.registers() as u16;
+        let all = all_outcomes(alloc, scripts, registers, MOST_STAGES)?;
+        let nevers = nevers_of(alloc, all.list.as_slice())?;
+        send(writer, count_operations(scripts) as u64, &all, &nevers)
     }
 }

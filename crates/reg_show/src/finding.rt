@@ -1,10 +1,9 @@
 //! The command that finds an order of a report's history.
-ghost use Rattle.std.specs.Prelude.{⊤, ◌≡◌, ◌≢◌, IfOk, IfErr, IsErrOf, MatchOption, option_map, string_bytes};
-ghost use Rattle.std.specs.Io.KnownBytes.{Appends};
+ghost use Rattle.std.specs.Prelude.{⊤, ◌≡◌, IfOk, IfErr, MatchOption, option_map};
 ghost use Rattle.reg_checkers.specs.Orders.{IsSerial};
 ghost use Rattle.reg_commands.specs.Replays.{PointsStand};
-ghost use Rattle.reg_text.specs.Writing.{AppendsPart, IsWrittenOr};
-ghost use Rattle.reg_show.specs.Finding.{BlamesFind, Finds, FindsAny, HasNone, IsReordered, IsUnfound, none_text};
+ghost use Rattle.reg_text.specs.Writing.{IsWrittenOr};
+ghost use Rattle.reg_show.specs.Finding.{BlamesFind, Finds, HasNone, IsReordered, IsUnfound, none_text};
 ghost use Rattle.reg_show.specs.Finding.{with_order};
 
 use crate::faults::ShowFault;
@@ -89,38 +88,9 @@ fn write_none<W: Write>(writer: &mut W, kind: OrderKind) -> Result<(), Fault>
     write_answer(writer, text.as_bytes())
 }
 
-/// Reads a report, looks for an order of its history, and writes the report with it, or that there is none. The answer
-/// is whether there is one. The text is let go before the search.
-fn find<A: Allocator + Copy, W: Write>(
-    alloc: A,
-    kind: OrderKind,
-    text: String<A>,
-    writer: &mut W,
-) -> Result<bool, ShowFault>
-    ensures ok { IfOk result
-        (λ found. Finds kind found (Appends (W.contents writer.old) (W.contents writer.new)) (string_bytes text)) }
-    ensures why { IfErr result (λ f. BlamesFind kind f (string_bytes text)) }
-    ensures silent { IfErr result (λ f. f ≢ ShowFault.Command Fault.Output → writer.new ≡ writer.old) }
-    ensures part { IsErrOf result (ShowFault.Command Fault.Output)
-        → FindsAny kind (AppendsPart (W.contents writer.old) (W.contents writer.new)) (string_bytes text) }
-{
-    let report = read_report_text(alloc, text.as_str())?;
-    drop(text);
-    match with_order_found(alloc, kind, report)? {
-        Some(found) => {
-            write_out(writer, &found)?;
-            Ok(true)
-        }
-        None => {
-            write_none(writer, kind)?;
-            Ok(false)
-        }
-    }
-}
-
 /// Finds an order of the history of the report that a text spells, and writes the report in version 2 with it in place
 /// of its own order and points, or one line that says that there is none, once the search is over. The answer is a no
-/// where there is none.
+/// where there is none. The text is let go before the search.
 #[derive(Clone, Copy, Debug)]
 pub struct FindOrder {
     pub kind: OrderKind,
@@ -143,7 +113,18 @@ impl TextCommand for FindOrder {
         text: String<A>,
         writer: &mut W,
     ) -> Result<bool, ShowFault> {
-        find(alloc, self.kind, text, writer)
+        let report = read_report_text(alloc, text.as_str())?;
+        drop(text);
+        match with_order_found(alloc, self.kind, report)? {
+            Some(found) => {
+                write_out(writer, &found)?;
+                Ok(true)
+            }
+            None => {
+                write_none(writer, self.kind)?;
+                Ok(false)
+            }
+        }
     }
 
     ghost blames_input = { λ _ _ _ _ blamed. blamed Check };

@@ -1,7 +1,5 @@
 //! The command that prints the schedule of the short form of a play.
-ghost use Rattle.std.specs.Prelude.{◌≡◌, ◌≢◌, ◌<◌, ◌⊎◌, IfOk, IfErr, IsErrOf, length, take};
-ghost use Rattle.std.specs.Io.KnownBytes.{Appends};
-ghost use Rattle.reg_text.specs.Writing.{AppendsPart};
+ghost use Rattle.std.specs.Prelude.{◌≡◌, ◌<◌, ◌⊎◌, IfOk, IfErr, length, take};
 ghost use Rattle.reg_commands.specs.Replays.{start_of};
 ghost use Rattle.reg_show.specs.Seeds.{IsSeed, is_fair, reseeded, seed_of};
 ghost use Rattle.reg_show.specs.Shorts.{IsShortPlay, KeepsAnswers, LacksShort, Shortens, ShowsShort, StopsShort};
@@ -61,48 +59,16 @@ pub(crate) fn short_play<F: FrontEnd, A: Allocator + Copy>(
     short_form::<F, A>(alloc, work.shape, entries, play.world.accepted())
 }
 
-/// Plays a workload, and writes the schedule of the play's short form.
-fn write_short<F: FrontEnd, A: Allocator + Copy, W: Write>(
+/// The events of the short form of a workload's play under its front end.
+fn short_of<A: Allocator + Copy>(
     alloc: A,
     work: &Workload<A>,
     fair: bool,
-    writer: &mut W,
-) -> Result<(), ShowFault>
-    ensures ok { IfOk result
-        (λ _. ShowsShort fair F.start (Appends (W.contents writer.old) (W.contents writer.new)) work.now) }
-    ensures why { IfErr result (λ f. (f ≡ ShowFault.Command Fault.Output) ⊎ LacksShort fair F.start work.now f) }
-    ensures silent { IfErr result (λ f. f ≢ ShowFault.Command Fault.Output → writer.new ≡ writer.old) }
-    ensures part { IsErrOf result (ShowFault.Command Fault.Output)
-        → ShowsShort fair F.start (AppendsPart (W.contents writer.old) (W.contents writer.new)) work.now }
+) -> Result<Vec<Event, A>, ShowFault>
+    ensures short { IfOk result (λ v. IsShortPlay fair (start_of work.now.front) work.now v.items) }
+    ensures why { IfErr result (LacksShort fair (start_of work.now.front) work.now) }
 {
-    let short = short_play::<F, A>(alloc, work, fair)?;
-    let events = short.as_slice();
-    events_have_bits(events);
-    send(writer, work.shape, &work.names, work.front, events)?;
-    Ok(())
-}
-
-/// Plays a workload under its front end, and writes the schedule of the play's short form.
-fn write_short_of<A: Allocator + Copy, W: Write>(
-    alloc: A,
-    work: &Workload<A>,
-    fair: bool,
-    writer: &mut W,
-) -> Result<(), ShowFault>
-    ensures ok { IfOk result
-        (λ _. ShowsShort fair (start_of work.now.front) (Appends (W.contents writer.old) (W.contents writer.new))
-        work.now) }
-    ensures why { IfErr result
-        (λ f. (f ≡ ShowFault.Command Fault.Output) ⊎ LacksShort fair (start_of work.now.front) work.now f) }
-    ensures silent { IfErr result (λ f. f ≢ ShowFault.Command Fault.Output → writer.new ≡ writer.old) }
-    ensures part { IsErrOf result (ShowFault.Command Fault.Output)
-        → ShowsShort fair (start_of work.now.front) (AppendsPart (W.contents writer.old) (W.contents writer.new))
-        work.now }
-{
-    by_front!(
-        work.front,
-        write_short::<_, A, W>(alloc, work, fair, writer)
-    )
+    by_front!(work.front, short_play::<_, A>(alloc, work, fair))
 }
 
 /// Writes the schedule of the short form of the player's play of the workload that a text says, once the form is made.
@@ -132,6 +98,10 @@ impl WorkCommand for ShortSchedule {
         writer: &mut W,
     ) -> Result<(), ShowFault> {
         let work = reseed(work, self.player.seed());
-        write_short_of(alloc, &work, self.player.is_fair(), writer)
+        let short = short_of(alloc, &work, self.player.is_fair())?;
+        let events = short.as_slice();
+        events_have_bits(events);
+        send(writer, work.shape, &work.names, work.front, events)?;
+        Ok(())
     }
 }

@@ -26,9 +26,7 @@ fn tell_run<F: NamedFront, A: Allocator + Copy>(
         events,
     } = schedule;
     let Watched { world, moments } = watch_run::<F, A>(alloc, shape, events.as_slice())?;
-    let Ok(points) = F::points_of(&world) else {
-        return Err(Fault::OutOfMemory);
-    };
+    let points = F::points_of(&world)?;
     Ok(TracedRun {
         front,
         names,

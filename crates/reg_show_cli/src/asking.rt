@@ -250,10 +250,7 @@ fn help_asked(words: &[String]) -> Option<Option<Topic>>
     if asks_whole_help(words) {
         return Some(None);
     }
-    match topic_asked(words) {
-        Some(topic) => Some(Some(topic)),
-        None => None,
-    }
+    topic_asked(words).map(Some)
 }
 
 /// What words ask for that say no number and no player.

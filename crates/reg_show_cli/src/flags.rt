@@ -119,10 +119,7 @@ fn seed_said(flags: &[String]) -> Option<Option<u64>>
     if flags.is_empty() {
         return Some(None);
     }
-    match number_alone(flags, "--seed", LAST_SEED) {
-        Some(seed) => Some(Some(seed)),
-        None => None,
-    }
+    number_alone(flags, "--seed", LAST_SEED).map(Some)
 }
 
 /// The player that flags say.

@@ -107,10 +107,7 @@ fn layout_of<A: Allocator + Copy>(alloc: A, text: &str) -> Result<Vec<u8, A>, Fa
         Ok(work) => work,
         Err(fault) => return Err(fault_of(fault)),
     };
-    match lay_out(alloc, &work) {
-        Ok(layout) => Ok(layout),
-        Err(_) => Err(Fault::OutOfMemory),
-    }
+    Ok(lay_out(alloc, &work)?)
 }
 
 /// Puts the workload that a text seems to say into its layout.

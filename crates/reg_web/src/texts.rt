@@ -193,14 +193,8 @@ pub extern "C" fn tellwydar_trace(
     ensures { Fills (IsShown AnyShowing.Trace text.now) result output.old output.new errors.old errors.new lengths.new }
 {
     let showing = Showing::Trace;
-    tell_in(
-        ShowSchedule { showing },
-        room,
-        text,
-        output,
-        errors,
-        lengths,
-    )
+    let command = ShowSchedule { showing };
+    tell_in(command, room, text, output, errors, lengths)
 }
 
 /// Draws the run of a schedule, and the status is 0; or 1 with the line of a fault, or a first part of it.
@@ -215,14 +209,8 @@ pub extern "C" fn tellwydar_draw(
     ensures { Fills (IsShown AnyShowing.Draw text.now) result output.old output.new errors.old errors.new lengths.new }
 {
     let showing = Showing::Draw;
-    tell_in(
-        ShowSchedule { showing },
-        room,
-        text,
-        output,
-        errors,
-        lengths,
-    )
+    let command = ShowSchedule { showing };
+    tell_in(command, room, text, output, errors, lengths)
 }
 
 /// Draws the run of a schedule large enough for a projector, and the status is 0; or 1 with the line of a fault, or a
@@ -239,14 +227,8 @@ pub extern "C" fn tellwydar_draw_large(
         lengths.new }
 {
     let showing = Showing::DrawLarge;
-    tell_in(
-        ShowSchedule { showing },
-        room,
-        text,
-        output,
-        errors,
-        lengths,
-    )
+    let command = ShowSchedule { showing };
+    tell_in(command, room, text, output, errors, lengths)
 }
 
 /// Tells the run of a schedule as data, and the status 0; or 1 with the line of a fault, or a first part of it.
@@ -261,14 +243,8 @@ pub extern "C" fn tellwydar_data(
     ensures { Fills (IsShown AnyShowing.Data text.now) result output.old output.new errors.old errors.new lengths.new }
 {
     let showing = Showing::Data;
-    tell_in(
-        ShowSchedule { showing },
-        room,
-        text,
-        output,
-        errors,
-        lengths,
-    )
+    let command = ShowSchedule { showing };
+    tell_in(command, room, text, output, errors, lengths)
 }
 
 /// Runs a schedule under the front end of the table of this number, whatever its own front line says, and tells the
@@ -326,14 +302,8 @@ pub extern "C" fn tellwydar_page(
     ensures { Fills (IsShown AnyShowing.Page text.now) result output.old output.new errors.old errors.new lengths.new }
 {
     let showing = Showing::Page;
-    tell_in(
-        ShowSchedule { showing },
-        room,
-        text,
-        output,
-        errors,
-        lengths,
-    )
+    let command = ShowSchedule { showing };
+    tell_in(command, room, text, output, errors, lengths)
 }
 
 /// Brings the run of a schedule to rest. The answer is the schedule with the events that do, and the status 0; or 1
@@ -349,12 +319,6 @@ pub extern "C" fn tellwydar_rest(
     ensures { Fills (IsShown AnyShowing.Rest text.now) result output.old output.new errors.old errors.new lengths.new }
 {
     let showing = Showing::Rest;
-    tell_in(
-        ShowSchedule { showing },
-        room,
-        text,
-        output,
-        errors,
-        lengths,
-    )
+    let command = ShowSchedule { showing };
+    tell_in(command, room, text, output, errors, lengths)
 }

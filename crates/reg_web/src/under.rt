@@ -51,12 +51,8 @@ fn report_world<F: FrontEnd, A: Allocator + Copy>(
     ensures points { IfOk result (λ r. r.points ≡ None) }
     ensures why { IfErr result (λ f. f ≡ Fault.OutOfMemory) }
 {
-    let Ok((_, order)) = world.serial_order() else {
-        return Err(Fault::OutOfMemory);
-    };
-    let Ok(front) = String::from_str(alloc, front.name()) else {
-        return Err(Fault::OutOfMemory);
-    };
+    let (_, order) = world.serial_order()?;
+    let front = String::from_str(alloc, front.name())?;
     match Report::new(front, names, world.into_history(), order, None) {
         Ok(report) => Ok(report),
         Err(_) => Err(Fault::OutOfMemory),

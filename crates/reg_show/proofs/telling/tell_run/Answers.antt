@@ -20,7 +20,7 @@ returns-clause-points g c =
     let start = g.F.FrontEnd.start in
     let shape : c.schedule.inside.shape ≡ c.args.schedule.shape = ap (λ (p : Plan). p.shape) c.schedule.view_is in
     let events : c.as_slice.result.now ≡ c.args.schedule.events = c.as_slice.ensures.value ∙ ap (λ (p : Plan). p.events) c.schedule.view_is in
-    points_of_plan start g.F.NamedFront.front c.args.schedule c.in_ok-world.field-0.world (option_map (λ v. v.items) c.in-Ok.points) (c.in_ok-world.ensures.world ∙ ap₂ (after_events start) shape events) c.in-Ok.ensures
+    points_of_plan start g.F.NamedFront.front c.args.schedule c.in_ok-world.field-0.world (option_map (λ v. v.items) c.in_ok-points.points) (c.in_ok-world.ensures.world ∙ ap₂ (after_events start) shape events) c.in_ok-points.ensures
 
 pub returns-in_err-world-clause-why : goal.returns-in_err-world-clause-why
 returns-in_err-world-clause-why g c =

@@ -11,7 +11,7 @@ use Rattle.reg_outcomes.proofs.Leading.{few_operations}
 use Rattle.reg_show.specs.declared.faults.ShowFault.TheVariants.{Command}
 use Rattle.reg_outcomes.proofs.Playable.{playable}
 use Rattle.reg_show.proofs.Shown.{if_in_part, if_sent, shows}
-use Rattle.reg_show.proofs.every.write_all_of.Goals as goal
+use Rattle.reg_show.proofs.every.EveryOutcomeWorkCommand.show.Goals as goal
 
 pub all_outcomes-requires-clause-playable : goal.all_outcomes-requires-clause-playable
 all_outcomes-requires-clause-playable g c =
@@ -30,19 +30,19 @@ count_operations-requires g c =
 pub returns-clause-ok : goal.returns-clause-ok
 returns-clause-ok g c =
     let scripts : List (List Op) = map (λ v. v.items) c.as_slice-scripts.result.now in
-    let same : scripts ≡ c.args.work.now.scripts = ap (λ (l : List (Vec Op g.row.A.Denot)). map (λ v. v.items) l) c.as_slice-scripts.ensures.value ∙ ap (λ (w : Load). w.scripts) c.work.view_is in
-    let many : c.registers-registers.result ≡ c.args.work.now.shape.registers = c.registers-registers.ensures.value ∙ ap (λ (w : Load). w.shape.registers) c.work.view_is in
+    let same : scripts ≡ c.args.work.scripts = ap (λ (l : List (Vec Op g.row.A.Denot)). map (λ v. v.items) l) c.as_slice-scripts.ensures.value ∙ ap (λ (w : Load). w.scripts) c.work.view_is in
+    let many : c.registers-registers.result ≡ c.args.work.shape.registers = c.registers-registers.ensures.value ∙ ap (λ (w : Load). w.shape.registers) c.work.view_is in
     if_sent _ _ c.send.result
-    (shows scripts c.args.work.now.scripts c.registers-registers.result c.args.work.now.shape.registers same many c.count_operations.result c.in_ok-all.all.stages c.in_ok-all.all.list.items c.as_slice.result.now
+    (shows scripts c.args.work.scripts c.registers-registers.result c.args.work.shape.registers same many c.count_operations.result c.in_ok-all.all.stages c.in_ok-all.all.list.items c.as_slice.result.now
     (option_map (λ list. map (λ v. v.items) list.items) c.in_ok-nevers.nevers) c.count_operations.ensures c.in_ok-all.ensures.outcomes c.in_ok-all.ensures.stages c.as_slice.ensures.value c.in_ok-nevers.ensures
     (Appends (g.W.Write.contents c.args.writer.now) (g.W.Write.contents c.send.new.writer))) c.send.ensures
 
 pub returns-clause-part : goal.returns-clause-part
 returns-clause-part g c =
     let scripts : List (List Op) = map (λ v. v.items) c.as_slice-scripts.result.now in
-    let same : scripts ≡ c.args.work.now.scripts = ap (λ (l : List (Vec Op g.row.A.Denot)). map (λ v. v.items) l) c.as_slice-scripts.ensures.value ∙ ap (λ (w : Load). w.scripts) c.work.view_is in
-    let many : c.registers-registers.result ≡ c.args.work.now.shape.registers = c.registers-registers.ensures.value ∙ ap (λ (w : Load). w.shape.registers) c.work.view_is in
+    let same : scripts ≡ c.args.work.scripts = ap (λ (l : List (Vec Op g.row.A.Denot)). map (λ v. v.items) l) c.as_slice-scripts.ensures.value ∙ ap (λ (w : Load). w.scripts) c.work.view_is in
+    let many : c.registers-registers.result ≡ c.args.work.shape.registers = c.registers-registers.ensures.value ∙ ap (λ (w : Load). w.shape.registers) c.work.view_is in
     if_in_part _ _ c.send.result (Command Output)
-    (λ h. shows scripts c.args.work.now.scripts c.registers-registers.result c.args.work.now.shape.registers same many c.count_operations.result c.in_ok-all.all.stages c.in_ok-all.all.list.items c.as_slice.result.now
+    (λ h. shows scripts c.args.work.scripts c.registers-registers.result c.args.work.shape.registers same many c.count_operations.result c.in_ok-all.all.stages c.in_ok-all.all.list.items c.as_slice.result.now
     (option_map (λ list. map (λ v. v.items) list.items) c.in_ok-nevers.nevers) c.count_operations.ensures c.in_ok-all.ensures.outcomes c.in_ok-all.ensures.stages c.as_slice.ensures.value c.in_ok-nevers.ensures
     (AppendsPart (g.W.Write.contents c.args.writer.now) (g.W.Write.contents c.send.new.writer)) h.1) c.send.ensures
