@@ -19,7 +19,7 @@ use Rattle.reg_verify.specs.StoryTexts.{BlamesStory, TellsStory as StoryAnswer}
 use Rattle.reg_verify.specs.Verifies.{BlamesAccount, Verifies, verify_line}
 use Rattle.reg_verify.specs.declared.faults.VerifyFault.TheVariants.{Command as VerifyCommand}
 
--- The status, the answer and the line of a fault that a command gives to a text: what is said of `run_text`.
+-- The status, the answer and the line of a fault that a command gives to a text.
 abbrev pub IsAnswer : Command → List ℕ → ℕ → List ℕ → List ℕ → Type 0
 IsAnswer command = IsTold (command ≡ Check) (λ (fault : Fault). fault) fault_line (Blames command) (Answers command)
 

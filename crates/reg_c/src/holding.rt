@@ -1,6 +1,5 @@
 //! A world that a caller holds.
 ghost use Rattle.std.specs.Prelude.{◌≡◌, ◌<◌, [], Some, IfErr, IfOk, IfSome, None, vec_capacity};
-ghost use Rattle.reg_checkers.specs.Orders.{IsSerial, IsPointOrder};
 ghost use Rattle.reg_world.specs.declared.faults.WorldFault.{WorldFault};
 ghost use Rattle.reg_world.specs.Worlds.{new_world};
 ghost use Rattle.reg_c.specs.declared.holding.Kept.{Kept};

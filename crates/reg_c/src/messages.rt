@@ -127,18 +127,14 @@ fn own_of(bytes: &[u8], processes: usize) -> Option<MessageStart>
         (λ s. IsOwn bytes.now processes s) }
 {
     let own = MessageStart::read(bytes)?;
-    if usize::from(own.processes) == processes {
-        Some(own)
-    } else {
-        None
-    }
+    (usize::from(own.processes) == processes).then_some(own)
 }
 
 /// The process by whose key a message came, if there are keys.
 fn key_of(key: u32) -> Option<u8>
     ensures { result ≡ key_in key }
 {
-    if key < 256 { Some(key as u8) } else { None }
+    u8::try_from(key).ok()
 }
 
 /// The log of a process that was heard first.

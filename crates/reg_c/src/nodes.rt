@@ -1,7 +1,6 @@
 //! A node that a caller holds.
-ghost use Rattle.std.specs.Prelude.{◌≡◌, [], None, IfErr, IfOk, MatchResult, vec_capacity};
+ghost use Rattle.std.specs.Prelude.{◌≡◌, [], None, IfErr, IfOk, vec_capacity};
 ghost use Rattle.reg_process.specs.declared.steps.Step.TheVariants.{Tick};
-ghost use Rattle.reg_node.specs.Logged.{Writes, WritesNothing};
 ghost use Rattle.reg_c.specs.declared.nodes.KeptNode.{KeptNode};
 ghost use Rattle.reg_c.specs.Events.{compare_and_swap_of, op_of, refusal_code};
 ghost use Rattle.reg_c.specs.Nodes.{HandsAs, HandsIn, HearsAs, HearsIn, IsNothing, MarksAs, MarksIn, NodeCalls};
@@ -20,7 +19,7 @@ use reg_base::Op;
 use reg_commands::fill;
 use reg_frames::decode;
 use reg_front::{FrontEnd, Linear, LocalRead, LocalWrite};
-use reg_node::{Chapter, Course, LoggedFault, LoggedNode, Output, Peers};
+use reg_node::{Chapter, Course, LoggedNode, Output, Peers};
 use reg_process::{ProcessFault, Step};
 use std::alloc::Global;
 
@@ -89,21 +88,10 @@ pub fn new(alloc: Global) -> Result<Unboxed<HeldNode>, u32>
 }
 
 /// Makes a step at a node.
-fn write<F: FrontEnd>(node: &mut LoggedNode<F>, step: &Step) -> Result<Vec<u8>, LoggedFault>
-    ensures { MatchResult result (λ v. Writes F.start node.old step.now v.items node.new)
-        (λ fault. WritesNothing F.start node.old step.now fault node.new) }
-{
-    match *step {
-        Step::Call { op } => node.call(op),
-        Step::Take { from, frame } => node.take(from, &frame),
-        Step::Tick => node.tick(),
-    }
-}
-
 fn make<F: FrontEnd>(alloc: Global, node: &mut LoggedNode<F>, step: &Step) -> Written
     ensures { Steps F.start step.now node.old node.new result.bytes.items result.code }
 {
-    match write(node, step) {
+    match node.step(step) {
         Ok(bytes) => Written { bytes, code: 0 },
         Err(fault) => Written {
             bytes: Vec::new(alloc),
