@@ -364,7 +364,7 @@ fn performs_the_write(rt: &impl Wait, passes: &mut [Pass<Linear, NoGate>]) -> bo
 
 #[test]
 fn clusters(rt: HostRuntime) {
-    let made = set_up::<Linear, NoGate>(&rt, rt.alloc(), shape(&rt, 1), NoGate);
+    let made = set_up::<Linear, NoGate>(rt.alloc(), shape(&rt, 1), NoGate);
     let mut parts = made.expect(&rt, "a cluster");
     let is_performed = performs_the_write(&rt, parts.passes.as_mut_slice());
     let is_closed = close(&rt, rt.alloc(), parts).is_ok();

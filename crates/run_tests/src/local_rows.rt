@@ -230,7 +230,6 @@ const WAITS: &[Row] = &[
         ],
         refused: &[],
     },
-    // It expects the value of the own write, which its copy doesn't hold at the call, and does at the delivery.
 ];
 
 /// Those with compare-and-swaps.
@@ -239,6 +238,7 @@ pub(crate) fn local_write_compares() -> &'static [Row] {
 }
 
 const COMPARES: &[Row] = &[
+    // It expects the value of the own write, which its copy doesn't hold at the call, and does at the delivery.
     Row {
         name: "a compare-and-swap compares at its delivery",
         processes: 2,

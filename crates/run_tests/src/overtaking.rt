@@ -3,15 +3,13 @@
 use crate::commands::{Given, gives};
 use crate::demands::demand;
 use crate::replay_reports::has_report;
-use crate::replay_rows::Row;
+use crate::replay_rows::{Row, run_of};
 use reg_commands::Command;
 use std::alloc::Global;
 
-/// A run with its report, the lines of its order, those of the order in which the operations were called, and what is
-/// said of that one.
+/// A run with its report, the lines of the order in which the operations were called, and what is said of that one.
 struct Overtaking {
     run: Row,
-    order: &'static str,
     in_time: &'static str,
     refusal: &'static str,
 }
@@ -24,23 +22,13 @@ fn local_read() -> &'static [Overtaking] {
 const LOCAL_READ: &[Overtaking] = &[
     // A swap is answered, and a later read of another process misses it.
     Overtaking {
-        run: Row {
-            schedule: "processes 3
-registers x
-front local-read
-call 0 swap x 5
+        run: run_of!("local-read", processes 3, report 2; "call 0 swap x 5
 take 0 1 0
 take 0 2 0
 take 1 0 1
 take 2 0 1
 call 1 read x
-",
-            report: "awreg report 2
-front local-read
-processes 3
-registers 1
-x
-history 4
+" => "history 4
        0  p0    #0       call    swap x 5
        4  p0    #0       answer  value 0
        5  p1    #0       call    read x
@@ -49,13 +37,7 @@ order 2
 p1 #0
 p0 #0
 end
-",
-        },
-        order: "order 2
-p1 #0
-p0 #0
-end
-",
+"),
         in_time: "order 2
 p0 #0
 p1 #0
@@ -65,23 +47,13 @@ end
     },
     // A compare-and-swap is answered, and a later read of another process misses it.
     Overtaking {
-        run: Row {
-            schedule: "processes 3
-registers x
-front local-read
-call 0 cas x 0 5
+        run: run_of!("local-read", processes 3, report 3; "call 0 cas x 0 5
 take 0 1 0
 take 0 2 0
 take 1 0 1
 take 2 0 1
 call 1 read x
-",
-            report: "awreg report 3
-front local-read
-processes 3
-registers 1
-x
-history 4
+" => "history 4
        0  p0    #0       call    cas x 0 5
        4  p0    #0       answer  done
        5  p1    #0       call    read x
@@ -90,13 +62,7 @@ order 2
 p1 #0
 p0 #0
 end
-",
-        },
-        order: "order 2
-p1 #0
-p0 #0
-end
-",
+"),
         in_time: "order 2
 p0 #0
 p1 #0
@@ -106,23 +72,13 @@ end
     },
     // A read of the new value, and then one of the old value.
     Overtaking {
-        run: Row {
-            schedule: "processes 3
-registers x
-front local-read
-call 0 write x 5
+        run: run_of!("local-read", processes 3, report 2; "call 0 write x 5
 take 0 2 0
 take 2 1 0
 take 0 1 0
 call 1 read x
 call 2 read x
-",
-            report: "awreg report 2
-front local-read
-processes 3
-registers 1
-x
-history 5
+" => "history 5
        0  p0    #0       call    write x 5
        4  p1    #0       call    read x
        4  p1    #0       answer  value 5
@@ -133,14 +89,7 @@ p2 #0
 p0 #0
 p1 #0
 end
-",
-        },
-        order: "order 3
-p2 #0
-p0 #0
-p1 #0
-end
-",
+"),
         in_time: "order 3
 p0 #0
 p1 #0
@@ -159,23 +108,13 @@ fn local_write() -> &'static [Overtaking] {
 const LOCAL_WRITE: &[Overtaking] = &[
     // A read of the new value, and then one of the old value, of a write that was answered at once.
     Overtaking {
-        run: Row {
-            schedule: "processes 3
-registers x
-front local-write
-call 0 write x 5
+        run: run_of!("local-write", processes 3, report 2; "call 0 write x 5
 take 0 2 0
 take 2 1 0
 take 0 1 0
 call 1 read x
 call 2 read x
-",
-            report: "awreg report 2
-front local-write
-processes 3
-registers 1
-x
-history 6
+" => "history 6
        0  p0    #0       call    write x 5
        0  p0    #0       answer  done
        4  p1    #0       call    read x
@@ -187,14 +126,7 @@ p2 #0
 p0 #0
 p1 #0
 end
-",
-        },
-        order: "order 3
-p2 #0
-p0 #0
-p1 #0
-end
-",
+"),
         in_time: "order 3
 p0 #0
 p1 #0
@@ -205,19 +137,9 @@ end
     },
     // A write is answered at once, and a later read of another process misses it.
     Overtaking {
-        run: Row {
-            schedule: "processes 2
-registers x
-front local-write
-call 0 write x 5
+        run: run_of!("local-write", processes 2, report 2; "call 0 write x 5
 call 1 read x
-",
-            report: "awreg report 2
-front local-write
-processes 2
-registers 1
-x
-history 4
+" => "history 4
        0  p0    #0       call    write x 5
        0  p0    #0       answer  done
        1  p1    #0       call    read x
@@ -226,13 +148,7 @@ order 2
 p1 #0
 p0 #0
 end
-",
-        },
-        order: "order 2
-p1 #0
-p0 #0
-end
-",
+"),
         in_time: "order 2
 p0 #0
 p1 #0
@@ -242,20 +158,10 @@ end
     },
     // A later swap comes before a write that was answered at once.
     Overtaking {
-        run: Row {
-            schedule: "processes 2
-registers x
-front local-write
-call 1 write x 5
+        run: run_of!("local-write", processes 2, report 2; "call 1 write x 5
 call 0 swap x 7
 take 1 0 0
-",
-            report: "awreg report 2
-front local-write
-processes 2
-registers 1
-x
-history 4
+" => "history 4
        0  p1    #0       call    write x 5
        0  p1    #0       answer  done
        1  p0    #0       call    swap x 7
@@ -264,13 +170,7 @@ order 2
 p0 #0
 p1 #0
 end
-",
-        },
-        order: "order 2
-p0 #0
-p1 #0
-end
-",
+"),
         in_time: "order 2
 p1 #0
 p0 #0
@@ -280,20 +180,10 @@ end
     },
     // A later compare-and-swap comes before a write that was answered at once, and finds what was before it.
     Overtaking {
-        run: Row {
-            schedule: "processes 2
-registers x
-front local-write
-call 1 write x 5
+        run: run_of!("local-write", processes 2, report 3; "call 1 write x 5
 call 0 cas x 0 7
 take 1 0 0
-",
-            report: "awreg report 3
-front local-write
-processes 2
-registers 1
-x
-history 4
+" => "history 4
        0  p1    #0       call    write x 5
        0  p1    #0       answer  done
        1  p0    #0       call    cas x 0 7
@@ -302,13 +192,7 @@ order 2
 p0 #0
 p1 #0
 end
-",
-        },
-        order: "order 2
-p0 #0
-p1 #0
-end
-",
+"),
         in_time: "order 2
 p1 #0
 p0 #0
@@ -318,21 +202,11 @@ end
     },
     // A later write comes before one that was answered at once, as a read tells.
     Overtaking {
-        run: Row {
-            schedule: "processes 2
-registers x
-front local-write
-call 1 write x 5
+        run: run_of!("local-write", processes 2, report 2; "call 1 write x 5
 call 0 write x 7
 take 1 0 0
 call 0 read x
-",
-            report: "awreg report 2
-front local-write
-processes 2
-registers 1
-x
-history 6
+" => "history 6
        0  p1    #0       call    write x 5
        0  p1    #0       answer  done
        1  p0    #0       call    write x 7
@@ -344,14 +218,7 @@ p0 #0
 p1 #0
 p0 #1
 end
-",
-        },
-        order: "order 3
-p0 #0
-p1 #0
-p0 #1
-end
-",
+"),
         in_time: "order 3
 p1 #0
 p0 #0
@@ -365,7 +232,9 @@ end
 /// Whether a run has its report, whose order is serial, and this is said of the order of the calls.
 fn is_overtaken(alloc: Global, row: &Overtaking) -> bool {
     let report = row.run.report;
-    let head = report.strip_suffix(row.order).unwrap_or("");
+    let Some((head, _)) = report.split_once("order ") else {
+        return false;
+    };
     let in_time = (head, row.in_time);
     has_report(alloc, Command::Replay, (row.run.schedule, ""), report)
         && gives(alloc, Command::Check, in_time, Given::Denied(row.refusal))

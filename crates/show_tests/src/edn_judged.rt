@@ -81,7 +81,7 @@ const NO_END: &str = "refused: line 1: wanted the end of what is begun\n";
 
 const NO_FORM: &str = "refused: line 1: wanted a form of EDN, and no #_\n";
 
-const ROWS: [Row; 31] = [
+const ROWS: [Row; 8] = [
     ("judge", STALE, (1, STALE_TOLD, "")),
     ("judge", STALE_IN_VECTOR, (1, STALE_TOLD, "")),
     ("judge", ASIDE, (0, ASIDE_TOLD, "")),
@@ -90,96 +90,59 @@ const ROWS: [Row; 31] = [
     ("judge", FAILED, (0, FAILED_TOLD, "")),
     ("judge", " \n,[ ]", (0, NOTHING_TOLD, "")),
     ("judge", "; nothing", (0, NOTHING_TOLD, "")),
-    ("judge", "#{}", (1, "", NOT_AN_ENTRY)),
-    ("judge", "[[]]", (1, "", NOT_AN_ENTRY)),
-    ("judge", "[5]", (1, "", NOT_AN_ENTRY)),
-    ("judge", "[]{:f :read}", (1, "", NOT_AN_ENTRY)),
-    ("judge", "[{5 6}]", (1, "", NOT_AN_ENTRY)),
-    ("judge", "{:f}", (1, "", NOT_AN_ENTRY)),
-    ("judge", "{:f :read)", (1, "", NO_PAIR)),
-    ("judge", "{:f [1 2}", (1, "", NO_PAIR)),
-    ("judge", "{:f :read", (1, "", NO_END)),
-    ("judge", "[", (1, "", NO_END)),
-    ("judge", "[{:f \"re", (1, "", NO_END)),
-    ("judge", "#_{:f :read}", (1, "", NO_FORM)),
-    ("judge", "[{:f :re\\ad}]", (1, "", NO_FORM)),
-    ("judge", "[{:f \"re\\qd\"}]", (1, "", NOT_AN_ENTRY)),
+];
+
+/// Texts that are refused, and the line that is told of each.
+const REFUSED: &[(&str, &str)] = &[
+    ("#{}", NOT_AN_ENTRY),
+    ("[[]]", NOT_AN_ENTRY),
+    ("[5]", NOT_AN_ENTRY),
+    ("[]{:f :read}", NOT_AN_ENTRY),
+    ("[{5 6}]", NOT_AN_ENTRY),
+    ("{:f}", NOT_AN_ENTRY),
+    ("{:f :read)", NO_PAIR),
+    ("{:f [1 2}", NO_PAIR),
+    ("{:f :read", NO_END),
+    ("[", NO_END),
+    ("[{:f \"re", NO_END),
+    ("#_{:f :read}", NO_FORM),
+    ("[{:f :re\\ad}]", NO_FORM),
+    ("[{:f \"re\\qd\"}]", NOT_AN_ENTRY),
     (
-        "judge",
         "\n{:type :invoke}",
-        (
-            1,
-            "",
-            "refused: line 2: wanted process, an integer or a string\n",
-        ),
+        "refused: line 2: wanted process, an integer or a string\n",
     ),
     (
-        "judge",
         "{:process 0 :type :begin}",
-        (
-            1,
-            "",
-            "refused: line 1: wanted type, one of invoke, ok, fail and info\n",
-        ),
+        "refused: line 1: wanted type, one of invoke, ok, fail and info\n",
     ),
     (
-        "judge",
         "{:process 0 :type :info :f :kill}",
-        (
-            1,
-            "",
-            "refused: line 1: wanted f, one of read, write, swap and cas\n",
-        ),
+        "refused: line 1: wanted f, one of read, write, swap and cas\n",
     ),
     (
-        "judge",
         "{:process 0 :type :invoke :f :write :key 1.5 :value 1}",
-        (
-            1,
-            "",
-            "refused: line 1: wanted key, an integer, a string or null\n",
-        ),
+        "refused: line 1: wanted key, an integer, a string or null\n",
     ),
     (
-        "judge",
         "{:process 0 :type :invoke :f :write :key :x :value [:y 1]}",
-        (
-            1,
-            "",
-            "refused: line 1: wanted value, an integer, a string or null\n",
-        ),
+        "refused: line 1: wanted value, an integer, a string or null\n",
     ),
     (
-        "judge",
         "{:process 0 :type :invoke :f :write :value {:x 1}}",
-        (
-            1,
-            "",
-            "refused: line 1: wanted value, an integer, a string or null\n",
-        ),
+        "refused: line 1: wanted value, an integer, a string or null\n",
     ),
     (
-        "judge",
         "{:process 0 :type :invoke :f :cas :value [1 nil]}",
-        (1, "", "refused: line 1: wanted value, what is written\n"),
+        "refused: line 1: wanted value, what is written\n",
     ),
     (
-        "judge",
         "{:process 0 :type :invoke :f :cas :value (1 2 3)}",
-        (
-            1,
-            "",
-            "refused: line 1: wanted value, the expected value and the new one\n",
-        ),
+        "refused: line 1: wanted value, the expected value and the new one\n",
     ),
     (
-        "judge",
         "[{:process 0 :type :ok :f :read\n :value 1}]",
-        (
-            1,
-            "",
-            "refused: line 2: the process has no call under way\n",
-        ),
+        "refused: line 2: the process has no call under way\n",
     ),
 ];
 
@@ -187,5 +150,13 @@ const ROWS: [Row; 31] = [
 fn histories_of_edn_are_judged(rt: HostRuntime) {
     for row in &ROWS {
         assert!(rt; gives(&rt, row), "{} < {}", row.0, row.1);
+    }
+}
+
+#[test]
+fn texts_that_are_no_histories_of_edn_are_refused(rt: HostRuntime) {
+    for (text, line) in REFUSED {
+        let row = ("judge", *text, (1, "", *line));
+        assert!(rt; gives(&rt, &row), "judge < {text}");
     }
 }

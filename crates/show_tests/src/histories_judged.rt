@@ -160,6 +160,8 @@ point order: yes
 serial order: yes
 ";
 
+const NO_PROCESS: &str = "refused: line 2: wanted process, an integer or a string\n";
+
 const ROWS: [Row; 16] = [
     ("judge", STALE, (1, STALE_TOLD, "")),
     ("judge", TWO_KEYS, (1, TWO_KEYS_TOLD, "")),
@@ -176,15 +178,7 @@ const ROWS: [Row; 16] = [
     ("judge --report", READ_BACK, (0, READ_BACK_REPORT, "")),
     ("judge", UNEQUAL, (1, UNEQUAL_TOLD, "")),
     ("judge", FAILED, (0, FAILED_TOLD, "")),
-    (
-        "judge",
-        "\n{}\n",
-        (
-            1,
-            "",
-            "refused: line 2: wanted process, an integer or a string\n",
-        ),
-    ),
+    ("judge", "\n{}\n", (1, "", NO_PROCESS)),
 ];
 
 /// Whether a command line gives this for its input.

@@ -6,87 +6,73 @@ use reg_verify::{HeadPart, LogFault, LogsFault, merge_logs_text};
 use std::alloc::{Allocator, Global};
 use std::test::Fail;
 
-/// The log of the first process of `WRITE`.
-const FIRST: &str = "e009c6ff tellwydar log 1
+/// A log of the first process of a chapter, or of the second: its first six lines, and the others.
+macro_rules! log_of {
+    (first; $rest:literal) => {
+        concat!("e009c6ff tellwydar log 1
 69771c8e cluster 7
 ded1c05f process 0
 91ba8d59 chapter 0
 b56a2825 begun 12
 2f99698f tellwydar record 1
-95118964 front linear
-c2025397 processes 2
-dc21685e registers x
-fbc16c9f 0 call write x 5
-92e249cb 0 take 1 000a01020000000000000001
-b9d266ce 0 take 1 001301010000000000000000020000000000000002 = done 0
-";
-
-/// The log of the second.
-const SECOND: &str = "e009c6ff tellwydar log 1
+", $rest)
+    };
+    (second; $rest:literal) => {
+        concat!("e009c6ff tellwydar log 1
 69771c8e cluster 7
 a9d6f0c9 process 1
 50345299 chapter 0
 d00d1363 begun 12
 61106226 tellwydar record 1
-fcdd7569 front linear
+", $rest)
+    };
+}
+
+/// The log of the first process of `WRITE`.
+const FIRST: &str = log_of!(first; "95118964 front linear
+c2025397 processes 2
+dc21685e registers x
+fbc16c9f 0 call write x 5
+92e249cb 0 take 1 000a01020000000000000001
+b9d266ce 0 take 1 001301010000000000000000020000000000000002 = done 0
+");
+
+/// The log of the second.
+const SECOND: &str = log_of!(second; "fcdd7569 front linear
 4d377e02 processes 2
 5263d960 registers x
 a448f4e6 1 take 0 001e010100000000000000000100000000000000010200000000000000000005
-";
+");
 
 /// A crash tore off a part of the last line of the first one.
-const TORN: &str = "e009c6ff tellwydar log 1
-69771c8e cluster 7
-ded1c05f process 0
-91ba8d59 chapter 0
-b56a2825 begun 12
-2f99698f tellwydar record 1
-95118964 front linear
+const TORN: &str = log_of!(first; "95118964 front linear
 c2025397 processes 2
 dc21685e registers x
 fbc16c9f 0 call write x 5
 92e249cb 0 take 1 000a01020000000000000001
-b9d266ce 0 take 1 0013010100000000000000";
+b9d266ce 0 take 1 0013010100000000000000");
 
 /// The second entry of the first process is missing.
-const SKIPPED: &str = "e009c6ff tellwydar log 1
-69771c8e cluster 7
-ded1c05f process 0
-91ba8d59 chapter 0
-b56a2825 begun 12
-2f99698f tellwydar record 1
-95118964 front linear
+const SKIPPED: &str = log_of!(first; "95118964 front linear
 c2025397 processes 2
 dc21685e registers x
 fbc16c9f 0 call write x 5
 b9d266ce 0 take 1 001301010000000000000000020000000000000002 = done 0
-";
+");
 
 /// The second process did nothing.
-const IDLE: &str = "e009c6ff tellwydar log 1
-69771c8e cluster 7
-a9d6f0c9 process 1
-50345299 chapter 0
-d00d1363 begun 12
-61106226 tellwydar record 1
-fcdd7569 front linear
+const IDLE: &str = log_of!(second; "fcdd7569 front linear
 4d377e02 processes 2
 5263d960 registers x
-";
+");
 
 /// The second entry is of the first process.
-const FOREIGN: &str = "e009c6ff tellwydar log 1
-69771c8e cluster 7
-a9d6f0c9 process 1
-50345299 chapter 0
-d00d1363 begun 12
-61106226 tellwydar record 1
-fcdd7569 front linear
+const FOREIGN: &str = log_of!(second; "fcdd7569 front linear
 4d377e02 processes 2
 5263d960 registers x
 a448f4e6 1 take 0 001e010100000000000000000100000000000000010200000000000000000005
 8fb5bab1 0 tick
-";
+");
 
 /// There is no third process.
 const BEYOND: &str = "e009c6ff tellwydar log 1
@@ -125,66 +111,36 @@ a9d6f0c9 process 1
 ";
 
 /// Under another front end.
-const OTHER_FRONT: &str = "e009c6ff tellwydar log 1
-69771c8e cluster 7
-a9d6f0c9 process 1
-50345299 chapter 0
-d00d1363 begun 12
-61106226 tellwydar record 1
-6ce47517 front local-write
+const OTHER_FRONT: &str = log_of!(second; "6ce47517 front local-write
 de3fc724 processes 2
 6166d971 registers x
-";
+");
 
 /// Of one of three processes.
-const OTHER_PROCESSES: &str = "e009c6ff tellwydar log 1
-69771c8e cluster 7
-a9d6f0c9 process 1
-50345299 chapter 0
-d00d1363 begun 12
-61106226 tellwydar record 1
-fcdd7569 front linear
+const OTHER_PROCESSES: &str = log_of!(second; "fcdd7569 front linear
 3a304e94 processes 3
 8ff500e5 registers x
-";
+");
 
 /// Of a register of another name.
-const OTHER_NAME: &str = "e009c6ff tellwydar log 1
-69771c8e cluster 7
-a9d6f0c9 process 1
-50345299 chapter 0
-d00d1363 begun 12
-61106226 tellwydar record 1
-fcdd7569 front linear
+const OTHER_NAME: &str = log_of!(second; "fcdd7569 front linear
 4d377e02 processes 2
 2564e9f6 registers y
-";
+");
 
 /// Of one register more.
-const ONE_MORE: &str = "e009c6ff tellwydar log 1
-69771c8e cluster 7
-a9d6f0c9 process 1
-50345299 chapter 0
-d00d1363 begun 12
-61106226 tellwydar record 1
-fcdd7569 front linear
+const ONE_MORE: &str = log_of!(second; "fcdd7569 front linear
 4d377e02 processes 2
 6776ac71 registers x y
-";
+");
 
 /// The log of a process that is alone.
-const ALONE: &str = "e009c6ff tellwydar log 1
-69771c8e cluster 7
-ded1c05f process 0
-91ba8d59 chapter 0
-b56a2825 begun 12
-2f99698f tellwydar record 1
-95118964 front linear
+const ALONE: &str = log_of!(first; "95118964 front linear
 5b0b022d processes 1
 61eb0490 registers x
 4ffe801d 0 call write x 5 = done 0
 e786a0c8 0 tick
-";
+");
 
 /// The record of `TORN` and `SECOND`: the last step of the first process is missing.
 const WITHOUT_LAST: &str = "tellwydar record 1

@@ -20,12 +20,12 @@ pub fn shape_of(rt: &impl Abort, processes: u32, registers: u32) -> Shape {
 
 /// A cluster of these many processes.
 pub fn parts_of<F: FrontEnd, G: Gate + Drop>(
-    rt: &(impl Wait + Abort),
+    rt: &impl Abort,
     alloc: Global,
     size: (u32, u32),
     gate: G,
 ) -> Parts<F, G> {
-    set_up(rt, alloc, shape_of(rt, size.0, size.1), gate).expect(rt, "a cluster")
+    set_up(alloc, shape_of(rt, size.0, size.1), gate).expect(rt, "a cluster")
 }
 
 /// The pass at this place, which is that of the process while none was taken from before it.

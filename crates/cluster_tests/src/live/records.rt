@@ -4,10 +4,11 @@ use crate::values::{receipt, write};
 use reg_base::{Answer, Op, Shape};
 use reg_frames::Frame;
 use reg_front::Linear;
-use reg_heap::Refusing;
+use reg_heap::{Trial, refusals};
 use reg_live::{CloseFault, LogEntry, Receipt, Reply, Step, verify, verify_in};
 use reg_world::{PackedWires, WireStore, World};
 use std::alloc::{AllocError, Allocator, Global};
+use std::test::Fail;
 
 /// The call of a write of 5.
 const CALL: Step = Step::Call {
@@ -165,30 +166,29 @@ fn damage_is_told(rt: HostRuntime) {
     }
 }
 
-/// How many growths were refused, one in each of as many tries, until one try met none. It is 0 where a try went wrong.
-fn refusals(shape: Shape, ample: Global, row: &Case) -> u64 {
-    for before in 0..1_000u64 {
-        let heap = Refusing::new(ample, before);
-        let told = is_right(shape, &heap, row);
-        let waiting = heap.is_waiting();
-        let right = match told {
-            Ok(right) => right,
-            Err(_) => !waiting,
-        };
-        if !right {
-            return 0;
-        }
-        if waiting {
-            return before;
+/// A row, judged.
+#[derive(Clone, Copy)]
+struct Judged {
+    shape: Shape,
+    row: Case,
+}
+
+impl Trial for Judged {
+    fn answer<A: Allocator + Copy>(&self, alloc: A, ample: Global) -> Result<Option<String>, Fail> {
+        match is_right(self.shape, alloc, &self.row) {
+            Ok(true) => Ok(Some(String::new(ample))),
+            Ok(false) => Err("judged otherwise")?,
+            Err(AllocError) => Ok(None),
         }
     }
-    0
 }
 
 #[test]
-fn each_growth_is_refused(rt: HostRuntime) {
+fn each_growth_is_refused(rt: HostRuntime) -> Result<(), Fail> {
     let shape = shape_of(&rt, 1, 1);
     for row in &CASES {
-        assert!(rt; refusals(shape, rt.alloc(), row) > 4);
+        let judged = Judged { shape, row: *row };
+        assert!(rt; refusals(&judged, rt.alloc())? > 4);
     }
+    Ok(())
 }

@@ -239,18 +239,9 @@ pub(crate) fn opened(alloc: Global, pieces: &[&str]) -> Option<LoggedNode<Linear
     }
 }
 
-/// What the log grows by where the node is asked for a step.
-fn written(node: &mut LoggedNode<Linear>, step: Step) -> Result<Vec<u8, Global>, LoggedFault> {
-    match step {
-        Step::Call { op } => node.call(op),
-        Step::Take { from, frame } => node.take(from, &frame),
-        Step::Tick => node.tick(),
-    }
-}
-
 /// Whether the log grows by this line.
 fn writes(node: &mut LoggedNode<Linear>, step: Step, line: &str) -> bool {
-    match written(node, step) {
+    match node.step(&step) {
         Ok(bytes) => bytes.as_slice() == line.as_bytes(),
         Err(_) => false,
     }
@@ -259,7 +250,7 @@ fn writes(node: &mut LoggedNode<Linear>, step: Step, line: &str) -> bool {
 /// Whether a step is refused since another process was not heard.
 fn is_unheard(node: &mut LoggedNode<Linear>, step: Step) -> bool {
     let fault = MeetingFault::Unheard;
-    written(node, step).err() == Some(LoggedFault::OfMeeting { fault })
+    node.step(&step).err() == Some(LoggedFault::OfMeeting { fault })
 }
 
 /// Whether something is handed out once the first entry is durable, and nothing before or after that.
@@ -344,7 +335,7 @@ fn ticked<A: Allocator + Copy>(
     ample: Global,
     node: &mut LoggedNode<Linear, A>,
 ) -> Result<Option<String>, Fail> {
-    match node.tick() {
+    match node.step(&Step::Tick) {
         Ok(bytes) => shown(ample, &bytes.as_slice()),
         Err(fault) => {
             let refused = is_refused(node, fault);

@@ -4,7 +4,7 @@ use crate::parts::nodes::{
     CALL_READ, CALL_WRITE, TAKE_ACK, WROTE, push_counts, push_done, push_made, push_output,
 };
 use reg_front::{FrontEnd, Linear, LocalRead};
-use reg_node::{LogEntry, MeetingFault, MeetingNode, Step};
+use reg_node::{LogEntry, MeetingNode, Step};
 use std::alloc::{AllocError, Allocator, Global};
 use std::process::Abort;
 
@@ -78,18 +78,6 @@ const NOT_LOST: &[Row] = &[
 /// Alone there is nobody to hear.
 const ALONE: &[Row] = &[(Input::Make(CALL_WRITE), "logged, Done at place 0, 0 of 1")];
 
-/// What a node gives where it is asked for the step.
-fn step_of<F: FrontEnd, A: Allocator + Copy>(
-    node: &mut MeetingNode<F, A>,
-    step: &Step,
-) -> Result<LogEntry, MeetingFault> {
-    match step {
-        Step::Call { op } => node.call(*op),
-        Step::Take { from, frame } => node.take(*from, frame),
-        Step::Tick => node.tick(),
-    }
-}
-
 /// What an input gives, and how many entries are durable then, of how many.
 fn push_given<F: FrontEnd, A: Allocator + Copy>(
     text: &mut String,
@@ -97,7 +85,7 @@ fn push_given<F: FrontEnd, A: Allocator + Copy>(
     input: &Input,
 ) -> Result<(), AllocError> {
     let pushed = match input {
-        Input::Make(step) => push_made(text, step, &step_of(node, step)),
+        Input::Make(step) => push_made(text, step, &node.step(step)),
         Input::Durable(count) => push_done(text, "durable", &node.mark_durable(*count)),
         Input::HandOut => push_output(text, node.hand_out()),
         Input::Hear(other, count) => push_done(text, "heard", &node.hear(*other, *count)),

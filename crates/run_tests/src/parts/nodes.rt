@@ -195,18 +195,6 @@ pub(crate) fn push_done<E: fmt::Display>(
     }
 }
 
-/// What a node gives where it is asked for the step.
-fn step_of<F: FrontEnd, A: Allocator + Copy>(
-    node: &mut Node<F, A>,
-    step: &Step,
-) -> Result<LogEntry, NodeFault> {
-    match step {
-        Step::Call { op } => node.call(*op),
-        Step::Take { from, frame } => node.take(*from, frame),
-        Step::Tick => node.tick(),
-    }
-}
-
 /// What a node hands out.
 pub(crate) fn push_output<A: Allocator + Copy>(
     text: &mut String,
@@ -233,7 +221,7 @@ fn push_given<F: FrontEnd, A: Allocator + Copy>(
     input: &Input,
 ) -> Result<(), AllocError> {
     let pushed = match input {
-        Input::Make(step) => push_made(text, step, &step_of(node, step)),
+        Input::Make(step) => push_made(text, step, &node.step(step)),
         Input::Durable(count) => push_done(text, "durable", &node.mark_durable(*count)),
         Input::HandOut => push_output(text, node.hand_out()),
     };
@@ -254,32 +242,25 @@ fn demand_rows<F: FrontEnd>(rt: &(impl Abort + AllocGlobal), node: &mut Node<F>,
     }
 }
 
-/// Has a new node, the first of two, make the rows.
-fn follow<F: FrontEnd>(rt: &(impl Abort + AllocGlobal), rows: &[Row]) {
-    let node = Node::<F>::new(rt.alloc(), shape_of(rt, 2), 0);
-    demand_rows(rt, &mut node.expect(rt, "a node"), rows);
-}
-
-/// Has a node that is opened with these entries make the rows.
-fn go_on(rt: &(impl Abort + AllocGlobal), entries: &[LogEntry], rows: &[Row]) {
-    let node = Node::<Linear>::open(rt.alloc(), shape_of(rt, 2), 0, entries);
+/// Has the first node of two, opened with these entries, make the rows.
+fn follow<F: FrontEnd>(rt: &(impl Abort + AllocGlobal), entries: &[LogEntry], rows: &[Row]) {
+    let node = Node::<F>::open(rt.alloc(), shape_of(rt, 2), 0, entries);
     demand_rows(rt, &mut node.expect(rt, "a node"), rows);
 }
 
 #[test]
 fn nodes_hold_back_what_is_not_durable(rt: HostRuntime) {
-    follow::<Linear>(&rt, HELD);
-    follow::<LocalRead>(&rt, READ_HELD);
-    follow::<LocalWrite>(&rt, IN_ORDER);
-    follow::<Linear>(&rt, REFUSED);
-    follow::<Linear>(&rt, STOPPED);
+    follow::<Linear>(&rt, &[], HELD);
+    follow::<LocalRead>(&rt, &[], READ_HELD);
+    follow::<LocalWrite>(&rt, &[], IN_ORDER);
+    follow::<Linear>(&rt, &[], REFUSED);
+    follow::<Linear>(&rt, &[], STOPPED);
 }
 
 #[test]
 fn nodes_go_on_after_their_logs(rt: HostRuntime) {
-    go_on(&rt, &[], HELD);
-    go_on(&rt, &[WROTE], ONE_LOST);
-    go_on(&rt, &[WROTE, ACKNOWLEDGED], NONE_LOST);
+    follow::<Linear>(&rt, &[WROTE], ONE_LOST);
+    follow::<Linear>(&rt, &[WROTE, ACKNOWLEDGED], NONE_LOST);
 }
 
 /// Why no node is opened for a process with these entries.
@@ -329,7 +310,7 @@ fn is_refused<F: FrontEnd, A: Allocator + Copy>(
     step: &Step,
     before: u64,
 ) -> bool {
-    match step_of(node, step) {
+    match node.step(step) {
         Ok(_) => node.logged().checked_sub(before) == Some(1),
         Err(fault) => {
             fault
@@ -352,7 +333,7 @@ fn all_given<A: Allocator + Copy>(
     for (input, _) in rows {
         if let Input::Make(step) = input {
             let before = node.logged();
-            match step_of(node, step) {
+            match node.step(step) {
                 Ok(entry) => push_entry(&mut text, step, &entry)?,
                 Err(fault) => {
                     let refused = is_refused(node, step, before);

@@ -1,13 +1,12 @@
 //! What a chapter writes first, and how a node goes through it, as worked by hand.
 use crate::demands::{demand, demand_same, shape_of};
 use crate::parts::logs::{ACKNOWLEDGE, GOT, HEAD, WRITE, opened};
-use crate::parts::nodes::{ACKNOWLEDGED, WROTE};
-use crate::values::{READ, WRITE_FIVE};
+use crate::parts::nodes::{ACKNOWLEDGED, CALL_READ, CALL_WRITE, WROTE};
 use reg_base::Op;
 use reg_base::limits::MOST_REGISTERS;
 use reg_front::Linear;
 use reg_heap::Refusing;
-use reg_node::{Course, Node, Progress, opening_of};
+use reg_node::{Course, Node, Progress, Step, opening_of};
 use std::alloc::{Allocator, Global};
 use std::process::Abort;
 
@@ -226,12 +225,18 @@ fn calls_are_counted_with_those_of_the_log(rt: HostRuntime) {
     let opened = Node::open(rt.alloc(), shape_of(&rt, 2), 0, &log);
     let mut node = opened.expect(&rt, "a node");
     assert!(rt; counts(&node) == (2, 1));
-    assert_eq!(rt; (node.tick().is_ok(), counts(&node)), (true, (3, 1)));
     assert_eq!(rt;
-        (node.call(WRITE_FIVE).is_ok(), counts(&node)),
+        (node.step(&Step::Tick).is_ok(), counts(&node)),
+        (true, (3, 1))
+    );
+    assert_eq!(rt;
+        (node.step(&CALL_WRITE).is_ok(), counts(&node)),
         (true, (4, 2))
     );
-    assert_eq!(rt; (node.call(READ).is_err(), counts(&node)), (true, (4, 2)));
+    assert_eq!(rt;
+        (node.step(&CALL_READ).is_err(), counts(&node)),
+        (true, (4, 2))
+    );
 }
 
 /// The log of process 0, its calls, its entries, and its casts that are and aren't delivered there.

@@ -134,30 +134,24 @@ fn find<F: FrontEnd>(
     true
 }
 
-/// Whether the step is made.
-fn makes<F: FrontEnd>(node: &mut MeetingNode<F>, step: &Step) -> bool {
-    match step {
-        Step::Call { op } => node.call(*op).is_ok(),
-        Step::Take { from, frame } => node.take(*from, frame).is_ok(),
-        Step::Tick => node.tick().is_ok(),
-    }
-}
-
 /// Whether so many writes are made, each at once.
 fn writes<F: FrontEnd>(node: &mut MeetingNode<F>, count: u64) -> bool {
-    (0..count).all(|value| node.call(Op::Write { register: 0, value }).is_ok())
+    (0..count).all(|value| {
+        let op = Op::Write { register: 0, value };
+        node.step(&Step::Call { op }).is_ok()
+    })
 }
 
 /// Whether the deed goes as it says.
 fn goes<F: FrontEnd>(node: &mut MeetingNode<F>, peers: &mut Peers, deed: &Deed) -> bool {
     match deed {
         Deed::Greeted => node.hear(1, 0).is_ok(),
-        Deed::Make(step) => makes(node, step),
+        Deed::Make(step) => node.step(step).is_ok(),
         Deed::Write(count) => writes(node, *count),
         Deed::Came => !peers.hear(node, 1),
         Deed::Got { count, ticks } => {
             let frame = Frame::Got { count: *count };
-            node.take(1, &frame).is_ok() && peers.hear(node, 1) == *ticks
+            node.step(&Step::Take { from: 1, frame }).is_ok() && peers.hear(node, 1) == *ticks
         }
         Deed::Looks {
             peer,
