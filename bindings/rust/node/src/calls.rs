@@ -288,19 +288,12 @@ mod tests {
         ] {
             assert!(!is_value(text), "{text}");
         }
-        for text in ["", "[]", "1", "{} {}", "{}x", "{", "\u{feff}{}"] {
-            assert!(Members::of(text).is_none(), "{text}");
-        }
-        assert!(Members::of(" \t{ } \r\n").is_some_and(|it| it.0.is_empty()));
-    }
-
-    #[test]
-    fn what_is_no_object_is_refused() {
         for text in
             ["", "[]", "1", "{} {}", "{}x", "{", "\u{feff}{}", "{1: 2}", "{\"a\": 01}", "{\"a\": 1,}", "{'a': 1}"]
         {
             assert!(Members::of(text).is_none(), "{text}");
         }
+        assert!(Members::of(" \t{ } \r\n").is_some_and(|it| it.0.is_empty()));
     }
 
     #[test]

@@ -86,10 +86,11 @@ pub struct Datagrams {
     bell: Bell,
 }
 
-fn place_of(address: &str) -> Result<SocketAddr, Fault> {
+/// The place of an address. All are of one family: IPv4 unless some address of the cluster is written as one of IPv6.
+fn place_of(address: &str, is_ipv6: bool) -> Result<SocketAddr, Fault> {
     let place = address.strip_prefix("udp://").unwrap_or(address);
-    let found = place.to_socket_addrs().map_err(|why| Fault::Road(format!("{address}: {why}")))?.next();
-    found.ok_or_else(|| Fault::Road(format!("{address}: no such place")))
+    let mut found = place.to_socket_addrs().map_err(|why| Fault::Road(format!("{address}: {why}")))?;
+    found.find(|it| it.is_ipv6() == is_ipv6).ok_or_else(|| Fault::Road(format!("{address}: no such place")))
 }
 
 /// A socket for what comes to an address. Before it was bound, one that somebody else has was refused: from here on
@@ -124,7 +125,8 @@ impl Datagrams {
         }
         let shared = |keys: Keys| keys.known.iter().map(|it| Shared::of(&keys.secret, it)).collect();
         let shared = keys.map(shared).transpose()?;
-        let to: Vec<SocketAddr> = addresses.iter().map(|it| place_of(it)).collect::<Result<_, _>>()?;
+        let is_ipv6 = addresses.iter().any(|it| it.contains('['));
+        let to: Vec<SocketAddr> = addresses.iter().map(|it| place_of(it, is_ipv6)).collect::<Result<_, _>>()?;
         let own = usize::from(me);
         let failed = |why: io::Error| Fault::Road(format!("{}: {why}", addresses[own]));
         let strangers = for_strangers(to[own]).map_err(failed)?;
@@ -178,7 +180,9 @@ impl Road for Datagrams {
         let descriptors = sockets.iter().map(|it| it.as_raw_fd()).chain([self.bell.descriptor()]);
         let mut items: Vec<PollItem> = descriptors.map(|it| PollItem::from_fd(it, POLLIN)).collect();
         poll(&mut items, wait)?;
-        for (place, socket) in sockets.iter().enumerate().filter(|it| items[it.0].is_readable()) {
+        // (what a datagram met at a port where nobody is would be heard again and again, if nobody took it)
+        let has_come = |it: &PollItem| it.is_readable() || it.is_error();
+        for (place, socket) in sockets.iter().enumerate().filter(|it| has_come(&items[it.0])) {
             self.take(socket, if place + 1 < sockets.len() { BATCH } else { FEW }, into);
         }
         Ok(items.last().is_some_and(PollItem::is_readable) && self.bell.rang())
@@ -188,6 +192,8 @@ impl Road for Datagrams {
 #[cfg(test)]
 mod tests {
     use super::*;
+    use std::os::unix::net::UnixStream;
+    use std::time::Instant;
 
     fn pair() -> (Key, Key) {
         let pair = zmq::CurveKeyPair::new().expect("a pair of keys");
@@ -217,13 +223,40 @@ mod tests {
         format!("udp://{place}")
     }
 
+    /// A road, with what keeps its bell still.
+    fn road(me: u8, addresses: &[String]) -> (Datagrams, UnixStream) {
+        let (bell, hand) = Bell::new().expect("a bell");
+        (Datagrams::open(me, addresses, None, bell).expect("a road"), hand)
+    }
+
+    #[test]
+    fn a_peer_that_is_gone_wakes_nobody_again_and_again() {
+        let (mut here, _hand) = road(0, &[free_address(), free_address()]);
+        here.send(1, &[7]);
+        let mut came = Vec::new();
+        // (the first time it hears that nobody is there)
+        here.receive(Some(Duration::from_secs(1)), &mut came).expect("received");
+        let (began, wait) = (Instant::now(), Duration::from_millis(200));
+        here.receive(Some(wait), &mut came).expect("received");
+        assert!(began.elapsed() >= wait);
+        assert!(came.is_empty());
+    }
+
+    #[test]
+    fn a_name_is_of_the_family_of_all_addresses() {
+        for (is_ipv6, address) in [(false, "udp://127.0.0.1:5"), (true, "udp://[::1]:5")] {
+            assert_eq!(place_of(address, is_ipv6).expect("a place").is_ipv6(), is_ipv6);
+            assert!(place_of(address, !is_ipv6).is_err());
+        }
+        assert!(place_of("udp://localhost:5", false).expect("a place").is_ipv4());
+    }
+
     #[test]
     fn what_a_stranger_sends_takes_no_room_of_a_peer() {
         let addresses = [free_address(), free_address()];
-        let road = |me| Datagrams::open(me, &addresses, None, Bell::new().expect("a bell").0).expect("a road");
-        let (mut here, mut there) = (road(0), road(1));
+        let ((mut here, _hand), (mut there, _other)) = (road(0, &addresses), road(1, &addresses));
         let stranger = UdpSocket::bind("127.0.0.1:0").expect("a port");
-        let place = place_of(&addresses[0]).expect("a place");
+        let place = place_of(&addresses[0], false).expect("a place");
         // (far more than the system keeps for one socket)
         for _ in 0..20_000 {
             stranger.send_to(&[7; MOST_BYTES], place).expect("sent");

@@ -1,8 +1,10 @@
 //! Why a node refuses a call, doesn't start, or stopped.
 use std::fmt;
 use std::io::{self, Write};
+use std::os::fd::AsRawFd;
 use std::path::{Path, PathBuf};
 use tellwydar::Refused;
+use zmq::{POLLOUT, PollItem};
 
 /// Why a call isn't answered, why there is no node, or why logs have no report. Only after `Stopped` and what comes
 /// after it in this list a node has stopped.
@@ -48,9 +50,12 @@ impl Fault {
     }
 }
 
-/// Says a line on the error stream, if anybody reads that.
+/// Says a line on the error stream, if anybody reads that: where it is full nothing waits for it.
 pub fn say(line: impl fmt::Display) {
-    let _ = io::stderr().write_all(format!("{line}\n").as_bytes());
+    let mut stream = io::stderr();
+    if zmq::poll(&mut [PollItem::from_fd(stream.as_raw_fd(), POLLOUT)], 0).is_ok_and(|it| it > 0) {
+        let _ = stream.write_all(format!("{line}\n").as_bytes());
+    }
 }
 
 /// A fault, and the path at which it came up.

@@ -79,8 +79,7 @@ impl LogFile {
     pub fn begin(&mut self, head: &[u8]) -> io::Result<()> {
         self.go_on(0)?;
         self.write(head, false)?;
-        self.file.sync_all()?;
-        sync_folder(&self.path)
+        self.force_with_name()
     }
 
     /// Goes on after the first bytes of the file; what is behind them is gone.
@@ -99,6 +98,12 @@ impl LogFile {
         self.file.write_all_at(entries, self.end)?;
         self.end = end;
         Ok(())
+    }
+
+    /// Has all that was written on the disk, and the name of the file.
+    pub fn force_with_name(&self) -> io::Result<()> {
+        self.file.sync_all()?;
+        sync_folder(&self.path)
     }
 
     /// Has all that was written on the disk.

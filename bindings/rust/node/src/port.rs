@@ -7,9 +7,10 @@
 use crate::calls::{End, Form};
 use crate::fault::{Fault, at_path};
 use crate::node::Node;
-use socket2::{Domain, SockAddr, Socket, Type};
-use std::fs::{self, File, Permissions};
+use socket2::{Domain, SockAddr, SockRef, Socket, Type};
+use std::fs::{self, File, Permissions, TryLockError};
 use std::io::{self, BufRead, BufReader, Read, Write};
+use std::net::Shutdown;
 use std::os::unix::fs::{FileTypeExt, PermissionsExt};
 use std::os::unix::net::{UnixListener, UnixStream};
 use std::path::{Path, PathBuf};
@@ -17,15 +18,17 @@ use std::sync::Arc;
 use std::sync::atomic::{AtomicBool, Ordering};
 use std::sync::mpsc::{self, Receiver, Sender};
 use std::thread;
-use std::time::Duration;
+use std::time::{Duration, Instant};
 use tellwydar::{Answer, Front, Op};
 
 /// Bytes of a line.
 const LONGEST: usize = 4096;
 /// Programs that may wait to be heard.
 const WAITING: i32 = 128;
-/// Before it is looked again whether there is room for a program.
+/// Before it is looked again whether there is room for a program, or whether a folder is free.
 const PAUSE: Duration = Duration::from_millis(100);
+/// For so long others who open a port in the same folder are waited for.
+const TURN: Duration = Duration::from_secs(5);
 const LOOKS: [&str; 3] = ["health", "status", "metrics"];
 
 /// A line of a program, and where its answer goes.
@@ -53,44 +56,60 @@ impl Desk {
         answer.recv().ok()
     }
 
-    /// Answers a program until it ends.
+    /// Answers a program until it ends. A last line that isn't ended may be a part of one: it is no call.
     fn attend(&self, program: &UnixStream) -> io::Result<()> {
         let (mut lines, mut out) = (BufReader::new(program), program);
         loop {
             let mut line = Vec::new();
             let length = lines.by_ref().take(LONGEST as u64 + 1).read_until(b'\n', &mut line)?;
+            let is_ended = line.ends_with(b"\n");
             let line = String::from_utf8_lossy(&line).trim_matches([' ', '\t', '\r', '\n']).to_string();
             if length > LONGEST {
                 return writeln!(out, "{}", Form::of(&line).refusal("a line is too long"));
             }
+            if !is_ended {
+                return Ok(());
+            }
             if !line.is_empty() {
                 let Some(answer) = self.ask(line) else { return Ok(()) };
                 out.write_all(format!("{answer}\n").as_bytes())?;
-            } else if length == 0 {
-                return Ok(());
             }
         }
     }
 }
 
-/// Has others who open a port in this folder wait: a socket that isn't listened to yet would pass for one of a node that
-/// is gone.
+/// Has others who open a port in this folder wait: a socket that isn't listened to yet would pass for one of a node
+/// that is gone.
 fn turn_in(folder: &Path) -> io::Result<File> {
     let turn = File::open(if folder.as_os_str().is_empty() { Path::new(".") } else { folder })?;
-    turn.lock()?;
-    Ok(turn)
+    let end = Instant::now() + TURN;
+    loop {
+        match turn.try_lock() {
+            Ok(()) => return Ok(turn),
+            Err(TryLockError::WouldBlock) if Instant::now() < end => thread::sleep(PAUSE),
+            Err(TryLockError::WouldBlock) => return Err(io::Error::other("another program has locked its folder")),
+            Err(TryLockError::Error(why)) => return Err(why),
+        }
+    }
+}
+
+/// Whether nobody listens at a socket. (One that has no room for more programs now isn't waited for.)
+fn is_stale(path: &Path) -> io::Result<bool> {
+    let socket = Socket::new(Domain::UNIX, Type::STREAM, None)?;
+    socket.set_nonblocking(true)?;
+    Ok(socket.connect(&SockAddr::unix(path)?).is_err_and(|why| why.kind() == io::ErrorKind::ConnectionRefused))
 }
 
 /// Removes the socket of a node that is gone.
 fn remove_stale(path: &Path) -> io::Result<()> {
     let is_socket = fs::metadata(path).is_ok_and(|it| it.file_type().is_socket());
-    let is_stale = || UnixStream::connect(path).is_err_and(|why| why.kind() == io::ErrorKind::ConnectionRefused);
-    if is_socket && is_stale() { fs::remove_file(path) } else { Ok(()) }
+    if is_socket && is_stale(path)? { fs::remove_file(path) } else { Ok(()) }
 }
 
 /// A port that is open until it is dropped.
 pub struct Port {
     path: PathBuf,
+    listener: UnixListener,
     is_over: Arc<AtomicBool>,
     calls: Receiver<Request>,
     looks: Receiver<Request>,
@@ -110,12 +129,13 @@ impl Port {
             Ok(UnixListener::from(socket))
         };
         let listener = open().map_err(|why| at_path(path, why))?;
+        let programs = listener.try_clone()?;
         let ((call, calls), (look, looks)) = (mpsc::channel(), mpsc::channel());
         let desk = Arc::new(Desk { calls: call, looks: look, bell });
         let is_over = Arc::new(AtomicBool::new(false));
         let over = Arc::clone(&is_over);
         let serve = move || {
-            for program in listener.incoming() {
+            for program in programs.incoming() {
                 if over.load(Ordering::Relaxed) {
                     return;
                 }
@@ -129,7 +149,7 @@ impl Port {
             }
         };
         thread::Builder::new().name("tellwydar-port".to_string()).spawn(serve)?;
-        Ok(Self { path: path.to_path_buf(), is_over, calls, looks })
+        Ok(Self { path: path.to_path_buf(), listener, is_over, calls, looks })
     }
 
     /// Answers programs until the end is asked for.
@@ -220,11 +240,11 @@ impl Port {
 }
 
 impl Drop for Port {
-    /// (Who lets programs in is woken by one more.)
+    /// (While it listens, nobody else takes the path. Who lets programs in is woken then.)
     fn drop(&mut self) {
-        self.is_over.store(true, Ordering::Relaxed);
-        let _ = UnixStream::connect(&self.path);
         let _ = fs::remove_file(&self.path);
+        self.is_over.store(true, Ordering::Relaxed);
+        let _ = SockRef::from(&self.listener).shutdown(Shutdown::Both);
     }
 }
 

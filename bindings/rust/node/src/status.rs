@@ -61,8 +61,8 @@ impl Status {
 
     /// `ok`, or for which processes the node waits.
     pub fn health(&self) -> String {
-        let missing: Vec<String> =
-            self.peers.iter().filter(|it| it.is_missing).map(|it| it.process.to_string()).collect();
+        let is_waited_for = |it: &&PeerStatus| it.is_missing || !it.is_heard;
+        let missing: Vec<String> = self.peers.iter().filter(is_waited_for).map(|it| it.process.to_string()).collect();
         if missing.is_empty() { "ok".to_string() } else { format!("waits for {}", missing.join(", ")) }
     }
 
@@ -125,9 +125,13 @@ mod tests {
                     {\"process\": 2, \"heard\": false, \"silent\": null, \"unacknowledged\": 3}]}";
         assert_eq!(status().json(), json);
         assert_eq!(status().health(), "waits for 2");
-        let mut well = status();
-        well.peers.truncate(1);
-        assert_eq!(well.health(), "ok");
+        let mut other = status();
+        other.peers[1].is_missing = false;
+        assert_eq!(other.health(), "waits for 2");
+        other.peers.truncate(1);
+        assert_eq!(other.health(), "ok");
+        other.peers[0].is_missing = true;
+        assert_eq!(other.health(), "waits for 1");
         let metrics = "\
 # TYPE tellwydar_operations_total counter
 tellwydar_operations_total 70000

@@ -2,7 +2,7 @@
 //! node that was killed is made again. It needs the logs of its last two chapters, and no others.
 use crate::config::Options;
 use crate::disk::{Disk, Job, Wait};
-use crate::fault::{Fault, at_path, say};
+use crate::fault::{Fault, at_path, is_of_too_many, say};
 use crate::log_file::{LogFile, called_up_to, is_there, last_chapter, log_of, quiet_of};
 use crate::log_text;
 use std::fs::{self, File};
@@ -173,7 +173,7 @@ impl Story {
             begun(head, path, log).inspect_err(|_| drop(fs::remove_file(path)))?
         };
         chapter.node.follow(room, &before.values)?;
-        if quiet_of(&log_of(path, chapter.head.chapter)).exists() {
+        if options.resume && quiet_of(&log_of(path, chapter.head.chapter)).exists() {
             chapter.node.end();
         }
         let (path, disk) = (path.to_path_buf(), start(log)?);
@@ -266,8 +266,13 @@ impl Story {
         if self.begin_quiet()? {
             return Ok(true);
         }
+        let begun = match drawn() {
+            // (strangers who connect have too many files open: at a later look it is tried again)
+            Err(why) if is_of_too_many(&why) => return Ok(false),
+            begun => begun?,
+        };
         let last = &self.chapter.head;
-        let head = LogHead { chapter: last.chapter + 1, begun: drawn()?, ..last.clone() };
+        let head = LogHead { chapter: last.chapter + 1, begun, ..last.clone() };
         let (path, text) = (log_of(&self.path, head.chapter), LoggedNode::begin(&head)?);
         self.next = Some(head);
         self.disk.begin(Job::Turn { path, text })?;
@@ -305,7 +310,7 @@ impl Before {
     }
 }
 
-fn drawn() -> Result<u64, Fault> {
+fn drawn() -> io::Result<u64> {
     let mut bytes = [0; 8];
     File::open("/dev/urandom")?.read_exact(&mut bytes)?;
     Ok(u64::from_be_bytes(bytes))
@@ -331,6 +336,6 @@ fn resumed(head: &LogHead, path: &Path) -> Result<(Chapter, LogFile), Fault> {
     let whole = chapter.node.whole();
     log_text::say_cut(path, text.len() - whole);
     // (all its entries count as durable)
-    log.go_on(whole as u64).and_then(|()| log.force()).map_err(|why| at_path(path, why))?;
+    log.go_on(whole as u64).and_then(|()| log.force_with_name()).map_err(|why| at_path(path, why))?;
     Ok((chapter, log))
 }

@@ -2,8 +2,8 @@
 use socket2::{Domain, SockAddr, Socket, Type};
 use std::error::Error;
 use std::fs::{self, File};
-use std::io::{self, Write};
-use std::net::TcpListener;
+use std::io::{self, Read, Write};
+use std::net::{Shutdown, TcpListener};
 use std::os::unix::fs::PermissionsExt;
 use std::os::unix::net::{UnixListener, UnixStream};
 use std::path::{Path, PathBuf};
@@ -113,6 +113,32 @@ fn each_line_is_answered() -> Told<()> {
     let socket = node.socket.clone();
     node.end()?;
     assert!(!socket.exists());
+    Ok(fs::remove_dir_all(room)?)
+}
+
+#[test]
+fn a_line_that_is_not_ended_is_no_call() -> Told<()> {
+    let room = room("unended")?;
+    let node = Served::start(&config(1)?, &room, 0, false)?;
+    let mut program = UnixStream::connect(&node.socket)?;
+    program.write_all(b"write x 5\nwrite x 12")?;
+    program.shutdown(Shutdown::Write)?;
+    let mut told = String::new();
+    program.read_to_string(&mut told)?;
+    assert_eq!(told, "done\n");
+    assert_eq!(node.answers("read x\n")?, ["value 5"]);
+    node.end()?;
+    Ok(fs::remove_dir_all(room)?)
+}
+
+#[test]
+fn a_folder_that_another_program_has_locked_is_not_waited_for_for_ever() -> Told<()> {
+    let room = room("locked")?;
+    let turn = File::open(&room)?;
+    turn.lock()?;
+    let (socket, (bell, _ear)) = (room.join("0.socket"), UnixStream::pair()?);
+    let why = Port::open(&socket, bell).err().map(|why| why.to_string());
+    assert_eq!(why, Some(format!("{}: another program has locked its folder", socket.display())));
     Ok(fs::remove_dir_all(room)?)
 }
 
