@@ -139,61 +139,27 @@ impl From<&Point> for PointRow {
 
 pub type Command = unsafe extern "C" fn(*const u8, usize, *mut u8, usize, *mut u8, usize, *mut Lengths) -> u8;
 
+/// Functions of the library that have a text, rooms for an answer and for a line, and tell a status.
+macro_rules! commands {
+    ($($name:ident)*) => {
+        unsafe extern "C" {
+            $(pub fn $name(
+                text: *const u8,
+                text_length: usize,
+                output: *mut u8,
+                output_length: usize,
+                errors: *mut u8,
+                errors_length: usize,
+                lengths: *mut Lengths,
+            ) -> u8;)*
+        }
+    };
+}
+
+commands!(tellwydar_replay tellwydar_check tellwydar_play tellwydar_play_fair);
+commands!(tellwydar_verify tellwydar_merge tellwydar_story);
+
 unsafe extern "C" {
-    pub fn tellwydar_replay(
-        text: *const u8,
-        text_length: usize,
-        output: *mut u8,
-        output_length: usize,
-        errors: *mut u8,
-        errors_length: usize,
-        lengths: *mut Lengths,
-    ) -> u8;
-    pub fn tellwydar_check(
-        text: *const u8,
-        text_length: usize,
-        output: *mut u8,
-        output_length: usize,
-        errors: *mut u8,
-        errors_length: usize,
-        lengths: *mut Lengths,
-    ) -> u8;
-    pub fn tellwydar_play(
-        text: *const u8,
-        text_length: usize,
-        output: *mut u8,
-        output_length: usize,
-        errors: *mut u8,
-        errors_length: usize,
-        lengths: *mut Lengths,
-    ) -> u8;
-    pub fn tellwydar_verify(
-        text: *const u8,
-        text_length: usize,
-        output: *mut u8,
-        output_length: usize,
-        errors: *mut u8,
-        errors_length: usize,
-        lengths: *mut Lengths,
-    ) -> u8;
-    pub fn tellwydar_merge(
-        text: *const u8,
-        text_length: usize,
-        output: *mut u8,
-        output_length: usize,
-        errors: *mut u8,
-        errors_length: usize,
-        lengths: *mut Lengths,
-    ) -> u8;
-    pub fn tellwydar_story(
-        text: *const u8,
-        text_length: usize,
-        output: *mut u8,
-        output_length: usize,
-        errors: *mut u8,
-        errors_length: usize,
-        lengths: *mut Lengths,
-    ) -> u8;
     pub fn tellwydar_judge(
         text: *const u8,
         text_length: usize,
@@ -210,15 +176,6 @@ unsafe extern "C" {
         first: *const u8,
         first_length: usize,
         report: u8,
-        output: *mut u8,
-        output_length: usize,
-        errors: *mut u8,
-        errors_length: usize,
-        lengths: *mut Lengths,
-    ) -> u8;
-    pub fn tellwydar_play_fair(
-        text: *const u8,
-        text_length: usize,
         output: *mut u8,
         output_length: usize,
         errors: *mut u8,

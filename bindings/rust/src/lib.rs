@@ -25,6 +25,7 @@
 mod checkers;
 mod foreign;
 mod fronts;
+mod handles;
 mod histories;
 mod logs;
 mod messages;

@@ -1,10 +1,10 @@
 //! Nodes: one process that outlives crashes by its log, which its owner writes down.
-use crate::foreign::{self, LogRow, Opaque};
+use crate::foreign::{self, LogRow};
+use crate::handles::Handle;
 use crate::processes::{Frames, Known, ROOM, reply_of, with_numbers};
 use crate::worlds::refused;
 use crate::{FrontEnd, Op, Refused, Reply, Room};
 use std::fmt;
-use std::ptr::NonNull;
 
 /// An entry's line has at most 151 bytes.
 const LINE: usize = 160;
@@ -136,7 +136,7 @@ pub struct Output<'a> {
 /// ```
 #[derive(Debug)]
 pub struct LoggedNode {
-    handle: NonNull<Opaque>,
+    handle: Handle,
     line: [u8; LINE],
     room: Vec<u8>,
 }
@@ -207,13 +207,12 @@ impl LoggedNode {
     ///
     /// Where the text is no log of one process, or has fewer entries than were told durable.
     pub fn open(text: &[u8], durable: u64) -> Result<Self, LogFault> {
-        let mut handle = std::ptr::null_mut();
-        // SAFETY: the handle is written where the result is 0.
-        let code = unsafe { foreign::tellwydar_node_new(&mut handle) };
-        let handle = NonNull::new(handle).filter(|_| code == 0).ok_or(LogFault::Refused(refused(code)))?;
+        // SAFETY: the pointer is written where the result is 0.
+        let make = |at: &mut _| unsafe { foreign::tellwydar_node_new(at) };
+        let handle = Handle::new(make, foreign::tellwydar_node_close).map_err(LogFault::Refused)?;
         let node = Self { handle, line: [0; LINE], room: vec![0; ROOM] };
         // SAFETY: the handle is of `tellwydar_node_new`; the pointer and the length are those of one slice.
-        let code = unsafe { foreign::tellwydar_node_open(handle.as_ptr(), text.as_ptr(), text.len(), durable) };
+        let code = unsafe { foreign::tellwydar_node_open(node.handle.as_ptr(), text.as_ptr(), text.len(), durable) };
         let place = node.look(14, 0);
         if code == 0 { Ok(node) } else { Err(log_fault(code, place)) }
     }
@@ -494,14 +493,4 @@ impl LoggedNode {
 
 fn told(code: u32) -> Result<(), Refused> {
     if code == 0 { Ok(()) } else { Err(refused(code)) }
-}
-
-impl Drop for LoggedNode {
-    fn drop(&mut self) {
-        // SAFETY: nothing uses the handle later. `close` gives back what it holds, and its own block is of `malloc`.
-        unsafe {
-            foreign::tellwydar_node_close(self.handle.as_ptr());
-            foreign::free(self.handle.as_ptr());
-        }
-    }
 }

@@ -1,9 +1,9 @@
 //! Processes: one process of a run, whose frames its owner carries.
-use crate::foreign::{self, Opaque};
+use crate::foreign;
+use crate::handles::Handle;
 use crate::worlds::refused;
 use crate::{Answer, Front, Op, Refused, Reply};
 use std::marker::PhantomData;
-use std::ptr::NonNull;
 
 /// Room for the frames of a step: 63 links, 16 frames each, of at most 40 bytes and one for the receiver.
 pub(crate) const ROOM: usize = 63 * 16 * 41;
@@ -82,7 +82,7 @@ pub struct Known {
 /// ```
 #[derive(Debug)]
 pub struct Process<F: Front> {
-    handle: NonNull<Opaque>,
+    handle: Handle,
     room: Vec<u8>,
     front: PhantomData<F>,
 }
@@ -95,13 +95,10 @@ impl<F: Front> Process<F> {
     /// `NoShape` for other than 1 to 64 processes and 1 to 4,096 registers, `NoProcess` where the shape has none of
     /// this number, and `OutOfMemory`.
     pub fn new(processes: u32, registers: u32, me: u8) -> Result<Self, Refused> {
-        let mut handle = std::ptr::null_mut();
-        // SAFETY: the handle is written where the result is 0.
-        let code = unsafe { foreign::tellwydar_process_new(F::NUMBER, processes, registers, me, &mut handle) };
-        match (code, NonNull::new(handle)) {
-            (0, Some(handle)) => Ok(Self { handle, room: vec![0; ROOM], front: PhantomData }),
-            _ => Err(refused(code)),
-        }
+        // SAFETY: the pointer is written where the result is 0.
+        let make = |at: &mut _| unsafe { foreign::tellwydar_process_new(F::NUMBER, processes, registers, me, at) };
+        let handle = Handle::new(make, foreign::tellwydar_process_close)?;
+        Ok(Self { handle, room: vec![0; ROOM], front: PhantomData })
     }
 
     /// Calls an operation.
@@ -202,15 +199,5 @@ impl<F: Front> Process<F> {
     fn look(&self, what: u32, register: u16) -> u64 {
         // SAFETY: as in `call`: the type stays on its thread, so no other call goes on.
         unsafe { foreign::tellwydar_process_look(self.handle.as_ptr(), what, register) }
-    }
-}
-
-impl<F: Front> Drop for Process<F> {
-    fn drop(&mut self) {
-        // SAFETY: nothing uses the handle later. `close` gives back what it holds, and its own block is of `malloc`.
-        unsafe {
-            foreign::tellwydar_process_close(self.handle.as_ptr());
-            foreign::free(self.handle.as_ptr());
-        }
     }
 }

@@ -1,9 +1,10 @@
 //! Worlds: all processes of a run, stepped event by event.
-use crate::foreign::{self, Opaque};
+use crate::foreign;
+use crate::handles::Handle;
+use crate::processes::{reply_of, with_numbers};
 use crate::{Answer, Entry, Op, OpId, Point};
 use std::fmt;
 use std::marker::PhantomData;
-use std::ptr::NonNull;
 
 /// How operations start: one of the three front ends.
 pub trait Front: sealed::Numbered {
@@ -175,7 +176,7 @@ pub(crate) fn refused(code: u32) -> Refused {
 /// All processes of a run with their wires. It stays on its thread.
 #[derive(Debug)]
 pub struct World<F: Front> {
-    handle: NonNull<Opaque>,
+    handle: Handle,
     front: PhantomData<F>,
 }
 
@@ -186,13 +187,9 @@ impl<F: Front> World<F> {
     ///
     /// `NoShape` for other than 1 to 64 processes and 1 to 4,096 registers, and `OutOfMemory`.
     pub fn new(processes: u32, registers: u32) -> Result<Self, Refused> {
-        let mut handle = std::ptr::null_mut();
-        // SAFETY: the handle is written where the result is 0.
-        let code = unsafe { foreign::tellwydar_world_new(F::NUMBER, processes, registers, &mut handle) };
-        match (code, NonNull::new(handle)) {
-            (0, Some(handle)) => Ok(Self { handle, front: PhantomData }),
-            _ => Err(refused(code)),
-        }
+        // SAFETY: the pointer is written where the result is 0.
+        let make = |at: &mut _| unsafe { foreign::tellwydar_world_new(F::NUMBER, processes, registers, at) };
+        Ok(Self { handle: Handle::new(make, foreign::tellwydar_world_close)?, front: PhantomData })
     }
 
     /// Makes an event. The reply is the one that it gives.
@@ -203,34 +200,24 @@ impl<F: Front> World<F> {
     #[inline]
     pub fn step(&mut self, event: Event) -> Result<Option<Reply>, Refused> {
         let handle = self.handle.as_ptr();
-        let (kind, process, number, from, value) = match event {
-            Event::Call { process, op: Op::Read { register } } => (0, process, register.into(), 0, 0),
-            Event::Call { process, op: Op::Write { register, value } } => (1, process, register.into(), 0, value),
-            Event::Call { process, op: Op::Swap { register, value } } => (2, process, register.into(), 0, value),
-            Event::Call { process, op: Op::CompareAndSwap { register, expected, value } } => {
-                // SAFETY: as below.
-                let code = unsafe {
-                    foreign::tellwydar_world_compare_and_swap(handle, process, register.into(), expected, value)
-                };
-                return self.told(code);
-            }
-            Event::Take { from, to, number } => (3, to, number, from, 0),
-            Event::Tick { process } => (4, process, 0, 0, 0),
-        };
         // SAFETY: the handle is of `tellwydar_world_new`, and `&mut self` lends it to one call.
-        let code = unsafe { foreign::tellwydar_world_step(handle, kind, process, number, from, value) };
-        self.told(code)
-    }
-
-    #[inline]
-    fn told(&mut self, code: u32) -> Result<Option<Reply>, Refused> {
-        match code {
-            0 => Ok(None),
-            1 => Ok(Some(Reply { answer: Answer::Done, place: self.look(9, 0) })),
-            2 => Ok(Some(Reply { answer: Answer::Value(self.look(8, 0)), place: self.look(9, 0) })),
-            3 => Ok(Some(Reply { answer: Answer::Unequal, place: self.look(9, 0) })),
-            code => Err(refused(code)),
-        }
+        let step = |kind, process, number, from, value| unsafe {
+            foreign::tellwydar_world_step(handle, kind, process, number, from, value)
+        };
+        let code = match event {
+            Event::Call { process, op } => with_numbers(
+                op,
+                |kind, register, value| step(kind, process, register, 0, value),
+                // SAFETY: as above.
+                |register, expected, value| unsafe {
+                    foreign::tellwydar_world_compare_and_swap(handle, process, register, expected, value)
+                },
+            ),
+            Event::Take { from, to, number } => step(3, to, number, from, 0),
+            Event::Tick { process } => step(4, process, 0, 0, 0),
+        };
+        // (a world tells the value and the place of a reply behind two numbers more than a process)
+        reply_of(code, |what| self.look(what + 2, 0))
     }
 
     /// How many events were accepted.
@@ -277,8 +264,8 @@ impl<F: Front> World<F> {
     }
 
     #[inline]
-    fn look(&mut self, what: u32, at: u32) -> u64 {
-        // SAFETY: as in `step`.
+    fn look(&self, what: u32, at: u32) -> u64 {
+        // SAFETY: as in `step`: the type stays on its thread, so no other call goes on.
         unsafe { foreign::tellwydar_world_look(self.handle.as_ptr(), what, at) }
     }
 }
@@ -293,15 +280,5 @@ impl<F: RealTime> World<F> {
                 at: self.look(16, at) as u32,
             })
             .collect())
-    }
-}
-
-impl<F: Front> Drop for World<F> {
-    fn drop(&mut self) {
-        // SAFETY: nothing uses the handle later. `close` gives back what it holds, and its own block is of `malloc`.
-        unsafe {
-            foreign::tellwydar_world_close(self.handle.as_ptr());
-            foreign::free(self.handle.as_ptr());
-        }
     }
 }
