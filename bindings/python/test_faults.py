@@ -1,6 +1,11 @@
 """Tests of what goes wrong around nodes: python3 -m unittest, with TELLWYDAR_LIB set."""
+import asyncio
+import contextlib
+import ctypes
+import io
 import os
 import signal
+import subprocess
 import socket
 import sys
 import tempfile
@@ -8,9 +13,12 @@ import time
 import unittest
 from unittest import mock
 
-from tellwydar import CompareAndSwap, Read, Swap, Write
+from tellwydar import CompareAndSwap, Front, Read, Swap, Write
 from tellwydar import Node as CoreNode
-from tellwydar.net import Keys, Node, NodeFailed, Refused, TimedOut, road, story
+from tellwydar.net import Busy, Closed, Keys, Node, NodeFailed, Refused, TimedOut, road, story
+from tellwydar.net.aio import AsyncNode
+from tellwydar.net.calls import End
+from tellwydar.net.core import say
 from tellwydar.net.datagrams import DatagramRoad
 from tellwydar.net.logfile import LogFile
 from tellwydar.net.port import Port
@@ -32,6 +40,20 @@ class Calls(Hanging, unittest.TestCase):
 
     def hear_alarms(self):
         self.addCleanup(signal.signal, signal.SIGALRM, signal.signal(signal.SIGALRM, ring))
+
+    def test_a_loop_ends_though_a_call_goes_on(self):
+        a, b = self.pair()
+        b.close()
+
+        async def call():
+            with self.assertRaises(TimeoutError):
+                async with asyncio.timeout(0.3):
+                    await AsyncNode(a).write("x", 2)
+
+        began = time.monotonic()
+        asyncio.run(call())
+        self.assertLess(time.monotonic() - began, 5)
+        self.assertTrue(a.so_far()[1])
 
     def test_what_is_no_operation_is_refused_and_nothing_has_changed(self):
         a, = self.begin(1)
@@ -116,6 +138,44 @@ class Calls(Hanging, unittest.TestCase):
         disk.go_on()
         self.assertIsNone(a.wait(5))
 
+    def test_a_handler_of_a_signal_may_end_the_node_in_the_midst_of_a_call(self):
+        a, = self.begin(1)
+        ended = []
+
+        def end(*_):
+            a.close()
+            ended.append(a._is_in_call())
+
+        self.addCleanup(signal.signal, signal.SIGALRM, signal.signal(signal.SIGALRM, end))
+        call = a._story.call
+
+        def calling(op):
+            call(op)
+            os.kill(os.getpid(), signal.SIGALRM)
+
+        with mock.patch.object(a._story, "call", calling), self.assertRaises(Closed):
+            a.write("x", 5, 5)
+        self.assertEqual(ended, [True])
+        a.join()
+        self.assertEqual(entries_of(self.path(0)), ["0 call write x 5 = done 0"])
+
+    def test_a_step_whose_bytes_are_lost_stops_the_node(self):
+        self.hear_alarms()
+        log = CoreNode.begin(cluster=5, process=0, front=Front.LINEAR, processes=1, names=["x"], begun=7)
+        node = CoreNode.open(log, 0)
+        told = ctypes.string_at
+
+        def ringing(*given):
+            os.kill(os.getpid(), signal.SIGALRM)
+            return told(*given)
+
+        with mock.patch.object(ctypes, "string_at", ringing), self.assertRaises(Alarm):
+            node.call(Write(0, 5))
+        for ask in (node.tick, lambda: node.logged, lambda: node.mark_durable(1), node.hand_out):
+            with self.assertRaisesRegex(Refused, "^failed$"):
+                ask()
+        node.close()
+
     def test_an_end_that_a_signal_interrupts_is_gone_on_with(self):
         self.hear_alarms()
         a, = self.begin(1)
@@ -143,6 +203,34 @@ class Ports(unittest.TestCase):
         self.node = Node("linear", ["x"], 0, free_addresses(1), None, log, cluster=CLUSTER, say=lambda _: None)
         self.addCleanup(self.node.close)
 
+    def test_a_port_is_closed_once(self):
+        port = Port(self.node, self.path)
+        with socket.socket(socket.AF_UNIX) as program:
+            program.connect(self.path)
+            program.sendall(b"read x\n")
+            self.assertEqual(program.recv(20), b"value 0\n")
+            port.close()
+            program.sendall(b"write x 5\n")
+            program.settimeout(5)
+            self.assertEqual(program.recv(20), b"")
+        self.assertEqual(self.node.read("x", 5), 0)
+        other = socket.socket(socket.AF_UNIX)
+        self.addCleanup(other.close)
+        other.bind(self.path)
+        port.close()
+        self.assertTrue(os.path.exists(self.path))
+
+    def test_a_call_that_another_one_keeps_from_being_made_did_nothing(self):
+        perform = self.node.perform
+
+        def performing(op):
+            perform(Write(0, 5), 5)
+            raise Busy()
+
+        with Port(self.node, self.path) as port, mock.patch.object(self.node, "perform", performing):
+            self.assertEqual(port.end_of(Write(0, 6)), End("fail", error="another operation goes on"))
+        self.assertFalse(port._goes_on)
+
     def test_the_socket_is_removed_while_it_is_its_own(self):
         port, found = Port(self.node, self.path), []
         close = port.server_close
@@ -165,6 +253,20 @@ class Ports(unittest.TestCase):
             program.sendall(b"health\n")
             program.settimeout(5)
             self.assertEqual(program.recv(10), b"ok\n")
+
+
+class Streams(unittest.TestCase):
+    def test_a_line_that_nobody_reads_is_waited_for_by_nobody(self):
+        # (100,000 bytes are more than a pipe takes)
+        words = [sys.executable, "-c", "from tellwydar.net.core import say\nfor _ in range(1000): say('x' * 99)"]
+        with subprocess.Popen(words, stderr=subprocess.PIPE) as program:
+            self.assertEqual(program.wait(20), 0)
+            self.assertGreater(program.stderr.read().count(b"\n"), 100)
+
+    def test_a_line_is_said_to_a_stream_that_is_no_file(self):
+        with contextlib.redirect_stderr(io.StringIO()) as told:
+            say("a line")
+        self.assertEqual(told.getvalue(), "a line\n")
 
 
 class Roads(unittest.TestCase):

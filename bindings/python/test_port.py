@@ -12,7 +12,7 @@ from concurrent.futures import ThreadPoolExecutor, TimeoutError
 from unittest import mock
 
 from tellwydar import judge
-from tellwydar.net import Node
+from tellwydar.net import Node, port
 from tellwydar.net.port import Port, answers
 from test_net import CLUSTER, free_addresses
 
@@ -114,7 +114,8 @@ class Ports(unittest.TestCase):
         calls = {
             "write x 5": "done", "read x": "value 5", "cas x 5 6": "done", "cas x 5 7": "unequal",
             " swap x  8 ": "value 6", "read z": "refused: no register", "write x": "refused: no call",
-            "write x -1": "refused: -1 is no number of 64 bits", "add x 1": "refused: no call", "health": "ok",
+            "write x -1": "refused: -1 is no number of 64 bits", "write x -0": "refused: no number",
+            "add x 1": "refused: no call", "health": "ok",
         }
         with Port(self.node, self.path):
             self.assertEqual(self.told(*calls), list(calls.values()))
@@ -183,6 +184,22 @@ class Ports(unittest.TestCase):
             os.close(turn)
             with self.assertRaisesRegex(OSError, f"^{re.escape(self.path)}: Address already in use$"):
                 opening.result(10)
+
+    def test_a_folder_that_another_program_has_locked_is_not_waited_for_for_ever(self):
+        turn = os.open(self.folder.name, os.O_RDONLY)
+        self.addCleanup(os.close, turn)
+        fcntl.flock(turn, fcntl.LOCK_EX)
+        why = f"^{re.escape(self.path)}: another program has locked its folder$"
+        with mock.patch.object(port, "_TURN", 0.2), self.assertRaisesRegex(OSError, why):
+            Port(self.node, self.path)
+
+    def test_a_line_that_is_not_ended_is_no_call(self):
+        with Port(self.node, self.path), socket.socket(socket.AF_UNIX) as program:
+            program.connect(self.path)
+            program.sendall(b"write x 5\nwrite x 12")
+            program.shutdown(socket.SHUT_WR)
+            self.assertEqual(program.makefile("rb").read(), b"done\n")
+            self.assertEqual(self.told("read x"), ["value 5"])
 
     def test_who_waits_is_told_of(self):
         node = Node("local-read", ["x"], 0, free_addresses(2), None, os.path.join(self.folder.name, "2.log"),

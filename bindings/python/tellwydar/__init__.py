@@ -365,10 +365,11 @@ class _Handle:
     def close(self) -> None:
         """Gives back what is held. Later calls are refused as closed."""
         with self._turn:
-            if self._handle is not None:
-                self._close(self._handle)
-                _free(self._handle)
-                self._handle = None
+            # (what a handler of a signal raises here leaves it not given back, and never gives it back twice)
+            handle, self._handle = self._handle, None
+            if handle is not None:
+                self._close(handle)
+                _free(handle)
 
     def __del__(self) -> None:
         if getattr(self, "_handle", None) is not None:

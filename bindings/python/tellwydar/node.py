@@ -123,7 +123,8 @@ class Look(NamedTuple):
 
 class Node(_Progress):
     """A node that goes on after its log. It is used by the thread that opened it alone, as its bytes have one order,
-    unless its owner guards it by a lock of his own."""
+    unless its owner guards it by a lock of his own. Where a handler of a signal raises while a step is made, the step's
+    bytes may be lost: then the node has stopped, all is refused as `failed`, and it is opened again from its log."""
 
     # (an entry's line has at most 151 bytes)
     _BYTES = 160
@@ -131,6 +132,7 @@ class Node(_Progress):
     def __init__(self, guarded: bool) -> None:
         super().__init__(_library.tellwydar_node_new, _library.tellwydar_node_close)
         self._thread = None if guarded else threading.get_ident()
+        self._is_torn = False
         self._line: Any = ctypes.create_string_buffer(self._BYTES)
         self._room = ctypes.create_string_buffer(_ROOM)
 
@@ -203,6 +205,8 @@ class Node(_Progress):
     def _asked(self, function: Callable[..., int], *numbers: Union[int, bytes]) -> int:
         if self._thread not in (None, threading.get_ident()):
             raise RuntimeError("a node is used by the thread that opened it alone")
+        if self._is_torn:
+            raise Refused("failed")
         return super()._asked(function, *numbers)
 
     def _told(self, code: int) -> None:
@@ -213,9 +217,15 @@ class Node(_Progress):
         return self._asked(_library.tellwydar_node_look, what, register)
 
     def _step(self, function: Callable[..., int], *numbers: Union[int, bytes]) -> bytes:
-        self._told(self._asked(function, *numbers))
-        count = self._asked(_library.tellwydar_node_bytes, self._line, self._BYTES)
-        return ctypes.string_at(self._line, count)
+        try:
+            self._told(self._asked(function, *numbers))
+            count = self._asked(_library.tellwydar_node_bytes, self._line, self._BYTES)
+            return ctypes.string_at(self._line, count)
+        except (Refused, RuntimeError):
+            raise
+        except BaseException:
+            self._is_torn = True
+            raise
 
     def call(self, op: Op) -> bytes:
         """Calls an operation, and gives the bytes by which the log grows."""

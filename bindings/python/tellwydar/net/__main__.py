@@ -10,9 +10,10 @@ import signal
 import sys
 import threading
 import time
-from typing import List, Optional, TextIO
+from typing import List, TextIO
 
 from .. import Refused, story
+from ..__main__ import let_go, take_signals
 from . import judge, port, road
 from .calls import WORDS
 from .config import read_config
@@ -24,7 +25,7 @@ from .road import Keys, LossyRoad, RoadFault
 
 ENDS = signal.SIGTERM, signal.SIGINT  # of a node
 # (each ends with one line that says why)
-FAULTS = (Closed, LogFault, NodeFailed, OSError, OverflowError, Refused, RoadFault, TypeError, ValueError)
+FAULTS = (Closed, LogFault, NodeFailed, OSError, OverflowError, Refused, RoadFault, RuntimeError, TypeError, ValueError)
 
 
 def node_of(a: argparse.Namespace) -> Node:
@@ -94,7 +95,7 @@ def lines_of(path: str) -> List[str]:
 
 
 def run_node(a: argparse.Namespace) -> None:
-    """Runs a node until it is ended, or its script fails."""
+    """Runs a node until it is ended or has stopped, or its script fails."""
     faults: List[Exception] = []
 
     def run(node: Node, lines: List[str]) -> None:
@@ -106,6 +107,10 @@ def run_node(a: argparse.Namespace) -> None:
             faults.append(why)
             os.kill(os.getpid(), signal.SIGTERM)
 
+    def watch(node: Node) -> None:
+        node.join()
+        os.kill(os.getpid(), signal.SIGTERM)
+
     signal.pthread_sigmask(signal.SIG_BLOCK, ENDS)  # (by all threads: they are waited for below)
     lines = lines_of(a.script) if a.script else []
     with node_of(a) as node, contextlib.ExitStack() as opened:
@@ -114,6 +119,7 @@ def run_node(a: argparse.Namespace) -> None:
         if not node.sync:
             say("without --sync a crash of the machine may lose entries that others have seen; "
                 "a crash of this program loses none")
+        threading.Thread(target=watch, args=(node,), daemon=True).start()
         if a.script:
             threading.Thread(target=run, args=(node, lines), daemon=True).start()
         signal.sigwait(ENDS)
@@ -176,15 +182,6 @@ def parser() -> argparse.ArgumentParser:
     return whole
 
 
-def let_go(stream: Optional[TextIO], number: int) -> None:
-    """What couldn't be written isn't tried again at the end, where it would leave a trace and a status of its own."""
-    try:
-        if stream is not None:
-            stream.flush()
-    except OSError:
-        os.dup2(os.open(os.devnull, os.O_WRONLY), number)
-
-
 def main(words: List[str]) -> int:
     a = parser().parse_args(words)
     if sys.stdout is None:
@@ -201,6 +198,5 @@ def main(words: List[str]) -> int:
 
 
 if __name__ == "__main__":
-    if signal.getsignal(signal.SIGINT) is signal.default_int_handler:
-        signal.signal(signal.SIGINT, signal.SIG_DFL)  # (a client or a merge that is interrupted ends without a trace)
+    take_signals()  # (a node blocks them, and waits for them)
     sys.exit(main(sys.argv[1:]))

@@ -1,11 +1,31 @@
 """A node for programs with `asyncio`."""
 import asyncio
+import contextlib
+import threading
 import time
 from typing import Any, Callable, Optional, Union
 
 from .. import Answer
 from .core import Paused
 from .node import Node
+
+
+def _settle(work: "asyncio.Future[Any]", value: Any, why: Optional[BaseException]) -> None:
+    if why is not None:
+        work.set_exception(why)
+    else:
+        work.set_result(value)
+
+
+def _run(work: "asyncio.Future[Any]", function: Callable[..., Any], *given: object) -> None:
+    """Has the future of a loop what a function gives or raises."""
+    value, fault = None, None  # type: Any, Optional[BaseException]
+    try:
+        value = function(*given)
+    except BaseException as why:
+        fault = why
+    with contextlib.suppress(RuntimeError):  # (the loop is closed: nobody waits any more)
+        work.get_loop().call_soon_threadsafe(_settle, work, value, fault)
 
 
 class AsyncNode:
@@ -16,7 +36,7 @@ class AsyncNode:
 
     Where a task is cancelled that waits for an answer, its operation goes on, and the calls behind it wait until it is
     answered. One whose time is up by then is told `Paused`, and wasn't made. What `Node` raises is raised here. The
-    node itself stays its owner's, who closes it.
+    node itself stays its owner's, who closes it. Nothing waits at the end of a loop for a call that still goes on.
     """
 
     def __init__(self, node: Node):
@@ -30,8 +50,13 @@ class AsyncNode:
         except TimeoutError:
             raise Paused() from None
         left = None if end is None else max(0.0, end - time.monotonic())
-        work = asyncio.ensure_future(asyncio.to_thread(function, *given, left))
+        work = asyncio.get_running_loop().create_future()
         work.add_done_callback(self._ended)
+        try:
+            threading.Thread(target=_run, args=(work, function, *given, left), daemon=True).start()
+        except BaseException:
+            work.cancel()
+            raise
         return await asyncio.shield(work)
 
     def _ended(self, work: "asyncio.Future[Any]") -> None:

@@ -32,7 +32,7 @@ class End(NamedTuple):
 
 
 def _number(word: str) -> int:
-    if not re.fullmatch("[+-]?[0-9]+", word):
+    if not re.fullmatch("[+]?[0-9]+|-0*[1-9][0-9]*", word):  # (those below 0 are told to be no values)
         raise ValueError("no number")
     return int(word)
 

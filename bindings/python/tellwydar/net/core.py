@@ -1,5 +1,6 @@
 """What the modules of a node share: exceptions, names of front ends, answers as texts, and where odd lines go."""
 import contextlib
+import select
 import sys
 
 from .. import UNEQUAL, Answer, Front
@@ -47,8 +48,18 @@ def answer_text(answer: Answer) -> str:
     return "done" if answer is None else "unequal" if answer is UNEQUAL else f"value {answer}"
 
 
+def _is_full() -> bool:
+    """Whether a line on the error stream would wait for somebody to read what stands there."""
+    try:
+        poll = select.poll()
+        poll.register(sys.stderr, select.POLLOUT)
+    except (ValueError, TypeError, OSError):  # it is no file
+        return False
+    return not poll.poll(0)
+
+
 def say(text: str) -> None:
-    """Says a line on the error stream, if anybody reads that."""
-    if sys.stderr is not None:  # (else `print` takes the stream of the answers)
+    """Says a line on the error stream, if anybody reads that: where it is full nothing waits for it."""
+    if sys.stderr is not None and not _is_full():  # (else `print` takes the stream of the answers)
         with contextlib.suppress(OSError):
             print(text, file=sys.stderr, flush=True)

@@ -84,9 +84,11 @@ class LogFile:
         self._path = path
         try:
             fcntl.flock(self._file, fcntl.LOCK_EX | fcntl.LOCK_NB)
-        except OSError:
+        except BaseException as why:
             self.close()
-            raise OSError(f"{path} is the log of a node that runs") from None
+            if isinstance(why, BlockingIOError):
+                raise OSError(f"{path} is the log of a node that runs") from None
+            raise
 
     def read(self) -> bytes:
         with open(self._file, "rb", closefd=False) as file:
@@ -96,12 +98,12 @@ class LogFile:
         """Has this text in place of all that was there, on the disk with its name."""
         self.cut(0)
         self.append(text, True)
-        _sync_folder(self._path)
 
     def cut(self, length: int) -> None:
-        """Has the first bytes alone, on the disk."""
+        """Has the first bytes alone, on the disk with its name."""
         os.ftruncate(self._file, length)
         os.fsync(self._file)
+        _sync_folder(self._path)
 
     def append(self, data: bytes, sync: bool) -> None:
         """Hands all of it to the system, and with `sync` to the disk."""

@@ -40,7 +40,7 @@ class Node:
     is odd.
 
     States: up, with no operation, with one going on, or with an answer to be fetched; closed; failed. None of the last
-    two is left.
+    two is left. All functions may be called by any thread; in a handler of a signal only `close`.
     """
 
     def __init__(self, front: str, registers: Sequence[str], me: int, peers: Sequence[str], keys: Optional[Keys],
@@ -62,11 +62,11 @@ class Node:
         # (before the log: where it is refused no log is begun)
         road: AnyRoad = DatagramRoad(*of) if peers[me].startswith("udp://") else Road(*of)
         try:
+            self._road = road if lossy is None else lossy(road)
             self._story = Story(head, log_path, room, resume, say)
         except BaseException:
             road.close()
             raise
-        self._road = road if lossy is None else lossy(road)
         self._lock = threading.RLock()  # (unlike a `Lock`, it is taken again behind a wait whatever a signal raises)
         self._answered = threading.Condition(self._lock)
         self._failed, self._closed, self._is_over, self._is_opening = "", False, False, True
@@ -74,7 +74,12 @@ class Node:
         self._held_till: Optional[float] = None
         self._peers = Peers(self._story, self._road, self._complain)
         self._thread = threading.Thread(target=self._serve, name="tellwydar", daemon=True)
-        self._thread.start()
+        try:
+            self._thread.start()
+        except BaseException:
+            road.close()
+            self._story.close()
+            raise
 
     # --- entries and chapters: the receiver's thread, which holds no lock while the disk has to do with it
 
@@ -293,14 +298,32 @@ class Node:
             self._up()
             return self._story.node.pending
 
+    def _is_in_call(self) -> bool:
+        """Whether this thread is in the midst of a call, as where a handler of a signal runs."""
+        try:
+            self._answered.notify(0)  # (only who has the lock may)
+        except RuntimeError:
+            return False
+        return True
+
     def close(self) -> None:
-        """Ends the node. Others that need its acknowledgements wait from then on: close it when all are done."""
+        """Ends the node. Others that need its acknowledgements wait from then on: close it when all are done. A handler
+        of a signal that came in the midst of a call doesn't wait for the end."""
+        if self._is_in_call():
+            self._closed = True
+            if not self._is_over:
+                self._road.wake()
+            return
         with self._lock:
             self._closed = True
             self._answered.notify_all()
             while not self._is_over:
                 self._road.wake()
                 self._answered.wait()
+
+    def join(self) -> None:
+        """Waits until the node has ended: it was closed, or it stopped, and then `status` says why."""
+        self._thread.join()
 
     def __enter__(self) -> "Node":
         return self

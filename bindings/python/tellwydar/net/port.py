@@ -22,7 +22,8 @@ from .node import Node
 from .status import Status
 
 _LONGEST = 4096  # bytes of a line
-_PAUSE = 0.1  # seconds, before it is looked again whether there is room for a program
+_PAUSE = 0.1  # seconds, before it is looked again whether there is room for a program, or a folder is free
+_TURN = 5.0  # seconds, for which others are waited for who open a port in the same folder
 _STATUS = {"status": Status.json, "metrics": Status.metrics, "health": Status.health}
 
 
@@ -43,6 +44,8 @@ class _Session(socketserver.StreamRequestHandler):
             if len(line) > _LONGEST:
                 self._tell(form_of(text).refusal("a line is too long"))
                 return
+            if not line.endswith(b"\n") or self.server.is_closed:
+                return  # (a last line that isn't ended may be a part of one: it is no call)
             if text:
                 self._tell(self._status(text) if text in _STATUS else self._answer(text))
 
@@ -68,9 +71,16 @@ class _Session(socketserver.StreamRequestHandler):
 def _turn_in(folder: str) -> Iterator[None]:
     """Has others who open a port in this folder wait: a socket that isn't listened to yet would pass for one of a node
     that is gone."""
-    turn = os.open(folder or ".", os.O_RDONLY)
+    turn, end = os.open(folder or ".", os.O_RDONLY), time.monotonic() + _TURN
     try:
-        fcntl.flock(turn, fcntl.LOCK_EX)
+        while True:
+            try:
+                fcntl.flock(turn, fcntl.LOCK_EX | fcntl.LOCK_NB)
+                break
+            except BlockingIOError:
+                if time.monotonic() >= end:
+                    raise OSError("another program has locked its folder") from None
+                time.sleep(_PAUSE)
         yield
     finally:
         os.close(turn)
@@ -79,7 +89,8 @@ def _turn_in(folder: str) -> Iterator[None]:
 def _remove_stale(path: str) -> None:
     """Removes the socket of a node that is gone."""
     if os.path.exists(path) and stat.S_ISSOCK(os.stat(path).st_mode):
-        with socket.socket(socket.AF_UNIX) as one:
+        with socket.socket(socket.AF_UNIX) as one, contextlib.suppress(BlockingIOError):
+            one.setblocking(False)  # (one that has no room for more programs now isn't waited for)
             try:
                 one.connect(path)
             except ConnectionRefusedError:
@@ -91,9 +102,10 @@ class Port(socketserver.ThreadingUnixStreamServer):
 
     daemon_threads = True
     block_on_close = False
+    request_queue_size = 128
 
     def __init__(self, node: Node, path: str):
-        self.node, self._path, self._turn = node, path, threading.Lock()
+        self.node, self._path, self._turn, self.is_closed = node, path, threading.Lock(), False
         self._goes_on = node.so_far()[1]  # an operation whose caller is gone, as where the node was resumed
         super().__init__(path, _Session, bind_and_activate=False)
         try:
@@ -117,7 +129,7 @@ class Port(socketserver.ThreadingUnixStreamServer):
                 self._end_earlier()
                 return End("ok", self.node.perform(op))
             except Exception as why:  # (what nobody thought of may come behind the call too)
-                is_called = self.node.so_far()[0] > called
+                is_called = type(why) is not Busy and self.node.so_far()[0] > called
                 self._goes_on |= is_called
                 return End("info" if is_called else "fail", error=_words_of(why))
 
@@ -142,11 +154,13 @@ class Port(socketserver.ThreadingUnixStreamServer):
         self.close()
 
     def close(self) -> None:
-        """Ends it. A call that goes on goes on."""
-        self.shutdown()
-        with contextlib.suppress(FileNotFoundError):
-            os.unlink(self._path)  # (while it answers, nobody else takes the path)
-        self.server_close()
+        """Ends it. A call that goes on goes on, and no other one is made."""
+        if not self.is_closed:
+            self.is_closed = True
+            self.shutdown()
+            with contextlib.suppress(FileNotFoundError):
+                os.unlink(self._path)  # (while it answers, nobody else takes the path)
+            self.server_close()
 
 
 def answers(path: str, lines: Iterable[bytes]) -> Iterator[bytes]:

@@ -34,7 +34,7 @@ class Status(NamedTuple):
 
     def health(self) -> str:
         """`ok`, or for which processes the node waits."""
-        missing = [str(it.process) for it in self.peers if it.is_missing]
+        missing = [str(it.process) for it in self.peers if it.is_missing or not it.heard]
         return f"waits for {', '.join(missing)}" if missing else "ok"
 
     def metrics(self) -> str:

@@ -55,7 +55,7 @@ class Story:
         text = self._open(head, not resume)
         try:
             self._go_on(head, text, False)
-            if os.path.exists(self._quiet_of(chapter)):
+            if resume and os.path.exists(self._quiet_of(chapter)):
                 self.node.end()
             self.file.cut(self.node.whole)
         except BaseException:
