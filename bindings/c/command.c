@@ -34,6 +34,7 @@ int main(int count, char **words) {
             text = larger;
         }
     }
+    if (ferror(stdin)) return 99;
     command *run = named(count > 1 ? words[1] : "replay");
     /* First with no room for the answer: the lengths tell how much is wanted. */
     uint8_t none[1], line[256];
@@ -46,5 +47,5 @@ int main(int count, char **words) {
     fwrite(line, 1, lengths.errors < sizeof line ? lengths.errors : sizeof line, stderr);
     free(answer);
     free(text);
-    return status;
+    return fflush(stdout) == 0 ? status : 99;
 }
