@@ -288,6 +288,10 @@ mod tests {
         ] {
             assert!(!is_value(text), "{text}");
         }
+    }
+
+    #[test]
+    fn what_is_no_object_is_refused() {
         for text in
             ["", "[]", "1", "{} {}", "{}x", "{", "\u{feff}{}", "{1: 2}", "{\"a\": 01}", "{\"a\": 1,}", "{'a': 1}"]
         {
