@@ -107,6 +107,13 @@ class Calls(Hanging, unittest.TestCase):
             self.start(0)
         self.assertFalse(os.path.exists(self.path(0)))
 
+    def test_what_is_left_beside_a_new_log_ends_no_chapter(self):
+        with open(self.path(0) + ".quiet", "w") as file:
+            file.write("3\n")
+        a, = self.begin(1)
+        a.write("x", 5, 5)
+        self.assertEqual((a.status().chapter, a.so_far()), (0, (1, False)))
+
     def test_nobody_waits_for_what_a_chapter_begins_with(self):
         (a,), disk = self.begin(1, chapter_operations=3), Disk()
         append = disk.around(LogFile.append, lambda _, data, force: b" write x 3" in data)

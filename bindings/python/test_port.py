@@ -14,6 +14,7 @@ from unittest import mock
 from tellwydar import judge
 from tellwydar.net import Node, port
 from tellwydar.net.port import Port, answers
+from tellwydar.net.status import Peer, Status
 from test_net import CLUSTER, free_addresses
 
 
@@ -200,6 +201,11 @@ class Ports(unittest.TestCase):
             program.shutdown(socket.SHUT_WR)
             self.assertEqual(program.makefile("rb").read(), b"done\n")
             self.assertEqual(self.told("read x"), ["value 5"])
+
+    def test_one_that_was_not_heard_is_waited_for(self):
+        for heard, is_missing, told in (True, False, "ok"), (True, True, "waits for 1"), (False, False, "waits for 1"):
+            peer = Peer(1, heard, None, 0, is_missing)
+            self.assertEqual(Status(0, "linear", 0, 0, 0, False, [peer]).health(), told)
 
     def test_who_waits_is_told_of(self):
         node = Node("local-read", ["x"], 0, free_addresses(2), None, os.path.join(self.folder.name, "2.log"),
